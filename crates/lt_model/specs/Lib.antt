@@ -1,0 +1,4 @@
+pub mod Scalar
+pub mod Operators
+pub mod Memory
+pub mod State

@@ -1,0 +1,23 @@
+use crate::scalar::Scalar;
+
+/// A place in memory: a block and a byte offset in it. Null is `None` of `Option<Address>`.
+#[derive(Clone, Copy, PartialEq, Eq, Debug)]
+pub struct Address {
+    pub block: u32,
+    pub offset: u64,
+}
+
+/// The type of a cell. A pointer type is named by its number among the program's types, without qualifiers.
+#[derive(Clone, Copy, PartialEq, Eq, Debug)]
+pub enum CellType {
+    Num(Scalar),
+    Pointer(u32),
+}
+
+/// What a cell holds.
+#[derive(Clone, Copy, PartialEq, Eq, Debug)]
+pub enum Content {
+    Unset,
+    Number(i128),
+    Address(Option<Address>),
+}

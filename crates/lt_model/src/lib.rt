@@ -1,0 +1,14 @@
+// The scalar types of C, what its operators give, and what memory and a run are; `specs/Lib.antt` names the definitions in the order of the standard.
+#![tactic(auto)]
+
+mod cell;
+mod name;
+mod operator;
+mod run;
+mod scalar;
+
+pub use cell::{Address, CellType, Content};
+pub use name::Name;
+pub use operator::{Op, Ub, apply, ub_number};
+pub use run::{Binding, Bindings, End, Mark, Marks, Run};
+pub use scalar::{DataModel, Scalar};
