@@ -1,0 +1,8 @@
+// Trees of C; `specs/Tree.antt` has them as values, and `specs/SmallMeaning.antt` says what a function of the small language does.
+#![tactic(auto)]
+
+mod expression;
+mod statement;
+
+pub use expression::{Assign, Expr, Mark, Marked, UnaryOp};
+pub use statement::{Function, Item, Stmt};
