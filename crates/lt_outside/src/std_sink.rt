@@ -1,0 +1,39 @@
+ghost use Rattle.std.specs.Prelude.{◌≡◌, None};
+
+use crate::sink::{PutStop, Sink};
+
+/// Standard output. It tells nothing of what it took.
+#[derive(Drop)]
+pub struct StdSink<'a, R: Print> {
+    rt: &'a R,
+    faults: u64,
+}
+
+impl<'a, R: Print> StdSink<'a, R> {
+    /// A sink that has counted nothing yet.
+    pub fn new(rt: &'a R) -> Self
+        ensures { ⟦<StdSink<'a, R> as Sink>⟧.put_faults result ≡ 0 }
+    {
+        StdSink { rt, faults: 0 }
+    }
+}
+
+impl<R: Print> Sink for StdSink<'_, R> {
+    ghost taken = { λ _. None };
+
+    ghost put_faults = { λ s. s.faults };
+
+    fn put(&mut self, piece: &[u8]) -> Result<(), PutStop> {
+        match self.rt.write_all(piece) {
+            Ok(()) => Ok(()),
+            Err(_) => {
+                self.faults = self.faults.saturating_add(1);
+                Err(PutStop::Failed)
+            }
+        }
+    }
+
+    fn faults(&self) -> u64 {
+        self.faults
+    }
+}
