@@ -115,8 +115,11 @@ impl Shelf for MapShelf {
     /// A write that fails leaves all files as they were.
     fn write(&mut self, alloc: Global, name: &str, bytes: &[u8]) -> Result<(), WriteStop>
         ensures puts { OnOk result (Puts (map_files self.old) (map_files self.new) name.now bytes.now) }
-        ensures failed { OnErr result (map_files self.new ≡ map_files self.old) }
-        ensures fault { IsErrOf result WriteStop.Failed ↔ IsTrue (next_call_fails self.old) }
+        ensures failed { IsErrOf result WriteStop.Failed → KeepsOthers (map_files self.old) (map_files self.new) name.now }
+        ensures fault { IsErrOf result WriteStop.Failed → Rose (map_put_faults self.old) (map_put_faults self.new) }
+        ensures faults_rise { map_put_faults self.old ≤ map_put_faults self.new }
+        ensures unchanged { OnErr result (map_files self.new ≡ map_files self.old) }
+        ensures fails_so { IsErrOf result WriteStop.Failed ↔ IsTrue (next_call_fails self.old) }
         ensures faults { map_put_faults self.new ≡ (if next_call_fails self.old then raised (map_put_faults self.old) else map_put_faults self.old) }
         ensures reads_stay { map_read_faults self.new ≡ map_read_faults self.old }
         ensures misses_stay { map_missed self.new ≡ map_missed self.old }

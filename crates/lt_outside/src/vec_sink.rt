@@ -63,6 +63,8 @@ impl Sink for VecSink {
         ensures ok { OnOk result ((next_cut self.old ≡ None) × (sink_bytes self.new ≡ sink_bytes self.old ++ piece.now)) }
         ensures failed { IsErrOf result PutStop.Failed → IsSomeAnd (next_cut self.old) (λ count. sink_bytes self.new ≡ sink_bytes self.old ++ take count piece.now) }
         ensures memory { IsErrOf result PutStop.NoMemory → sink_bytes self.new ≡ sink_bytes self.old }
+        ensures fault { IsErrOf result PutStop.Failed → Rose (sink_faults self.old) (sink_faults self.new) }
+        ensures faults_rise { sink_faults self.old ≤ sink_faults self.new }
         ensures faults { MatchResult result (λ _. sink_faults self.new ≡ sink_faults self.old) (λ stop. sink_faults self.new ≡ put_faults_after stop (sink_faults self.old)) }
         ensures puts { sink_puts self.new ≡ raised (sink_puts self.old) }
         ensures fails { sink_fails self.new ≡ sink_fails self.old }
