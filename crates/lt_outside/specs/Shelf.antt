@@ -22,6 +22,13 @@ IsMiss (TooLong len) = Unit {0}
 IsMiss Failed = ⊥
 IsMiss NoMemory = ⊥
 
+-- A length that a stop names is above what was asked for at most.
+abbrev pub IsOver : ℕ → ReadStop → Type 0
+IsOver most Absent = Unit {0}
+IsOver most (TooLong len) = most < len
+IsOver most Failed = Unit {0}
+IsOver most NoMemory = Unit {0}
+
 -- All names but this one keep their bytes.
 abbrev pub KeepsOthers : Files → Files → List ℕ → Type 0
 KeepsOthers old new name = (other : List ℕ) → other ≢ name → new other ≡ old other

@@ -1,6 +1,6 @@
-ghost use Rattle.std.specs.Prelude.{◌≡◌, ◌≤◌, List, ℕ, Err, None, Some, false, OnOk, OnErr, IfOk, IfErr, IsErrOf, IsOkUnless, MatchOption, MatchResult, vec_len};
+ghost use Rattle.std.specs.Prelude.{◌≡◌, ◌≤◌, List, ℕ, Err, None, Some, false, OnOk, OnErr, IfOk, IfErr, IsErrOf, IsOkUnless, option_copied, MatchResult, vec_len};
 ghost use Rattle.lt_outside.specs.Count.{Rose};
-ghost use Rattle.lt_outside.specs.Shelf.{MayStop, IsMiss, Puts, read_answer, misses_after};
+ghost use Rattle.lt_outside.specs.Shelf.{MayStop, IsMiss, IsOver, Puts, read_answer, misses_after};
 ghost use Rattle.lt_outside.specs.Memory.{clean_files, clean_missed};
 
 use crate::named_files::NamedFiles;
@@ -37,7 +37,7 @@ impl CleanShelf {
 
     /// The bytes of a file, if there is one of this name.
     pub fn file(&self, name: &str) -> Option<&[u8]>
-        ensures { MatchOption result (clean_files self.now name.now ≡ None) (λ bytes. clean_files self.now name.now ≡ Some bytes.now) }
+        ensures { option_copied result ≡ clean_files self.now name.now }
     {
         self.files.file(name)
     }
@@ -56,6 +56,7 @@ impl Shelf for CleanShelf {
         ensures gives { IfOk result (λ v. clean_files self.old name.now ≡ Some v.items) }
         ensures short { IfOk result (λ v. vec_len v ≤ most) }
         ensures stops { IfErr result (λ stop. MayStop (clean_files self.old) name.now most stop) }
+        ensures over { IfErr result (IsOver most) }
         ensures miss { IfErr result (λ stop. IsMiss stop → Rose (clean_missed self.old) (clean_missed self.new)) }
         ensures fault { ¬ IsErrOf result ReadStop.Failed }
         ensures stays { clean_files self.new ≡ clean_files self.old }

@@ -1,4 +1,5 @@
 ghost use Rattle.std.specs.Prelude.{◌≡◌, None};
+ghost use Rattle.lt_outside.specs.System.{dir_read_faults, dir_put_faults, dir_missed};
 
 use crate::shelf::{ReadStop, Shelf, WriteStop};
 use std::alloc::Global;
@@ -41,11 +42,11 @@ fn read_front<F: Read + Drop>(alloc: Global, file: F, most: u64) -> io::Result<V
 impl<R: Files> Shelf for DirShelf<'_, R> {
     ghost told = { λ _. None };
 
-    ghost read_faults = { λ s. s.faults };
+    ghost read_faults = { dir_read_faults };
 
-    ghost put_faults = { λ s. s.write_faults };
+    ghost put_faults = { dir_put_faults };
 
-    ghost missed = { λ s. s.misses };
+    ghost missed = { dir_missed };
 
     fn read(&mut self, alloc: Global, name: &str, most: u64) -> Result<Vec<u8>, ReadStop> {
         let file = match fs::open(self.rt, name) {

@@ -20,3 +20,6 @@ pub use shelf::{ReadStop, Shelf, WriteStop};
 pub use sink::{PutStop, Sink};
 pub use std_sink::StdSink;
 pub use vec_sink::VecSink;
+
+#[cfg(test)]
+mod tests;

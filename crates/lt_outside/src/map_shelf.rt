@@ -1,6 +1,6 @@
-ghost use Rattle.std.specs.Prelude.{◌≡◌, ◌≤◌, List, ℕ, None, Some, OnOk, OnErr, IfOk, IfErr, IfSome, IsSomeAnd, IsErrOf, IsTrue, ◌↔◌, MatchOption, MatchResult, Err, vec_len, if◌then◌else◌};
+ghost use Rattle.std.specs.Prelude.{◌≡◌, ◌≤◌, List, ℕ, None, Some, OnOk, OnErr, IfOk, IfErr, IfSome, IsSomeAnd, IsErrOf, IsTrue, ◌↔◌, option_copied, MatchResult, Err, vec_len, if◌then◌else◌};
 ghost use Rattle.lt_outside.specs.Count.{raised, Rose};
-ghost use Rattle.lt_outside.specs.Shelf.{MayStop, IsMiss, Puts, KeepsOthers, misses_after, faults_after};
+ghost use Rattle.lt_outside.specs.Shelf.{MayStop, IsMiss, IsOver, Puts, KeepsOthers, misses_after, faults_after};
 ghost use Rattle.lt_outside.specs.declared.shelf.ReadStop.{ReadStop};
 ghost use Rattle.lt_outside.specs.Memory.{map_files, map_fails, map_calls, map_read_faults, map_put_faults, map_missed, next_call_fails, map_read};
 
@@ -51,7 +51,7 @@ impl MapShelf {
 
     /// The bytes of a file, if there is one of this name.
     pub fn file(&self, name: &str) -> Option<&[u8]>
-        ensures { MatchOption result (map_files self.now name.now ≡ None) (λ bytes. map_files self.now name.now ≡ Some bytes.now) }
+        ensures { option_copied result ≡ map_files self.now name.now }
     {
         self.files.file(name)
     }
@@ -81,6 +81,7 @@ impl Shelf for MapShelf {
         ensures gives { IfOk result (λ v. map_files self.old name.now ≡ Some v.items) }
         ensures short { IfOk result (λ v. vec_len v ≤ most) }
         ensures stops { IfErr result (λ stop. MayStop (map_files self.old) name.now most stop) }
+        ensures over { IfErr result (IsOver most) }
         ensures miss { IfErr result (λ stop. IsMiss stop → Rose (map_missed self.old) (map_missed self.new)) }
         ensures fault { IsErrOf result ReadStop.Failed → Rose (map_read_faults self.old) (map_read_faults self.new) }
         ensures stays { map_files self.new ≡ map_files self.old }

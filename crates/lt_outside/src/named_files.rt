@@ -1,4 +1,4 @@
-ghost use Rattle.std.specs.Prelude.{◌≡◌, List, ℕ, None, Some, OnOk, OnErr, MatchOption, MatchResult};
+ghost use Rattle.std.specs.Prelude.{◌≡◌, List, ℕ, None, Some, OnOk, OnErr, option_copied, MatchResult};
 ghost use Rattle.lt_outside.specs.Shelf.{Puts, read_answer};
 ghost use Rattle.lt_outside.specs.Memory.{files_of};
 
@@ -23,7 +23,7 @@ impl NamedFiles {
 
     /// The bytes of a file, if there is one of this name.
     pub fn file(&self, name: &str) -> Option<&[u8]>
-        ensures { MatchOption result (files_of self.now name.now ≡ None) (λ bytes. files_of self.now name.now ≡ Some bytes.now) }
+        ensures { option_copied result ≡ files_of self.now name.now }
     {
         match self.files.get(name) {
             Some(bytes) => Some(bytes.as_slice()),

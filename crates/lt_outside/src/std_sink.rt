@@ -1,4 +1,5 @@
 ghost use Rattle.std.specs.Prelude.{◌≡◌, None};
+ghost use Rattle.lt_outside.specs.System.{std_faults};
 
 use crate::sink::{PutStop, Sink};
 
@@ -21,7 +22,7 @@ impl<'a, R: Print> StdSink<'a, R> {
 impl<R: Print> Sink for StdSink<'_, R> {
     ghost taken = { λ _. None };
 
-    ghost put_faults = { λ s. s.faults };
+    ghost put_faults = { std_faults };
 
     fn put(&mut self, piece: &[u8]) -> Result<(), PutStop> {
         match self.rt.write_all(piece) {
