@@ -65,10 +65,7 @@ impl Shelf for CleanShelf {
         ensures misses { clean_missed self.new ≡ misses_after (read_answer (clean_files self.old name.now) most false) (clean_missed self.old) }
     {
         match self.files.readable(name, most, false) {
-            Ok(bytes) => match Vec::from_slice(alloc, bytes) {
-                Ok(copy) => Ok(copy),
-                Err(AllocError) => Err(ReadStop::NoMemory),
-            },
+            Ok(bytes) => Vec::from_slice(alloc, bytes).map_err(|_| ReadStop::NoMemory),
             Err(stop) => {
                 self.misses = self.misses.saturating_add(1);
                 Err(stop)
@@ -82,10 +79,9 @@ impl Shelf for CleanShelf {
         ensures only { IsOkUnless result WriteStop.NoMemory }
         ensures misses_stay { clean_missed self.new ≡ clean_missed self.old }
     {
-        match self.files.put(alloc, name, bytes) {
-            Ok(()) => Ok(()),
-            Err(AllocError) => Err(WriteStop::NoMemory),
-        }
+        self.files
+            .put(alloc, name, bytes)
+            .map_err(|_| WriteStop::NoMemory)
     }
 
     fn faults(&self) -> u64 {

@@ -38,10 +38,9 @@ impl Sink for CleanSink {
         ensures memory { OnErr result (clean_bytes self.new ≡ clean_bytes self.old) }
         ensures only { IsOkUnless result PutStop.NoMemory }
     {
-        match self.bytes.extend_from_slice(piece) {
-            Ok(()) => Ok(()),
-            Err(AllocError) => Err(PutStop::NoMemory),
-        }
+        self.bytes
+            .extend_from_slice(piece)
+            .map_err(|_| PutStop::NoMemory)
     }
 
     fn faults(&self) -> u64 {

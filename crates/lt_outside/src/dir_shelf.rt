@@ -7,7 +7,7 @@ use std::fs::{self, OpenFile};
 use std::io::{self, ErrorKind, Read};
 use std::rt::Files;
 
-/// The files of the system. It tells nothing of their content.
+/// The files of the system: a name is a path, as the system takes it. It tells nothing of their content.
 #[derive(Drop)]
 pub struct DirShelf<'a, R: Files> {
     rt: &'a R,

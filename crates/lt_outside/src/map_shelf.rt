@@ -12,7 +12,9 @@ use std::alloc::{AllocError, Global};
 #[derive(Drop)]
 pub struct MapShelf {
     files: NamedFiles,
+    // The numbers of the calls that are to fail, from 1, in any order.
     fails: Vec<u64>,
+    // How many calls of `read` and `write` there were.
     calls: u64,
     faults: u64,
     write_faults: u64,
@@ -96,10 +98,7 @@ impl Shelf for MapShelf {
     {
         let fails = self.next_call();
         match self.files.readable(name, most, fails) {
-            Ok(bytes) => match Vec::from_slice(alloc, bytes) {
-                Ok(copy) => Ok(copy),
-                Err(AllocError) => Err(ReadStop::NoMemory),
-            },
+            Ok(bytes) => Vec::from_slice(alloc, bytes).map_err(|_| ReadStop::NoMemory),
             Err(stop) => {
                 match stop {
                     ReadStop::Absent | ReadStop::TooLong(_) => {
@@ -131,10 +130,9 @@ impl Shelf for MapShelf {
             self.write_faults = self.write_faults.saturating_add(1);
             return Err(WriteStop::Failed);
         }
-        match self.files.put(alloc, name, bytes) {
-            Ok(()) => Ok(()),
-            Err(AllocError) => Err(WriteStop::NoMemory),
-        }
+        self.files
+            .put(alloc, name, bytes)
+            .map_err(|_| WriteStop::NoMemory)
     }
 
     fn faults(&self) -> u64 {

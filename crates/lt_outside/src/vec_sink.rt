@@ -10,7 +10,9 @@ use std::alloc::{AllocError, Global};
 #[derive(Drop)]
 pub struct VecSink {
     bytes: Vec<u8>,
+    // The number of a put that is to fail, from 1, and how many bytes it takes.
     fails: Vec<(u64, u64)>,
+    // How many puts there were.
     puts: u64,
     faults: u64,
 }
@@ -43,7 +45,9 @@ impl VecSink {
     fn next_put(&mut self) -> Option<u64>
         ensures cut { result ≡ next_cut self.old }
         ensures puts { sink_puts self.new ≡ raised (sink_puts self.old) }
-        ensures same { self.new ≡ record self.old { puts = sink_puts self.new } }
+        ensures bytes { sink_bytes self.new ≡ sink_bytes self.old }
+        ensures fails { sink_fails self.new ≡ sink_fails self.old }
+        ensures faults { sink_faults self.new ≡ sink_faults self.old }
     {
         self.puts = self.puts.saturating_add(1);
         let number = self.puts;
@@ -76,9 +80,9 @@ impl Sink for VecSink {
         {
             taken = &piece[..most as usize];
         }
-        if let Err(AllocError) = self.bytes.extend_from_slice(taken) {
-            return Err(PutStop::NoMemory);
-        }
+        self.bytes
+            .extend_from_slice(taken)
+            .map_err(|_| PutStop::NoMemory)?;
         if cut.is_some() {
             self.faults = self.faults.saturating_add(1);
             return Err(PutStop::Failed);
