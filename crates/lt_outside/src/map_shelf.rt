@@ -1,4 +1,4 @@
-ghost use Rattle.std.specs.Prelude.{◌≡◌, ◌≤◌, List, ℕ, None, Some, OnOk, OnErr, IfOk, IfErr, IfSome, IsSomeAnd, IsErrOf, IsTrue, ◌↔◌, option_copied, MatchResult, Err, vec_len, if◌then◌else◌};
+ghost use Rattle.std.specs.Prelude.{◌≡◌, ◌≤◌, List, ℕ, None, Some, OnOk, OnErr, IfOk, IfErr, IsErrOf, IsTrue, ◌↔◌, option_copied, MatchResult, Err, vec_len, if◌then◌else◌};
 ghost use Rattle.lt_outside.specs.Count.{raised, Rose};
 ghost use Rattle.lt_outside.specs.Shelf.{MayStop, IsMiss, IsOver, Puts, KeepsOthers, misses_after, faults_after};
 ghost use Rattle.lt_outside.specs.declared.shelf.ReadStop.{ReadStop};
