@@ -3,6 +3,8 @@
 
 mod expression;
 mod statement;
+mod stop;
 
 pub use expression::{Assign, Expr, Mark, Marked, UnaryOp};
 pub use statement::{Function, Item, Stmt};
+pub use stop::Stop;
