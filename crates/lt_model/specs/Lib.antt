@@ -1,4 +1,5 @@
 pub mod Scalar
+pub mod Conversions
 pub mod Operators
 pub mod Memory
 pub mod State

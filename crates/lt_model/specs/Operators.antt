@@ -1,5 +1,5 @@
 -- What each operator gives on the values of one type, C11 6.5.5 to 6.5.12, or the kind of its undefined behaviour.
-use Rattle.std.specs.Prelude.{ℕ, zero, Bool, not, ◌&&◌, ◌||◌, ℤ, pos, ◌+ℤ◌, ◌-ℤ◌, ◌*ℤ◌, ◌≤ℤ◌, ◌^◌, if◌then◌else◌, int_lt, int_le, int_div, int_rem, unsigned_abs, bit_and, bit_or, bit_xor}
+use Rattle.std.specs.Prelude.{ℕ, zero, Bool, not, ◌&&◌, ◌⊎◌, ℤ, pos, ◌+ℤ◌, ◌-ℤ◌, ◌*ℤ◌, ◌≤ℤ◌, ◌^◌, if◌then◌else◌, int_lt, int_le, int_div, int_rem, unsigned_abs, bit_and, bit_or, bit_xor}
 use Rattle.std.specs.Prelude.{Result, Ok, Err}
 use Rattle.std.specs.Int.{int_rem_euclid, int_shr}
 use Rattle.std.specs.Ordering.{int_eq}
@@ -64,20 +64,14 @@ value_of m O.Ge s a b = Ok (truth (int_le b a))
 value_of m O.Eq s a b = Ok (truth (int_eq a b))
 value_of m O.Ne s a b = Ok (truth (not (int_eq a b)))
 
--- the right operand of a shift may be of any type
-abbrev pub IsRightOperand : DataModel → Op → Scalar → ℤ → Type 0
-IsRightOperand m O.Shl s b = (t : Scalar) × IsValue m t b
-IsRightOperand m O.Shr s b = (t : Scalar) × IsValue m t b
-IsRightOperand m o s b = IsValue m s b
+abbrev pub IsShift : Op → Type 0
+IsShift O.Shl = Unit {0}
+IsShift O.Shr = Unit {0}
+IsShift o = ⊥
 
--- the operators of the first small language
-abbrev pub IsFirstOperator : Op → Type 0
-IsFirstOperator O.Shl = ⊥
-IsFirstOperator O.Shr = ⊥
-IsFirstOperator O.And = ⊥
-IsFirstOperator O.Or = ⊥
-IsFirstOperator O.Xor = ⊥
-IsFirstOperator _ = Unit {0}
+-- The right operand is a value of the operation's type. That of a shift may be a value of any type.
+abbrev pub IsRightOperand : DataModel → Op → Scalar → ℤ → Type 0
+IsRightOperand m o s b = IsValue m s b ⊎ (IsShift o × ((t : Scalar) × IsValue m t b))
 
 -- the kinds of undefined behaviour are numbered from 1
 abbrev pub number_of_kind : Ub → ℕ
