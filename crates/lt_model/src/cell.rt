@@ -1,4 +1,5 @@
 use crate::scalar::Scalar;
+use crate::sequence::Sequence;
 
 /// A place in memory: a block and a byte offset in it. Null is `None` of `Option<Address>`.
 #[derive(Clone, Copy, PartialEq, Eq, Debug)]
@@ -20,4 +21,18 @@ pub enum Content {
     Unset,
     Number(i128),
     Address(Option<Address>),
+}
+
+/// A cell of an object that is to be made: its byte offset and its type.
+#[derive(Clone, Copy, PartialEq, Eq, Debug)]
+pub struct ShapeCell {
+    pub offset: u64,
+    pub ty: CellType,
+}
+
+/// What an object that is to be made has: its cells, and its size in bytes.
+#[derive(Debug, Drop)]
+pub struct Shape {
+    pub cells: Sequence<ShapeCell>,
+    pub size: u64,
 }

@@ -4,15 +4,24 @@
 mod arithmetic;
 mod cell;
 mod conversion;
+mod ctype;
+mod input;
 mod name;
 mod operator;
 mod run;
 mod scalar;
+mod sequence;
 
 pub use arithmetic::apply;
-pub use cell::{Address, CellType, Content};
+pub use cell::{Address, CellType, Content, Shape, ShapeCell};
 pub use conversion::{convert, promote, usual};
+pub use ctype::{CType, MemberType, Quals, Signature, StructType, Structs};
+pub use input::{
+    BlockIn, CellSet, FreeCell, Input, Need, NeedTerm, Place, Spec, StartValue, StubRange, StubSet,
+    Values, Want,
+};
 pub use name::Name;
 pub use operator::{Op, Ub, ub_number};
-pub use run::{Binding, Bindings, End, Mark, Marks, Run};
+pub use run::{Binding, End, Mark, Run};
 pub use scalar::{DataModel, Scalar, greatest, is_signed, is_value, least, width};
+pub use sequence::Sequence;

@@ -1,6 +1,6 @@
 use crate::name::Name;
 use crate::operator::Ub;
-use std::marker::Model;
+use crate::sequence::Sequence;
 
 /// A name that a mark bound, with its value.
 #[derive(Debug, Drop)]
@@ -9,42 +9,12 @@ pub struct Binding {
     pub value: i128,
 }
 
-/// What a mark bound, in the order of its text. Contracts see a list.
-#[derive(Debug, Drop)]
-pub struct Bindings {
-    list: Vec<Binding>,
-}
-
-impl Model for Bindings {
-    ghost use Rattle.std.specs.Prelude.{List};
-    ghost use Rattle.lt_model.specs.declared.run.Binding.{Binding};
-
-    ghost Value = { List Binding };
-
-    ghost view = { λ b. b.list.items };
-}
-
-/// A mark that a run made: its label, whether its predicate was true, and what it bound.
+/// A mark that a run made: its label, whether its predicate was true, and what it bound, in the order of its text.
 #[derive(Debug, Drop)]
 pub struct Mark {
     pub id: u32,
     pub truth: bool,
-    pub bound: Bindings,
-}
-
-/// The marks of a run, in the order in which they were made. Contracts see a list.
-#[derive(Debug, Drop)]
-pub struct Marks {
-    list: Vec<Mark>,
-}
-
-impl Model for Marks {
-    ghost use Rattle.std.specs.Prelude.{List};
-    ghost use Rattle.lt_model.specs.declared.run.Mark.{Mark};
-
-    ghost Value = { List Mark };
-
-    ghost view = { λ m. m.list.items };
+    pub bound: Sequence<Binding>,
 }
 
 /// How a run is over. It ends, in the sense of coverage, by one of the first four alone.
@@ -66,10 +36,10 @@ pub enum End {
     Cells,
 }
 
-/// A run: its marks, its end and the ticks that it spent.
+/// A run: its marks in the order in which they were made, its end and the ticks that it spent.
 #[derive(Debug, Drop)]
 pub struct Run {
-    pub marks: Marks,
+    pub marks: Sequence<Mark>,
     pub end: End,
     pub ticks: u64,
 }
