@@ -1,15 +1,21 @@
--- Memory as a list of objects, C11 6.2.4, 6.2.6 and 6.5: what making an object, loading and storing do.
-use Rattle.std.specs.Prelude.{ℕ, ℤ, pos, ◌+◌, ◌==◌, ◌&&◌, List, [], ◌∷◌, ◌++◌, Bool, true, false, Option, Some, None, Result, Ok, Err, if◌then◌else◌, length, slice_get, slice_set}
+-- Memory as a list of objects, C11 6.2.4, 6.2.6 and 6.5, and what each thing that a program does to it gives. Where several kinds of undefined
+-- behaviour apply, following null comes first, then the use of an ended object, and then the others in order of their numbers.
+use Rattle.std.specs.Prelude.{ℕ, zero, ℤ, pos, ◌+◌, ◌+ℤ◌, ◌-ℤ◌, ◌*ℤ◌, ◌==◌, ◌&&◌, List, [], ◌∷◌, ◌++◌, Bool, true, false, not, Option, Some, None, Result, Ok, Err, if◌then◌else◌, length, map, sum_by, slice_get, slice_set, nat_lt, nat_le, int_le, int_div, int_rem, unsigned_abs}
+use Rattle.std.specs.Ordering.{int_eq}
 use Rattle.lt_model.specs.declared.scalar.DataModel.{DataModel}
 use Rattle.lt_model.specs.declared.scalar.Scalar.{Scalar}
 use Rattle.lt_model.specs.declared.scalar.Scalar.TheVariants as S
 use Rattle.lt_model.specs.declared.operator.Ub.{Ub}
 use Rattle.lt_model.specs.declared.operator.Ub.TheVariants as U
+use Rattle.lt_model.specs.declared.operator.Op.{Op}
+use Rattle.lt_model.specs.declared.operator.Op.TheVariants as O
 use Rattle.lt_model.specs.declared.cell.Address.{Address}
 use Rattle.lt_model.specs.declared.cell.CellType.{CellType}
 use Rattle.lt_model.specs.declared.cell.CellType.TheVariants.{Num, Pointer}
 use Rattle.lt_model.specs.declared.cell.Content.{Content}
 use Rattle.lt_model.specs.declared.cell.Content.TheVariants as content
+use Rattle.lt_model.specs.declared.cell.Shape.{Shape}
+use Rattle.lt_model.specs.declared.cell.ShapeCell.{ShapeCell}
 use Rattle.lt_model.specs.Scalar.{convert_of}
 
 -- a cell of an object: its byte offset, its type and what it holds
@@ -129,3 +135,130 @@ ended memory place (Some block) = slice_set memory place (record block { alive =
 -- the object's lifetime is over
 abbrev pub end_block : Memory → ℕ → Memory
 end_block memory place = ended memory place (slice_get memory place)
+
+-- ---- objects of a shape
+
+-- what a cell holds before anything is stored into it: zero or null, or nothing that may be loaded
+abbrev pub first_content : Bool → CellType → Content
+first_content false ty = content.Unset
+first_content true (Num s) = content.Number (pos 0)
+first_content true (Pointer p) = content.Address None
+
+abbrev pub new_cell : Bool → ShapeCell → Cell
+new_cell zeroed cell = record { offset = cell.offset; ty = cell.ty; holds = first_content zeroed cell.ty }
+
+-- a living object of this shape
+abbrev pub new_block : Shape → Bool → Bool → Block
+new_block shape zeroed writable = record { alive = true; writable = writable; size = shape.size; cells = map (new_cell zeroed) shape.cells }
+
+-- the cells of an object that count as alive
+abbrev pub living_cells : Block → ℕ
+living_cells block = if block.alive then length block.cells else 0
+
+-- the cells that are alive
+abbrev pub cells_alive : Memory → ℕ
+cells_alive memory = sum_by living_cells memory
+
+-- the most cells that may be alive
+abbrev pub most_cells : ℕ
+most_cells = 4194304
+
+-- one more object of this shape, unless too many cells would be alive; its number is the length of the list before
+unfoldable pub create_shaped : Memory → Shape → Bool → Bool → Option Memory
+create_shaped memory shape zeroed writable =
+    if nat_le (cells_alive memory + length shape.cells) most_cells then Some (create memory (new_block shape zeroed writable)) else None
+
+abbrev pub sealed : Memory → ℕ → Option Block → Memory
+sealed memory place None = memory
+sealed memory place (Some block) = slice_set memory place (record block { writable = false })
+
+-- the object isn't writable from now on
+abbrev pub seal_block : Memory → ℕ → Memory
+seal_block memory place = sealed memory place (slice_get memory place)
+
+-- ---- addresses
+
+abbrev pub living : Result Block Ub → Result Bool Ub
+living (Ok block) = Ok true
+living (Err kind) = Err kind
+
+-- an address is used: null may be, that of an ended object may not
+abbrev pub checked_address : Memory → Option Address → Result Bool Ub
+checked_address memory None = Ok true
+checked_address memory (Some at) = living (object_at memory (Some at))
+
+-- an address z bytes from the start of an object, or one past its end
+abbrev pub within_object : Address → Block → ℤ → Result (Option Address) Ub
+within_object at block z =
+    if int_le (pos 0) z && int_le z (pos block.size) then Ok (Some (record { block = at.block; offset = unsigned_abs z })) else Err U.Move
+
+-- an address moved by count elements of this size, C11 6.5.6
+abbrev pub move_by : Memory → Option Address → ℤ → ℕ → Result (Option Address) Ub
+move_by memory None count size = Err U.Move
+move_by memory (Some at) count size =
+    then_result (object_at memory (Some at)) (λ block. within_object at block (pos at.offset +ℤ (count *ℤ pos size)))
+
+abbrev pub same_address : Option Address → Option Address → Bool
+same_address None None = true
+same_address None (Some b) = false
+same_address (Some a) None = false
+same_address (Some a) (Some b) = a.block == b.block && a.offset == b.offset
+
+-- addresses of one object are ordered by their offsets
+abbrev pub ordered : (ℕ → ℕ → Bool) → Option Address → Option Address → Result Bool Ub
+ordered test (Some a) (Some b) = if a.block == b.block then Ok (test a.offset b.offset) else Err U.Unrelated
+ordered test a b = Err U.Unrelated
+
+-- a relation of two addresses that may be used; the other operators are no relations
+abbrev pub related : Op → Option Address → Option Address → Result Bool Ub
+related O.Eq a b = Ok (same_address a b)
+related O.Ne a b = Ok (not (same_address a b))
+related O.Lt a b = ordered nat_lt a b
+related O.Le a b = ordered nat_le a b
+related O.Gt a b = ordered (λ x y. nat_lt y x) a b
+related O.Ge a b = ordered (λ x y. nat_le y x) a b
+related o a b = Err U.Unrelated
+
+-- addresses compared, C11 6.5.8 and 6.5.9
+abbrev pub compare : Memory → Op → Option Address → Option Address → Result Bool Ub
+compare memory op a b =
+    then_result (checked_address memory a) (λ _. then_result (checked_address memory b) (λ _. related op a b))
+
+-- a number of bytes as a number of elements; none is a multiple of size 0
+abbrev pub in_elements : ℤ → ℕ → Result ℤ Ub
+in_elements z zero = Err U.Unrelated
+in_elements z size = if int_eq (int_rem z (pos size)) (pos 0) then Ok (int_div z (pos size)) else Err U.Unrelated
+
+abbrev pub distance : Option Address → Option Address → ℕ → Result ℤ Ub
+distance (Some a) (Some b) size = if a.block == b.block then in_elements (pos a.offset -ℤ pos b.offset) size else Err U.Unrelated
+distance a b size = Err U.Unrelated
+
+-- how many elements of this size the first address lies behind the second, C11 6.5.6
+abbrev pub subtract : Memory → Option Address → Option Address → ℕ → Result ℤ Ub
+subtract memory a b size =
+    then_result (checked_address memory a) (λ _. then_result (checked_address memory b) (λ _. distance a b size))
+
+-- ---- copies of structs
+
+-- what the cells of a shape hold that begins at this offset, as they are
+abbrev pub gathered : List Cell → ℕ → List ShapeCell → Result (List Content) Ub
+gathered cells base [] = Ok []
+gathered cells base (cell ∷ rest) =
+    then_result (held_at cells (base + cell.offset) cell.ty) (λ held. then_result (gathered cells base rest) (λ others. Ok (held ∷ others)))
+
+-- the cells, with these contents in those of a shape that begins at this offset
+abbrev pub scattered : DataModel → List Cell → ℕ → List ShapeCell → List Content → Result (List Cell) Ub
+scattered model cells base (cell ∷ rest) (held ∷ others) =
+    then_result (with_held model cells (base + cell.offset) cell.ty held) (λ after. scattered model after base rest others)
+scattered model cells base shape contents = Ok cells
+
+abbrev pub not_null : Option Address → Result Bool Ub
+not_null None = Err U.Null
+not_null (Some at) = Ok true
+
+-- a struct of this shape copied from the second address to the first: all its cells are read before one is written
+unfoldable pub copy_struct : DataModel → Memory → Option Address → Option Address → Shape → Result Memory Ub
+copy_struct model memory to from shape =
+    then_result (not_null to) (λ _. then_result (not_null from) (λ _. then_result (object_at memory to) (λ target. then_result (object_at memory from) (λ source.
+    then_result (gathered source.cells (offset_of from) shape.cells) (λ contents. then_result (scattered model target.cells (offset_of to) shape.cells contents) (λ cells.
+    if target.writable then Ok (replaced memory to target cells) else Err U.Sealed))))))
