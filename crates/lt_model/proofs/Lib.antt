@@ -1,2 +1,4 @@
+pub mod Whole
+pub mod Fitting
 pub mod Ranges
 pub mod Results

@@ -1,3 +1,4 @@
+pub mod Whole
 pub mod Scalar
 pub mod Conversions
 pub mod Operators

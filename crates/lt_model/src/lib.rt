@@ -3,6 +3,7 @@
 
 mod arithmetic;
 mod cell;
+mod checked;
 mod conversion;
 mod ctype;
 mod input;
@@ -14,6 +15,7 @@ mod sequence;
 
 pub use arithmetic::apply;
 pub use cell::{Address, CellType, Content, Shape, ShapeCell};
+pub use checked::{checked_product, checked_sum};
 pub use conversion::{convert, promote, usual};
 pub use ctype::{CType, MemberType, Quals, Signature, StructType, Structs};
 pub use input::{
