@@ -2,3 +2,4 @@ pub mod Whole
 pub mod Fitting
 pub mod Ranges
 pub mod Results
+pub mod Counting

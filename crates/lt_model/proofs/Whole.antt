@@ -15,11 +15,11 @@ mul_assoc_ℤ a b c = same_in (a *ℤ b *ℤ c) (a *ℤ (b *ℤ c)) (simp (up_pr
 
 pub mul-add_ℤ : (a b c : ℤ) → a *ℤ (b +ℤ c) ≡ a *ℤ b +ℤ a *ℤ c
 mul-add_ℤ a b c = same_in (a *ℤ (b +ℤ c)) (a *ℤ b +ℤ a *ℤ c)
-  (omega (arith, sum_is_lem (a *ℤ b) (a *ℤ c), product_is a (b +ℤ c), product_is a b, product_is a c, ap (λ k. up a * k) (sum_is_lem b c), ap (λ k. down a * k) (sum_is_lem b c)))
+    (omega (arith, sum_is_lem (a *ℤ b) (a *ℤ c), product_is a (b +ℤ c), product_is a b, product_is a c, ap (λ k. up a * k) (sum_is_lem b c), ap (λ k. down a * k) (sum_is_lem b c)))
 
 pub add-mul_ℤ : (a b c : ℤ) → (a +ℤ b) *ℤ c ≡ a *ℤ c +ℤ b *ℤ c
 add-mul_ℤ a b c = same_in ((a +ℤ b) *ℤ c) (a *ℤ c +ℤ b *ℤ c)
-  (omega (arith, sum_is_lem (a *ℤ c) (b *ℤ c), product_is (a +ℤ b) c, product_is a c, product_is b c, ap (λ k. k * up c) (sum_is_lem a b), ap (λ k. k * down c) (sum_is_lem a b)))
+    (omega (arith, sum_is_lem (a *ℤ c) (b *ℤ c), product_is (a +ℤ b) c, product_is a c, product_is b c, ap (λ k. k * up c) (sum_is_lem a b), ap (λ k. k * down c) (sum_is_lem a b)))
 
 pub mul-≤ℤ : (a b c : ℤ) → pos 0 ≤ℤ c → a ≤ℤ b → (c *ℤ a) ≤ℤ (c *ℤ b)
 mul-≤ℤ a b c h k =
@@ -29,16 +29,17 @@ mul-≤ℤ a b c h k =
   where
     ordered : (ua da ub db uc dc : ℕ) → dc ≤ uc → ua + db ≤ ub + da → (uc * ua + dc * da) + (uc * db + dc * ub) ≤ (uc * ub + dc * db) + (uc * da + dc * ua)
     ordered ua da ub db uc dc p q =
-      let x : ℕ = uc - dc in
-      let y : ℕ = (ub + da) - (ua + db) in
-      let e : uc ≡ dc + x = omega arith in
-      let f : ub + da ≡ ua + db + y = omega arith in
-      grind (arith, ap (λ k. uc * k) f, ap (λ k. dc * k) f, ap (λ k. k * y) e)
+        let x : ℕ = uc - dc in
+        let y : ℕ = (ub + da) - (ua + db) in
+        let e : uc ≡ dc + x = omega arith in
+        let f : ub + da ≡ ua + db + y = omega arith in
+        grind (arith, ap (λ k. uc * k) f, ap (λ k. dc * k) f, ap (λ k. k * y) e)
 
 pub neg-mul_ℤ : (a b : ℤ) → neg_ℤ a *ℤ b ≡ neg_ℤ (a *ℤ b)
 neg-mul_ℤ a b = same_in (neg_ℤ a *ℤ b) (neg_ℤ (a *ℤ b)) (simp (up_product, down_product, up_neg, down_neg) (omega arith))
   where
     up_neg : (z : ℤ) → up (neg_ℤ z) ≡ down z
     up_neg z = (neg_is z).0
+
     down_neg : (z : ℤ) → down (neg_ℤ z) ≡ up z
     down_neg z = (neg_is z).1

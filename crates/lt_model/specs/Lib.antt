@@ -1,6 +1,7 @@
 pub mod Whole
 pub mod Scalar
 pub mod Conversions
+pub mod Layout
 pub mod Operators
 pub mod Memory
 pub mod State

@@ -12,6 +12,7 @@ mod operator;
 mod run;
 mod scalar;
 mod sequence;
+mod sizes;
 
 pub use arithmetic::apply;
 pub use cell::{Address, CellType, Content, Shape, ShapeCell};
@@ -27,3 +28,4 @@ pub use operator::{Op, Ub, ub_number};
 pub use run::{Binding, End, Mark, Run};
 pub use scalar::{DataModel, Scalar, greatest, is_signed, is_value, least, width};
 pub use sequence::Sequence;
+pub use sizes::{layout, size_of};

@@ -1,0 +1,247 @@
+ghost use Rattle.std.specs.Prelude.{◌≡◌, ◌+◌, ◌*◌, ◌≤◌, ◌^◌, min, slice_get, ℕ, length};
+ghost use Rattle.std.specs.Option.{option_copied};
+ghost use Rattle.lt_model.specs.Layout.{within, rounded, scalar_extent, resized, element, elements, single_extent, type_extent, member_offset, with_member, no_members, members_extent, struct_extent, extent_of, size_in, offset_behind, offset_among, offset_in, members_of};
+
+use crate::ctype::{CType, MemberType, StructType, Structs};
+use crate::scalar::{DataModel, Scalar, width};
+
+/// The size and the alignment of a type, in bytes.
+#[derive(Clone, Copy, PartialEq, Eq, Debug)]
+pub struct Extent {
+    pub size: u64,
+    pub alignment: u64,
+}
+
+// A sum of numbers of bytes.
+fn sum(a: u64, b: u64) -> Option<u64>
+    ensures { result ≡ within (a + b) }
+{
+    a.checked_add(b)
+}
+
+// The next multiple of an alignment.
+fn rounded(n: u64, alignment: u64) -> Option<u64>
+    ensures { result ≡ rounded n alignment }
+{
+    n.checked_next_multiple_of(alignment)
+}
+
+// The extent of a scalar.
+fn scalar_extent(model: DataModel, ty: Scalar) -> Extent
+    ensures { result ≡ scalar_extent model ty }
+{
+    let bytes = u64::from((width(model, ty) + 7) / 8);
+    Extent {
+        size: bytes,
+        alignment: bytes,
+    }
+}
+
+// The extent, with another size.
+fn resized(extent: Extent, size: Option<u64>) -> Option<Extent>
+    ensures { result ≡ resized extent size }
+{
+    Some(Extent {
+        size: size?,
+        alignment: extent.alignment,
+    })
+}
+
+// The size of so many elements.
+fn repeated(size: u64, count: u128) -> Option<u64>
+    requires { count ≤ 2 ^ 64 }
+    ensures { result ≡ within (size * count) }
+{
+    let bytes = u128::from(size) * count;
+    if bytes < 1 << 64 {
+        Some(bytes as u64)
+    } else {
+        None
+    }
+}
+
+// A number of elements, times another; numbers from 2 ^ 64 count as that.
+fn counted(count: u128, length: u32) -> u128
+    requires { count ≤ 2 ^ 64 }
+    ensures is { result ≡ min (count * length) (2 ^ 64) }
+{
+    (count * u128::from(length)).min(1 << 64)
+}
+
+#[tactic(auto, using(crate::proofs::Counting::capped_product))]
+// The type of an array's elements, and how many it has; numbers from 2 ^ 64 count as that.
+fn elements(t: &CType) -> (&CType, u128)
+    ensures element { result.0.now ≡ element t.now }
+    ensures count { result.1 ≡ min (elements t.now) (2 ^ 64) }
+{
+    let mut count: u128 = 1;
+    let mut at = t;
+    loop {
+        match at {
+            CType::Array(of, length) => {
+                count = counted(count, *length);
+                at = of;
+            }
+            CType::Quoted(_, of) => at = of,
+            CType::Void
+            | CType::Num(_)
+            | CType::Pointer(_)
+            | CType::Struct(_)
+            | CType::Function(_)
+            | CType::Floating => return (at, count),
+        }
+    }
+}
+
+// Where a member stands after others.
+fn member_offset(before: Extent, member: Extent) -> Option<u64>
+    ensures { result ≡ member_offset before member }
+{
+    rounded(before.size, member.alignment)
+}
+
+// Members with one more behind them.
+fn with_member(before: Extent, member: Extent) -> Option<Extent>
+    ensures { result ≡ with_member before member }
+{
+    let offset = member_offset(before, member)?;
+    let end = sum(offset, member.size)?;
+    Some(Extent {
+        size: end,
+        alignment: before.alignment.max(member.alignment),
+    })
+}
+
+// The members of a struct that is complete.
+fn members_of(structs: &[StructType], k: u32) -> Option<&[MemberType]>
+    ensures { option_copied result ≡ members_of structs.now k }
+{
+    match structs.get(k as usize) {
+        None => None,
+        Some(it) => match &it.members {
+            None => None,
+            Some(members) => Some(members.as_slice()),
+        },
+    }
+}
+
+// The extent of a type that is no array.
+#[cycle(extent)]
+fn single_extent(
+    model: DataModel,
+    structs: &[StructType],
+    depth: usize,
+    t: &CType,
+) -> Option<Extent>
+    ensures { result ≡ single_extent model (struct_extent model structs.now depth) t.now }
+{
+    match t {
+        CType::Num(s) => Some(scalar_extent(model, *s)),
+        CType::Pointer(_) => Some(scalar_extent(model, Scalar::Long)),
+        CType::Struct(k) => struct_extent(model, structs, depth, *k),
+        CType::Void
+        | CType::Array(_, _)
+        | CType::Function(_)
+        | CType::Floating
+        | CType::Quoted(_, _) => None,
+    }
+}
+
+// The extent of a type.
+#[cycle(extent)]
+fn type_extent(model: DataModel, structs: &[StructType], depth: usize, t: &CType) -> Option<Extent>
+    ensures { result ≡ type_extent model (struct_extent model structs.now depth) t.now }
+{
+    let (of, count) = elements(t);
+    let extent = single_extent(model, structs, depth, of)?;
+    resized(extent, repeated(extent.size, count))
+}
+
+// The end of members and their greatest alignment.
+#[cycle(extent)]
+fn members_extent(
+    model: DataModel,
+    structs: &[StructType],
+    depth: usize,
+    members: &[MemberType],
+) -> Option<Extent>
+    ensures { result ≡ members_extent (type_extent model (struct_extent model structs.now depth)) no_members members.now }
+{
+    let mut before = Extent {
+        size: 0,
+        alignment: 1,
+    };
+    for member in members {
+        let extent = type_extent(model, structs, depth, &member.ty)?;
+        before = with_member(before, extent)?;
+    }
+    Some(before)
+}
+
+// The extent of a struct, where structs nest no deeper than this.
+#[cycle(extent)]
+#[tactic(auto, unfolding(crate::specs::Layout::struct_extent))]
+fn struct_extent(model: DataModel, structs: &[StructType], depth: usize, k: u32) -> Option<Extent>
+    ensures { result ≡ struct_extent model structs.now depth k }
+{
+    if depth == 0 {
+        return None;
+    }
+    let members = members_of(structs, k)?;
+    let all = members_extent(model, structs, depth - 1, members)?;
+    resized(all, rounded(all.size, all.alignment))
+}
+
+/// The size of a type in bytes. None for void, function and floating types, for a struct that is incomplete or holds itself, and where a
+/// number of bytes on the way passes 64 bits.
+pub fn size_of(model: DataModel, structs: &Structs, t: &CType) -> Option<u64>
+    ensures { result ≡ size_in model structs.now.list t.now }
+{
+    let list = structs.list.as_slice();
+    let extent = type_extent(model, list, list.len(), t)?;
+    Some(extent.size)
+}
+
+// A member by its place.
+fn member_at(members: &[MemberType], place: usize) -> Option<&MemberType>
+    ensures { option_copied result ≡ slice_get members.now place }
+{
+    members.get(place)
+}
+
+// Where a member of this type stands behind others.
+fn offset_behind(
+    model: DataModel,
+    structs: &[StructType],
+    before: &[MemberType],
+    t: &CType,
+) -> Option<u64>
+    ensures { result ≡ offset_behind model structs.now before.now t.now }
+{
+    let extent = type_extent(model, structs, structs.len(), t)?;
+    let end = members_extent(model, structs, structs.len(), before)?;
+    member_offset(end, extent)
+}
+
+// Where a member stands among all members of its struct.
+fn offset_among(
+    model: DataModel,
+    structs: &[StructType],
+    members: &[MemberType],
+    place: usize,
+) -> Option<u64>
+    ensures { result ≡ offset_among model structs.now members.now place }
+{
+    let member = member_at(members, place)?;
+    offset_behind(model, structs, &members[..place], &member.ty)
+}
+
+/// The offset of a member of a struct in bytes. None where there is no such member, or the struct is incomplete, or a type on the way has
+/// no size.
+pub fn layout(model: DataModel, structs: &Structs, tag: u32, member: u32) -> Option<u64>
+    ensures { result ≡ offset_in model structs.now.list tag member }
+{
+    let list = structs.list.as_slice();
+    let members = members_of(list, tag)?;
+    offset_among(model, list, members, member as usize)
+}
