@@ -1,5 +1,5 @@
 -- What a function of the small language does: expressions by C11 6.5, statements by C11 6.8.
-use Rattle.std.specs.Prelude.{ℕ, zero, suc, ℤ, pos, List, [], ◌∷◌, ◌++◌, length, map, Bool, true, false, not, ◌&&◌, ◌==◌, Option, Some, None, Result, Ok, Err, if◌then◌else◌}
+use Rattle.std.specs.Prelude.{ℕ, zero, suc, ℤ, pos, List, [], ◌∷◌, ◌++◌, length, Bool, true, false, not, ◌&&◌, ◌==◌, Option, Some, None, Result, Ok, Err, if◌then◌else◌}
 use Rattle.std.specs.Ordering.{int_eq}
 use Rattle.std.specs.Str.{bytes_eq}
 use Rattle.std.specs.List.{list_any}
@@ -16,7 +16,7 @@ use Rattle.lt_model.specs.declared.cell.Content.TheVariants as content
 use Rattle.lt_model.specs.declared.run.End.{End}
 use Rattle.lt_model.specs.declared.run.End.TheVariants.{Returned, Stopped, Undefined, NoInput, Steps, Deep, Cells}
 use Rattle.lt_model.specs.Operators.{truth, value_of}
-use Rattle.lt_model.specs.Memory.{Block, Memory, then_result, load, store, create}
+use Rattle.lt_model.specs.Memory.{Block, then_result, load, store, create}
 use Rattle.lt_model.specs.State.{At, Bound, Made, Answer, Gives, Ends, bind}
 use Rattle.lt_tree.specs.declared.expression.UnaryOp.TheVariants.{Minus, Not}
 use Rattle.lt_tree.specs.Tree.{Tree, Named, Number, Unary, Binary, Label, Test, Statement, Compound, Assigns, If, IfElse, While, Return, Items, no_items, a_statement, a_mark, Program}

@@ -7,7 +7,6 @@ use Rattle.lt_tree.specs.declared.expression.Expr.{Expr}
 use Rattle.lt_tree.specs.declared.expression.Expr.TheVariants as expr
 use Rattle.lt_tree.specs.declared.expression.Mark.{Mark}
 use Rattle.lt_tree.specs.declared.expression.Marked.{Marked}
-use Rattle.lt_tree.specs.declared.expression.Assign.{Assign}
 use Rattle.lt_tree.specs.declared.statement.Stmt.{Stmt}
 use Rattle.lt_tree.specs.declared.statement.Stmt as stmt
 use Rattle.lt_tree.specs.declared.statement.Item.{Item}

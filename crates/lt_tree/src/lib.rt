@@ -2,6 +2,7 @@
 #![tactic(auto)]
 
 mod expression;
+pub mod makes;
 mod statement;
 mod stop;
 

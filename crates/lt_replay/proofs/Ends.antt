@@ -1,0 +1,76 @@
+-- A run of a small function returns, meets undefined behaviour or runs out of ticks; it ends in no other way.
+use Rattle.std.proofs.Common.{ℕ, zero, suc, ℤ, List, [], ◌∷◌, Bool, true, false, Ok, Err, Result}
+use Rattle.lt_model.specs.declared.run.End.{End}
+use Rattle.lt_model.specs.declared.run.End.TheVariants.{Returned, Stopped, Undefined, NoInput, Steps, Deep, Cells}
+use Rattle.lt_model.specs.declared.operator.Ub.{Ub}
+use Rattle.lt_model.specs.declared.scalar.DataModel.TheVariants.{Lp64}
+use Rattle.lt_model.specs.declared.cell.Content.TheVariants as content
+use Rattle.lt_model.specs.Memory.{Memory, store}
+use Rattle.lt_model.specs.State.{At, Answer, Gives, Ends, bind}
+use Rattle.lt_tree.specs.Tree.{Test, Statement, Compound, Assigns, If, IfElse, While, Return, Items, no_items, a_statement, a_mark, Program}
+use Rattle.lt_tree.specs.SmallMeaning.{Flow, Next, Returns, after, answered, spent, tick, tested, choose, stored, turns, exec, exec_items, over, run, Over, marked, marked_all, value, object_of, int}
+
+-- an end of a small function
+abbrev pub IsSmallEnd : End → Type 0
+IsSmallEnd Returned = Unit {0}
+IsSmallEnd (Undefined kind) = Unit {0}
+IsSmallEnd Steps = Unit {0}
+IsSmallEnd _ = ⊥
+
+abbrev pub EndsSmall : {A : Type 0} → Answer A → Type 0
+EndsSmall (Gives a at) = Unit {0}
+EndsSmall (Ends end at) = IsSmallEnd end
+
+bind_small : {A B : Type 0} (x : Answer A) (go : A → At → Answer B) → EndsSmall x → ((a : A) (at : At) → EndsSmall (go a at)) → EndsSmall (bind x go)
+bind_small (Gives a at) go h k = k a at
+bind_small (Ends end at) go h k = h
+
+answered_small : {A : Type 0} (r : Result A Ub) (at : At) → EndsSmall (answered r at)
+answered_small (Ok a) at = tt
+answered_small (Err kind) at = tt
+
+spent_small : {A : Type 0} (n : ℕ) (go : At → Answer A) (at : At) → ((at : At) → EndsSmall (go at)) → EndsSmall (spent n go at)
+spent_small zero go at h = tt
+spent_small (suc n) go at h = h (record at { ticks = n })
+
+after_small : (flow : Flow) (go : At → Answer Flow) (at : At) → ((at : At) → EndsSmall (go at)) → EndsSmall (after flow go at)
+after_small Next go at h = h at
+after_small (Returns z) go at h = tt
+
+choose_small : (b : Bool) (go other : At → Answer Flow) (at : At) → ((at : At) → EndsSmall (go at)) → ((at : At) → EndsSmall (other at)) → EndsSmall (choose b go other at)
+choose_small true go other at h k = h at
+choose_small false go other at h k = k at
+
+tested_small : (test : Test) (at : At) → EndsSmall (tested test at)
+tested_small test at = bind_small (answered (value (marked_all test.labels at) test.value) (marked_all test.labels at)) _ (answered_small _ _) (λ z at1. tt)
+
+stored_small : (name : List ℕ) (z : ℤ) (at : At) → EndsSmall (stored name z at)
+stored_small name z at = bind_small {A = Memory} (answered (store Lp64 at.memory (object_of at.scope name) int (content.Number z)) at) (λ memory at1. Gives Next (record at1 { memory = memory })) (answered_small _ at) (λ memory at1. tt)
+
+turns_small : (n : ℕ) (test : Test) (body : At → Answer Flow) (at : At) → ((at : At) → EndsSmall (body at)) → EndsSmall (turns n test body at)
+turns_small zero test body at h = tt
+turns_small (suc n) test body at h =
+    spent_small at.ticks _ at (λ at1. bind_small (tested test at1) _ (tested_small test at1) (λ goes_on at2.
+    choose_small goes_on _ _ at2 (λ at3. bind_small (body at3) _ (h at3) (λ flow at4. after_small flow (turns n test body) at4 (λ at5. turns_small n test body at5 h))) (λ at3. tt)))
+
+mutual
+  exec_small : (s : Statement) (at : At) → EndsSmall (exec s at)
+  exec_small (Compound items) at = exec_items_small items at
+  exec_small (Assigns target e) at = spent_small at.ticks _ at (λ at1. bind_small _ _ (answered_small (value at1 e) at1) (λ z at2. stored_small target z at2))
+  exec_small (If test body) at = spent_small at.ticks _ at (λ at1. bind_small _ _ (tested_small test at1) (λ b at2. choose_small b _ _ at2 (exec_small body) (λ at3. tt)))
+  exec_small (IfElse test body other) at = spent_small at.ticks _ at (λ at1. bind_small _ _ (tested_small test at1) (λ b at2. choose_small b _ _ at2 (exec_small body) (exec_small other)))
+  exec_small (While test body) at = spent_small at.ticks _ at (λ at1. turns_small at1.ticks test (exec body) at1 (exec_small body))
+  exec_small (Return e) at = spent_small at.ticks _ at (λ at1. bind_small _ _ (answered_small (value at1 e) at1) (λ z at2. tt))
+
+  exec_items_small : (items : Items) (at : At) → EndsSmall (exec_items items at)
+  exec_items_small no_items at = tt
+  exec_items_small (a_statement first rest) at = bind_small _ _ (exec_small first at) (λ flow at1. after_small flow (exec_items rest) at1 (exec_items_small rest))
+  exec_items_small (a_mark label rest) at = exec_items_small rest (marked label at)
+
+over_small : (x : Answer Flow) → EndsSmall x → IsSmallEnd (over x).end
+over_small (Gives flow at) h = tt
+over_small (Ends end at) h = h
+
+-- how a run of a small function is over
+pub run_small : (f : Program) (values : List ℤ) (ticks : ℕ) → IsSmallEnd (run f values ticks).end
+run_small f values ticks = over_small _ (exec_items_small f.items _)

@@ -1,0 +1,14 @@
+pub mod CodeRows
+pub mod Turns
+pub mod HitLemmas
+pub mod MemoryLemmas
+pub mod Simulation
+pub mod Beginning
+pub mod ResolveLemmas
+pub mod NameLemmas
+pub mod IdLemmas
+pub mod FitLemmas
+pub mod SortLemmas
+pub mod MeasureLemmas
+pub mod Ends
+pub mod Plain

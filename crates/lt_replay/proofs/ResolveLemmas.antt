@@ -1,0 +1,84 @@
+-- Reading the parts of a function one after another, as the loops do.
+use Rattle.std.proofs.Common.{◌≡◌, ℕ, suc, ◌+◌, Bool, true, false, List, [], ◌∷◌, ◌++◌, length, refl, sym, ap, ◌∙◌, arith, length-append, append_assoc, drop, get_or, drop-cons, ◌<◌}
+use Rattle.std.specs.Prelude.{map, ◌&&◌}
+use Rattle.std.specs.Global.{Vec}
+use Rattle.std.proofs.lemmas.List.{length-map, map-append}
+use Rattle.lt_tree.specs.declared.statement.Item.{Item}
+use Rattle.lt_tree.specs.declared.statement.Item as item
+use Rattle.lt_tree.specs.declared.statement.Stmt.{Stmt}
+use Rattle.lt_tree.specs.declared.statement.Stmt as stmt
+use Rattle.lt_tree.specs.declared.statement.Stmt.TheVariants as variant
+use mathlib.Core.Former.{Count}
+use Rattle.lt_tree.specs.Tree.{Label, Statement, Items, Compound, Test, If as if_only, IfElse, a_statement, a_mark, labels_in, labels_in_statement, statement_of, items_of, items_in, label_of}
+use Rattle.lt_replay.specs.declared.code.Command.{Command}
+use Rattle.lt_replay.specs.Code.{Spot, Check, Step, Steps, Block, If, Mark, end, then_steps, step_of, steps_in}
+use Rattle.lt_replay.specs.Resolving.{numbered_label, numbered_test, numbered_statement, numbered_items, ids_of}
+
+-- commands before others
+abbrev pub before : List Command → Steps → Steps
+before [] rest = rest
+before (command ∷ commands) rest = then_steps (step_of command) (before commands rest)
+
+pub before_end : (commands : List Command) → before commands end ≡ steps_in commands
+before_end [] = refl
+before_end (command ∷ commands) = ap (then_steps (step_of command)) (before_end commands)
+
+before_push : (commands : List Command) (command : Command) (rest : Steps) → before (commands ++ command ∷ []) rest ≡ before commands (then_steps (step_of command) rest)
+before_push [] command rest = refl
+before_push (c ∷ commands) command rest = ap (then_steps (step_of c)) (before_push commands command rest)
+
+more_ids : (ids : List ℕ) (labels : List Label) → length (ids ++ ids_of labels) ≡ length ids + length labels
+more_ids ids labels = omega (arith, length-append ids (ids_of labels), length-map labels (λ (label : Label). label.id))
+
+pub statement_goes : (find : List ℕ → ℕ) (commands : List Command) (command : Command) (ids new : List ℕ) (first : Statement) (rest : Items) → step_of command ≡ numbered_statement find (length ids) first → new ≡ ids ++ ids_of (labels_in_statement first)
+    → before (commands ++ command ∷ []) (numbered_items find (length new) rest) ≡ before commands (numbered_items find (length ids) (a_statement first rest))
+statement_goes find commands command ids new first rest is new_is =
+    let count : length new ≡ length ids + length (labels_in_statement first) = ap length new_is ∙ more_ids ids (labels_in_statement first) in
+    before_push commands command (numbered_items find (length new) rest) ∙ ap (λ (s : Step). before commands (then_steps s (numbered_items find (length new) rest))) is ∙ ap (λ n. before commands (then_steps (numbered_statement find (length ids) first) (numbered_items find n rest))) count
+
+pub mark_goes : (find : List ℕ → ℕ) (commands : List Command) (command : Command) (ids new : List ℕ) (label : Label) (rest : Items) → step_of command ≡ Mark (numbered_label find (length ids) label) → new ≡ ids ++ label.id ∷ []
+    → before (commands ++ command ∷ []) (numbered_items find (length new) rest) ≡ before commands (numbered_items find (length ids) (a_mark label rest))
+mark_goes find commands command ids new label rest is new_is =
+    let count : length new ≡ suc (length ids) = ap length new_is ∙ omega (arith, length-append ids (label.id ∷ [])) in
+    before_push commands command (numbered_items find (length new) rest) ∙ ap (λ (s : Step). before commands (then_steps s (numbered_items find (length new) rest))) is ∙ ap (λ n. before commands (then_steps (Mark (numbered_label find (length ids) label)) (numbered_items find n rest))) count
+
+pub ids_go : (ids : List ℕ) (xs ys : List Label) → (ids ++ ids_of xs) ++ ids_of ys ≡ ids ++ ids_of (xs ++ ys)
+ids_go ids xs ys = append_assoc ids (ids_of xs) (ids_of ys) ∙ ap (λ more. ids ++ more) (sym (map-append (λ (label : Label). label.id) xs ys))
+
+row_is : (m : _) (row : stmt.Row_of-Item m) → items_of row ≡ items_in (stmt.items-the_row-Item m row)
+row_is m stmt.end_of-Item = refl
+row_is m (stmt.more_of-Item (item.Statement first) rest) = ap (a_statement (statement_of first)) (row_is _ rest)
+row_is m (stmt.more_of-Item (item.Mark label) rest) = ap (a_mark (label_of label)) (row_is _ rest)
+
+abbrev row_in : Stmt → (n : Count) × stmt.Row_of-Item n
+row_in (stmt.Compound' shape row) = (_, row)
+row_in _ = (_, stmt.end_of-Item)
+
+-- the items of a block, as a list
+pub compound_is : (all : Vec Item) → statement_of (variant.Compound all) ≡ Compound (items_in all.items)
+compound_is all =
+    let row = row_in (variant.Compound all) in
+    ap Compound (row_is row.0 row.1 ∙ ap items_in (stmt.items_hidden-the_row-Item-0 all))
+
+pub next_item : (items : List Item) (i : ℕ) (x : Item) → i < length items → x ≡ get_or items i x → items_in (drop i items) ≡ items_in (x ∷ drop (i + 1) items)
+next_item items i x within is =
+    let more : suc i ≡ i + 1 = omega arith in
+    ap items_in (drop-cons items i x within ∙ ap (λ y. y ∷ drop (suc i) items) (sym is)) ∙ ap (λ k. items_in (x ∷ drop k items)) more
+
+pub both_true : {a b : Bool} → a ≡ true → b ≡ true → (a && b) ≡ true
+both_true {a} {b} p q = ap (λ x. x && b) p ∙ q
+
+pub if_is : (find : List ℕ → ℕ) (ids new : List ℕ) (test : Test) (body : Statement) (check : Check) (b o : Step) → check ≡ numbered_test find (length ids) test → new ≡ ids ++ ids_of test.labels → b ≡ numbered_statement find (length new) body → o ≡ Block end
+    → If check b o ≡ numbered_statement find (length ids) (if_only test body)
+if_is find ids new test body check b o check_is new_is b_is o_is =
+    let count : length new ≡ length ids + length test.labels = ap length new_is ∙ more_ids ids test.labels in
+    ap (λ (c : Check). If c b o) check_is ∙ ap (λ (x : Step). If (numbered_test find (length ids) test) x o) (b_is ∙ ap (λ n. numbered_statement find n body) count)
+    ∙ ap (λ (x : Step). If (numbered_test find (length ids) test) (numbered_statement find (length ids + length test.labels) body) x) o_is
+
+pub else_is : (find : List ℕ → ℕ) (ids new newer : List ℕ) (test : Test) (body other : Statement) (check : Check) (b o : Step) → check ≡ numbered_test find (length ids) test → new ≡ ids ++ ids_of test.labels → b ≡ numbered_statement find (length new) body → newer ≡ new ++ ids_of (labels_in_statement body) → o ≡ numbered_statement find (length newer) other
+    → If check b o ≡ numbered_statement find (length ids) (IfElse test body other)
+else_is find ids new newer test body other check b o check_is new_is b_is newer_is o_is =
+    let count : length new ≡ length ids + length test.labels = ap length new_is ∙ more_ids ids test.labels in
+    let counts : length newer ≡ length ids + length test.labels + length (labels_in_statement body) = ap length newer_is ∙ more_ids new (labels_in_statement body) ∙ ap (λ n. n + length (labels_in_statement body)) count in
+    ap (λ (c : Check). If c b o) check_is ∙ ap (λ (x : Step). If (numbered_test find (length ids) test) x o) (b_is ∙ ap (λ n. numbered_statement find n body) count)
+    ∙ ap (λ (x : Step). If (numbered_test find (length ids) test) (numbered_statement find (length ids + length test.labels) body) x) (o_is ∙ ap (λ n. numbered_statement find n other) counts)

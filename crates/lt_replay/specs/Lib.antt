@@ -1,0 +1,9 @@
+pub mod Form
+pub mod Coverage
+pub mod Code
+pub mod Hits
+pub mod Running
+pub mod Resolving
+pub mod Numbers
+pub mod Measuring
+pub mod First

@@ -1,0 +1,141 @@
+-- The code of a function: each variable and each label is a number, the variables in the order in which they are declared and
+-- the labels in the order of the text.
+use Rattle.std.specs.Prelude.{◌≡◌, ℕ, zero, suc, ◌+◌, ℤ, pos, List, [], ◌∷◌, ◌++◌, length, map, replicate, Bool, true, false, ◌&&◌, Option, Some, None, Result, Ok, Err, slice_get, slice_index_or}
+use Rattle.lt_model.specs.declared.cell.Address.{Address}
+use Rattle.lt_model.specs.declared.run.End.{End}
+use Rattle.lt_model.specs.declared.run.End.TheVariants as E
+use Rattle.lt_model.specs.State.{Bound}
+use Rattle.lt_tree.specs.Tree.{Tree, Named, Number, Unary as unary, Binary as binary, Label, Test, Statement, Compound, Assigns, If as if_only, IfElse, While as while_loop, Return as return_of, Items, no_items, a_statement, a_mark, Program, labels_in, labels_in_statement, names_in}
+use Rattle.lt_tree.specs.SmallMeaning.{object_of, run, has_true}
+use Rattle.lt_replay.specs.declared.code.Code.{Code}
+use Rattle.lt_tree.specs.declared.stop.Stop.{Stop}
+use Rattle.lt_tree.specs.declared.stop.Stop.TheVariants.{NotOfForm, NoMemory}
+use Rattle.lt_replay.specs.declared.running.Flow.{Flow}
+use Rattle.lt_replay.specs.declared.running.Flow.TheVariants.{Next, Returned, Undefined, Steps as NoTicks}
+use Rattle.lt_replay.specs.Form.{variables, ids_in, NamesFit, IdsFit}
+use Rattle.lt_replay.specs.Code.{Formula, Variable, Constant, Unary, Binary, Spot, Check, Step, Steps, Block, Assign, If, While, Return, Mark, end, then_steps, steps_in}
+
+-- names in scope, with numbers from n
+abbrev pub bound_from : List Bound → ℕ → List (List ℕ) → List Bound
+bound_from scope n [] = scope
+bound_from scope n (name ∷ names) = bound_from (record { name = name; block = n } ∷ scope) (suc n) names
+
+abbrev pub scope_of : Program → List Bound
+scope_of f = bound_from [] 0 (variables f)
+
+abbrev pub number_of : Option Address → ℕ
+number_of None = 0
+number_of (Some at) = at.block
+
+-- the number of a name in scope, and 0 for another
+abbrev pub place_in : List Bound → List ℕ → ℕ
+place_in scope name = number_of (object_of scope name)
+
+-- an expression with these numbers for its names
+abbrev pub numbered : (List ℕ → ℕ) → Tree → Formula
+numbered find (Named name) = Variable (find name)
+numbered find (Number z) = Constant z
+numbered find (unary op e) = Unary op (numbered find e)
+numbered find (binary op left right) = Binary op (numbered find left) (numbered find right)
+
+abbrev pub numbered_label : (List ℕ → ℕ) → ℕ → Label → Spot
+numbered_label find n label = record { predicate = numbered find label.predicate; label = n }
+
+-- labels with numbers from n
+abbrev pub numbered_labels : (List ℕ → ℕ) → ℕ → List Label → List Spot
+numbered_labels find n [] = []
+numbered_labels find n (label ∷ labels) = numbered_label find n label ∷ numbered_labels find (suc n) labels
+
+abbrev pub numbered_test : (List ℕ → ℕ) → ℕ → Test → Check
+numbered_test find n test = record { spots = numbered_labels find n test.labels; value = numbered find test.value }
+
+abbrev mutual
+  -- a statement whose labels have numbers from n
+  pub numbered_statement : (List ℕ → ℕ) → ℕ → Statement → Step
+  numbered_statement find n (Compound items) = Block (numbered_items find n items)
+  numbered_statement find n (Assigns target e) = Assign (find target) (numbered find e)
+  numbered_statement find n (if_only test body) = If (numbered_test find n test) (numbered_statement find (n + length test.labels) body) (Block end)
+  numbered_statement find n (IfElse test body other) =
+      If (numbered_test find n test) (numbered_statement find (n + length test.labels) body) (numbered_statement find (n + length test.labels + length (labels_in_statement body)) other)
+  numbered_statement find n (while_loop test body) = While (numbered_test find n test) (numbered_statement find (n + length test.labels) body)
+  numbered_statement find n (return_of e) = Return (numbered find e)
+
+  pub numbered_items : (List ℕ → ℕ) → ℕ → Items → Steps
+  numbered_items find n no_items = end
+  numbered_items find n (a_statement first rest) = then_steps (numbered_statement find n first) (numbered_items find (n + length (labels_in_statement first)) rest)
+  numbered_items find n (a_mark label rest) = then_steps (Mark (numbered_label find n label)) (numbered_items find (suc n) rest)
+
+abbrev pub ids_of : List Label → List ℕ
+ids_of labels = map (λ (label : Label). label.id) labels
+
+-- whether each name of an expression passes
+abbrev pub fits : (List ℕ → Bool) → Tree → Bool
+fits has (Named name) = has name
+fits has (Number z) = true
+fits has (unary op e) = fits has e
+fits has (binary op left right) = fits has left && fits has right
+
+abbrev pub fits_labels : (List ℕ → Bool) → List Label → Bool
+fits_labels has [] = true
+fits_labels has (label ∷ labels) = fits has label.predicate && fits_labels has labels
+
+abbrev pub fits_test : (List ℕ → Bool) → Test → Bool
+fits_test has test = fits_labels has test.labels && fits has test.value
+
+abbrev mutual
+  pub fits_statement : (List ℕ → Bool) → Statement → Bool
+  fits_statement has (Compound items) = fits_items has items
+  fits_statement has (Assigns target e) = has target && fits has e
+  fits_statement has (if_only test body) = fits_test has test && fits_statement has body
+  fits_statement has (IfElse test body other) = fits_test has test && (fits_statement has body && fits_statement has other)
+  fits_statement has (while_loop test body) = fits_test has test && fits_statement has body
+  fits_statement has (return_of e) = fits has e
+
+  pub fits_items : (List ℕ → Bool) → Items → Bool
+  fits_items has no_items = true
+  fits_items has (a_statement first rest) = fits_statement has first && fits_items has rest
+  fits_items has (a_mark label rest) = fits has label.predicate && fits_items has rest
+
+-- what reading a part gives: where it fits, its code
+abbrev pub Gives : {X : Type 0} → Bool → (X → Type 0) → Result X Stop → Type 0
+Gives fit Is (Ok x) = (fit ≡ true) × Is x
+Gives fit Is (Err NotOfForm) = fit ≡ false
+Gives fit Is (Err NoMemory) = Unit {0}
+
+-- The code is that of the function, whose names and labels are as they must be.
+pub record IsCodeOf (f : Program) (code : Code) : Type 0 where
+  pub names : NamesFit f
+  pub ids : IdsFit f
+  pub params : code.params ≡ length f.params
+  pub locals : code.locals ≡ length f.locals
+  pub labels : code.labels ≡ length (labels_in f.items)
+  pub items : steps_in code.items.items ≡ numbered_items (place_in (scope_of f)) 0 f.items
+
+-- The code of a function, or what the function lacks.
+abbrev pub IsResolved : Program → Result Code Stop → Type 0
+IsResolved f (Ok code) = IsCodeOf f code
+IsResolved f (Err NotOfForm) = NamesFit f → IdsFit f → ⊥
+IsResolved f (Err NoMemory) = Unit {0}
+
+-- the parameters have the values that they are given, and 0 where none is left
+abbrev pub given : ℕ → List ℤ → List (Option ℤ)
+given zero values = []
+given (suc n) [] = Some (pos 0) ∷ given n []
+given (suc n) (z ∷ values) = Some z ∷ given n values
+
+-- the variables as a run begins
+abbrev pub first_values : ℕ → ℕ → List ℤ → List (Option ℤ)
+first_values params locals values = given params values ++ replicate locals None
+
+-- the end of a run
+abbrev pub end_of : Flow → End
+end_of Next = E.Returned
+end_of Returned = E.Returned
+end_of (Undefined kind) = E.Undefined kind
+end_of NoTicks = E.Steps
+
+-- The run of the function ends so, and makes true marks of just the labels that are flagged.
+pub record IsRunOf (f : Program) (values : List ℤ) (ticks : ℕ) (end : End) (hits : List Bool) : Type 0 where
+  pub ends : end ≡ (run f values ticks).end
+  pub room : length hits ≡ length (ids_in f)
+  pub marked : (number id : ℕ) → slice_get (ids_in f) number ≡ Some id → slice_index_or hits number false ≡ has_true id (run f values ticks).at.marks

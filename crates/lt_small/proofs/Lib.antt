@@ -1,0 +1,15 @@
+pub mod Scanning
+pub mod Chains
+pub mod Loops
+pub mod Escapes
+pub mod Signs
+pub mod Fronts
+pub mod Tokens
+pub mod Cutting
+pub mod Ahead
+pub mod Expressions
+pub mod Marks
+pub mod Statements
+pub mod Functions
+pub mod Whole
+pub mod Tags

@@ -1,0 +1,11 @@
+pub mod Words
+pub mod Strings
+pub mod Pieces
+pub mod Lexing
+pub mod Nest
+pub mod Grammar
+pub mod Parsed
+pub mod Gives
+pub mod Scan
+pub mod Reading
+pub mod Depths
