@@ -175,3 +175,7 @@ due_once files plan s t (replayed q h) d = at_replayed t q h d
 pub exactly : (files : Files) (plan : Plan) (status s : Status) → IsOutside status ⊎ IsDue files plan status → IsDue files plan s → IsOutside status ⊎ (status ≡ s)
 exactly files plan status s (inl o) d = inl o
 exactly files plan status s (inr h) d = inr (due_once files plan s status d h)
+
+-- what the words ask for is one plan
+pub same_plan : (x y : Plan) (w : Option Plan) → Some x ≡ w → w ≡ Some y → x ≡ y
+same_plan x y w p q = cc
