@@ -1,19 +1,19 @@
 -- Where a run begins, and what is known when it is over.
-use Rattle.std.proofs.Common.{◌≡◌, ◌≢◌, ℕ, zero, suc, ◌+◌, ◌-◌, ◌<◌, ℤ, pos, Bool, true, false, List, [], ◌∷◌, ◌++◌, length, get_or, drop, replicate, Option, Some, None, refl, sym, ap, ◌∙◌, subst, arith, length-append, append_assoc}
-use Rattle.std.specs.Prelude.{IsSome, map, slice_get, slice_index_or, if◌then◌else◌, AllPairs, All, Contains, is_some}
+use Rattle.std.proofs.Common.{◌≡◌, ℕ, zero, suc, ◌+◌, ◌-◌, ◌<◌, ℤ, pos, true, false, List, [], ◌∷◌, ◌++◌, length, get_or, drop, replicate, Some, None, refl, sym, ap, ◌∙◌, subst, arith, length-append, append_assoc}
+use Rattle.std.specs.Prelude.{IsSome, map, slice_get, if◌then◌else◌, All, Contains, is_some}
 use Rattle.std.specs.Str.{bytes_eq}
 use Rattle.std.proofs.lemmas.Slice.Eq.{bytes_eq-Decides}
 use Rattle.std.proofs.lemmas.List.{append-nil, map-append, length-map, length-replicate}
 use Rattle.std.proofs.lemmas.List.Elements.{All-head, All-tail, All-weaker}
 use Rattle.lt_model.specs.Memory.{Memory}
-use Rattle.lt_model.specs.State.{At, Bound, Answer, Gives, Ends}
+use Rattle.lt_model.specs.State.{At, Bound, Answer}
 use Rattle.lt_model.specs.declared.cell.Content.TheVariants as content
 use Rattle.lt_tree.specs.Tree.{Label, Program, labels_in, names_in}
 use Rattle.lt_tree.specs.SmallMeaning as M
 use Rattle.lt_tree.specs.SmallMeaning.{object_of, with_params, with_locals, run, has_true, over}
 use Rattle.lt_replay.specs.declared.code.Code.{Code}
 use Rattle.lt_replay.specs.Code.{steps_in}
-use Rattle.lt_replay.specs.Form.{variables, ids_in, NamesFit, IdsFit}
+use Rattle.lt_replay.specs.Form.{variables, ids_in}
 use Rattle.lt_replay.specs.Running.{State, After, steps}
 use Rattle.lt_replay.specs.Resolving.{bound_from, scope_of, place_in, numbered_items, given, first_values, end_of, IsCodeOf, IsRunOf}
 use Rattle.lt_replay.proofs.MemoryLemmas.{object, memory_of}

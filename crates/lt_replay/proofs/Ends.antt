@@ -1,14 +1,14 @@
 -- A run of a small function returns, meets undefined behaviour or runs out of ticks; it ends in no other way.
-use Rattle.std.proofs.Common.{ℕ, zero, suc, ℤ, List, [], ◌∷◌, Bool, true, false, Ok, Err, Result}
+use Rattle.std.proofs.Common.{ℕ, zero, suc, ℤ, List, Bool, true, false, Ok, Err, Result}
 use Rattle.lt_model.specs.declared.run.End.{End}
-use Rattle.lt_model.specs.declared.run.End.TheVariants.{Returned, Stopped, Undefined, NoInput, Steps, Deep, Cells}
+use Rattle.lt_model.specs.declared.run.End.TheVariants.{Returned, Undefined, Steps}
 use Rattle.lt_model.specs.declared.operator.Ub.{Ub}
 use Rattle.lt_model.specs.declared.scalar.DataModel.TheVariants.{Lp64}
 use Rattle.lt_model.specs.declared.cell.Content.TheVariants as content
 use Rattle.lt_model.specs.Memory.{Memory, store}
 use Rattle.lt_model.specs.State.{At, Answer, Gives, Ends, bind}
 use Rattle.lt_tree.specs.Tree.{Test, Statement, Compound, Assigns, If, IfElse, While, Return, Items, no_items, a_statement, a_mark, Program}
-use Rattle.lt_tree.specs.SmallMeaning.{Flow, Next, Returns, after, answered, spent, tick, tested, choose, stored, turns, exec, exec_items, over, run, Over, marked, marked_all, value, object_of, int}
+use Rattle.lt_tree.specs.SmallMeaning.{Flow, Next, Returns, after, answered, spent, tested, choose, stored, turns, exec, exec_items, over, run, marked, marked_all, value, object_of, int}
 
 -- an end of a small function
 abbrev pub IsSmallEnd : End → Type 0

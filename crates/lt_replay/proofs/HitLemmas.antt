@@ -1,13 +1,11 @@
 -- A set of labels by stamps: what keeps it, and what its flags say.
-use Rattle.std.proofs.Common.{◌≡◌, ◌≢◌, ℕ, zero, suc, ◌+◌, ◌<◌, ◌≤◌, Bool, true, false, cond, eqb, List, [], ◌∷◌, ◌++◌, length, get_or, set, take, replicate, Option, Some, None, refl, sym, ap, ◌∙◌, subst, inl, inr, ⊎_elim, arith, eq-eqb}
-use Rattle.std.specs.Prelude.{◌==◌, map, count_by, slice_get, option_map, All, Contains}
-use Rattle.std.proofs.lemmas.Bool.{cases_eq, ne_eqb, eqb-false}
+use Rattle.std.proofs.Common.{◌≡◌, ℕ, zero, suc, ◌+◌, ◌<◌, ◌≤◌, true, false, cond, List, [], ◌∷◌, ◌++◌, length, get_or, set, take, replicate, Some, refl, sym, ap, ◌∙◌, subst, ⊎_elim, arith, eq-eqb}
+use Rattle.std.specs.Prelude.{◌==◌, map, count_by, slice_get, All, Contains}
+use Rattle.std.proofs.lemmas.Bool.{cases_eq, ne_eqb}
 use Rattle.std.proofs.lemmas.Bool.Decides.{nat_tests}
 use Rattle.std.proofs.lemmas.List.{length-set, get_or-set_other, get_or-set_same, take_more_set, map-set}
 use Rattle.std.proofs.lemmas.List.Sums.{sum_by-cons, sum_by-set, count_by-le-length}
 use Rattle.std.proofs.lemmas.List.Elements.{All-set, All-head, All-tail, All-push, All-weaker, All-contains, Contains-push, Contains-append_left}
-use Rattle.std.proofs.lemmas.Option.{slice_get-map, slice_get_within, slice_get-get_or}
-use Rattle.std.proofs.Math.ListN.{get_or-eq_default}
 use Rattle.lt_replay.specs.Hits.{IsKept}
 
 counts_more : (stamps : List ℕ) (stamp label : ℕ) → label < length stamps → (get_or stamps label 0 == stamp) ≡ false → count_by (λ s. s == stamp) (set stamps label stamp) ≡ count_by (λ s. s == stamp) stamps + 1

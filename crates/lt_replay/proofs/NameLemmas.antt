@@ -1,6 +1,6 @@
 -- Names with numbers: what declaring one more gives, and when a name stands twice.
-use Rattle.std.proofs.Common.{◌≡◌, ◌≢◌, ℕ, zero, suc, ◌+◌, ◌<◌, ◌≤◌, Bool, true, false, cond, eqb, List, [], ◌∷◌, ◌++◌, length, take, drop, get_or, Option, Some, None, Bor, refl, sym, ap, ◌∙◌, subst, inl, inr, ⊎_elim, arith, length-append, append_assoc, drop-cons}
-use Rattle.std.specs.Prelude.{◌⊎◌, IsSome, is_some, is_none, unwrap_or, MatchBool, option_map, AllPairs, All, Contains, if◌then◌else◌}
+use Rattle.std.proofs.Common.{◌≡◌, ◌≢◌, ℕ, zero, suc, ◌+◌, ◌<◌, Bool, true, false, cond, List, [], ◌∷◌, ◌++◌, length, take, drop, get_or, Option, Some, None, Bor, refl, sym, ap, ◌∙◌, inl, inr, ⊎_elim, arith, length-append}
+use Rattle.std.specs.Prelude.{◌⊎◌, IsSome, is_some, unwrap_or, option_map, AllPairs, Contains, if◌then◌else◌}
 use Rattle.std.specs.Str.{bytes_eq}
 use Rattle.std.specs.Ordering.{nat_cmp}
 use Rattle.std.specs.Cmp.Lexicographic.{slice_cmp}

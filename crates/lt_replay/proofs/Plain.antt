@@ -1,6 +1,6 @@
 -- The names in the table of a small text and its suite stand in the coverage text as they are.
-use Rattle.std.proofs.Common.{◌≡◌, ◌≤◌, ℕ, true, false, Bool, List, [], ◌∷◌, length, Option, Some, None, refl, subst, sym, ap}
-use Rattle.std.specs.Prelude.{All, IsTrue, map, Contains}
+use Rattle.std.proofs.Common.{ℕ, List, [], ◌∷◌, Option, Some, None, subst}
+use Rattle.std.specs.Prelude.{All, map}
 use Rattle.std.specs.List.Sorted.{IsPermutation}
 use Rattle.lt_model.specs.declared.run.End.{End}
 use Rattle.lt_model.specs.declared.run.End.TheVariants.{Returned, Stopped, Undefined, NoInput, Steps, Deep, Cells}
@@ -13,7 +13,6 @@ use Rattle.lt_cover.specs.declared.table.TestRow.{TestRow}
 use Rattle.lt_cover.specs.declared.table.LabelRow.{LabelRow}
 use Rattle.std.proofs.lemmas.List.Elements.{All-nil, All-cons, All-head, All-tail, All-weaker, All-map, All-contains}
 use Rattle.std.proofs.lemmas.List.Sorted.{All-permutation}
-use Rattle.lt_replay.specs.Coverage.{IsLeast}
 use Rattle.lt_replay.proofs.Ends.{IsSmallEnd, run_small}
 
 plain_end : (end : End) → IsSmallEnd end → IsPlainEnd end

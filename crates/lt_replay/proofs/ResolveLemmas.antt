@@ -1,6 +1,6 @@
 -- Reading the parts of a function one after another, as the loops do.
-use Rattle.std.proofs.Common.{◌≡◌, ℕ, suc, ◌+◌, Bool, true, false, List, [], ◌∷◌, ◌++◌, length, refl, sym, ap, ◌∙◌, arith, length-append, append_assoc, drop, get_or, drop-cons, ◌<◌}
-use Rattle.std.specs.Prelude.{map, ◌&&◌}
+use Rattle.std.proofs.Common.{◌≡◌, ℕ, suc, ◌+◌, Bool, true, List, [], ◌∷◌, ◌++◌, length, refl, sym, ap, ◌∙◌, arith, length-append, append_assoc, drop, get_or, drop-cons, ◌<◌}
+use Rattle.std.specs.Prelude.{◌&&◌}
 use Rattle.std.specs.Global.{Vec}
 use Rattle.std.proofs.lemmas.List.{length-map, map-append}
 use Rattle.lt_tree.specs.declared.statement.Item.{Item}
@@ -9,9 +9,9 @@ use Rattle.lt_tree.specs.declared.statement.Stmt.{Stmt}
 use Rattle.lt_tree.specs.declared.statement.Stmt as stmt
 use Rattle.lt_tree.specs.declared.statement.Stmt.TheVariants as variant
 use mathlib.Core.Former.{Count}
-use Rattle.lt_tree.specs.Tree.{Label, Statement, Items, Compound, Test, If as if_only, IfElse, a_statement, a_mark, labels_in, labels_in_statement, statement_of, items_of, items_in, label_of}
+use Rattle.lt_tree.specs.Tree.{Label, Statement, Items, Compound, Test, If as if_only, IfElse, a_statement, a_mark, labels_in_statement, statement_of, items_of, items_in, label_of}
 use Rattle.lt_replay.specs.declared.code.Command.{Command}
-use Rattle.lt_replay.specs.Code.{Spot, Check, Step, Steps, Block, If, Mark, end, then_steps, step_of, steps_in}
+use Rattle.lt_replay.specs.Code.{Check, Step, Steps, Block, If, Mark, end, then_steps, step_of, steps_in}
 use Rattle.lt_replay.specs.Resolving.{numbered_label, numbered_test, numbered_statement, numbered_items, ids_of}
 
 -- commands before others

@@ -1,7 +1,7 @@
 -- Code does what the function does that it is the code of.
-use Rattle.std.proofs.Common.{◌≡◌, ◌≢◌, ℕ, zero, suc, ◌+◌, ◌<◌, ℤ, pos, Bool, true, false, cond, List, [], ◌∷◌, ◌++◌, length, set, get_or, Option, Some, None, Result, Ok, Err, refl, sym, ap, ◌∙◌, subst, inl, inr, ⊎_elim, arith, eq-eqb, length-append, append_assoc}
-use Rattle.std.specs.Prelude.{◌==◌, ◌&&◌, ◌||◌, not, IsSome, map, slice_get, slice_index_or, if◌then◌else◌, AllPairs, All, IsTrue}
-use Rattle.std.specs.List.{list_any, flat_map}
+use Rattle.std.proofs.Common.{◌≡◌, ◌≢◌, ℕ, zero, suc, ◌+◌, ◌<◌, ℤ, pos, Bool, true, false, List, [], ◌∷◌, ◌++◌, length, set, get_or, Option, Some, Result, Ok, Err, refl, sym, ap, ◌∙◌, subst, ⊎_elim, arith, eq-eqb, length-append}
+use Rattle.std.specs.Prelude.{◌==◌, ◌&&◌, ◌||◌, not, IsSome, slice_get, if◌then◌else◌, AllPairs}
+use Rattle.std.specs.List.{flat_map}
 use Rattle.std.specs.Ordering.{int_eq}
 use Rattle.std.proofs.lemmas.Bool.{cases_eq, cases_lt, ne_eqb}
 use Rattle.std.proofs.Math.Bool.{or-false, or-true, or_assoc, and-false}
@@ -23,7 +23,7 @@ use Rattle.lt_tree.specs.Tree.{Tree, Named, Number, Unary as unary, Binary as bi
 use Rattle.lt_tree.specs.SmallMeaning as M
 use Rattle.lt_tree.specs.SmallMeaning.{object_of, number_in, int, holds, has_true, marked, marked_all}
 use Rattle.lt_replay.specs.declared.running.Flow.TheVariants as F
-use Rattle.lt_replay.specs.Code.{Formula, Spot, Check, Step, Steps, Block, end, then_steps}
+use Rattle.lt_replay.specs.Code.{Spot, Block, end}
 use Rattle.lt_replay.specs.Running as R
 use Rattle.lt_replay.specs.Running.{State, After, Run, held, formula_value, hits_after, hits_after_all, with_hits, with_variables, truth_of}
 use Rattle.lt_replay.specs.Resolving.{number_of, place_in, numbered, numbered_labels, numbered_test, numbered_statement, numbered_items}

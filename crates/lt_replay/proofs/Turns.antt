@@ -1,8 +1,8 @@
 -- One turn of a loop.
-use Rattle.std.proofs.Common.{◌≡◌, ℕ, zero, suc, ◌-◌, ◌+◌, ◌<◌, ℤ, Bool, true, false, List, Option, Result, Ok, refl, sym, ap, ◌∙◌, arith}
+use Rattle.std.proofs.Common.{◌≡◌, ℕ, suc, ℤ, Bool, true, List, Option, Ok, sym, ap, ◌∙◌}
 use Rattle.lt_replay.specs.declared.running.Flow.TheVariants.{Next}
 use Rattle.lt_replay.specs.Code.{Check}
-use Rattle.lt_replay.specs.Running.{State, After, Run, ends, spent, with_value, with_hits, then_run, hits_after_all, truth_of, checked, turns}
+use Rattle.lt_replay.specs.Running.{State, After, Run, ends, spent, with_value, then_run, hits_after_all, truth_of, checked, turns}
 use Rattle.std.specs.Prelude.{if◌then◌else◌}
 
 -- where a turn ends normally, the turns go on

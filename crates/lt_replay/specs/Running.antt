@@ -1,5 +1,5 @@
 -- What code does to numbered variables, where the marks are kept as a flag for each label.
-use Rattle.std.specs.Prelude.{ℕ, zero, suc, ℤ, pos, List, [], ◌∷◌, Bool, true, false, not, Option, Some, None, Result, Ok, Err, if◌then◌else◌, slice_get, slice_set}
+use Rattle.std.specs.Prelude.{ℕ, zero, suc, ℤ, pos, List, [], ◌∷◌, Bool, true, not, Option, Some, None, Result, Ok, Err, if◌then◌else◌, slice_get, slice_set}
 use Rattle.std.specs.Ordering.{int_eq}
 use Rattle.lt_model.specs.declared.scalar.DataModel.TheVariants.{Lp64}
 use Rattle.lt_model.specs.declared.scalar.Scalar.TheVariants.{Int}
@@ -10,7 +10,7 @@ use Rattle.lt_model.specs.Scalar.{convert_of}
 use Rattle.lt_model.specs.Operators.{truth, value_of}
 use Rattle.lt_model.specs.Memory.{then_result}
 use Rattle.lt_tree.specs.declared.expression.UnaryOp.TheVariants.{Minus, Not}
-use Rattle.lt_tree.specs.SmallMeaning.{holds, choose}
+use Rattle.lt_tree.specs.SmallMeaning.{holds}
 use Rattle.lt_replay.specs.declared.running.Flow.{Flow}
 use Rattle.lt_replay.specs.declared.running.Flow.TheVariants.{Next, Returned, Undefined, Steps as NoTicks}
 use Rattle.lt_replay.specs.Code.{Formula, Variable, Constant, Unary, Binary, Spot, Check, Step, Steps, Block, Assign, If, While, Return, Mark, end, then_steps}

@@ -1,12 +1,10 @@
-use Rattle.std.proofs.Common.{◌≡◌, ◌++◌, ◌∷◌, [], ℕ, List, Option, length, subst, sym, ap, ◌∙◌}
-use Rattle.lt_model.specs.declared.run.End.{End}
+use Rattle.std.proofs.Common.{◌≡◌, ◌++◌, ◌∷◌, [], length, subst, sym, ap, ◌∙◌}
 use Rattle.std.proofs.lemmas.List.{length-map}
 use Rattle.lt_tree.specs.Tree.{Label, labels_in}
 use Rattle.lt_input.specs.Cases.{case_of}
 use Rattle.lt_replay.specs.Coverage.{most_ticks, row_of_test}
 use Rattle.lt_replay.specs.Resolving.{IsRunOf}
 use Rattle.lt_replay.specs.Measuring.{credited_all, AreFirsts}
-use Rattle.lt_cover.specs.declared.table.TestRow.{TestRow}
 use Rattle.lt_replay.proofs.MeasureLemmas.{noted, not_noted}
 use Rattle.lt_replay.proofs.measuring.run_test.Goals as goal
 use Rattle.lt_replay.proofs.measuring.run_test.Goals.{then-is_ended, else-is_ended}

@@ -1,7 +1,7 @@
-use Rattle.std.proofs.Common.{◌≡◌, ◌++◌, ◌∷◌, [], ◌+◌, ℕ, List, length, take, get_or, subst, sym, ap, ◌∙◌, arith}
+use Rattle.std.proofs.Common.{◌≡◌, ◌++◌, ◌∷◌, [], ◌+◌, length, take, subst, sym, ap, ◌∙◌, arith}
 use Rattle.std.specs.Prelude.{map}
 use Rattle.std.proofs.lemmas.List.{length-map, map-append, take_more, take_all}
-use Rattle.lt_input.specs.Cases.{TestCase, case_of, cases_of}
+use Rattle.lt_input.specs.Cases.{case_of, cases_of}
 use Rattle.lt_replay.specs.Coverage.{row_of_test}
 use Rattle.lt_replay.specs.Measuring.{AreFirsts}
 use Rattle.lt_replay.proofs.measuring.run_tests.Goals as goal

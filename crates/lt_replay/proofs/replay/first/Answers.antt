@@ -1,4 +1,4 @@
-use Rattle.std.proofs.Common.{◌≡◌, refl, sym, inl, inr, subst, rules}
+use Rattle.std.proofs.Common.{◌≡◌, refl, inl, inr, subst}
 use Rattle.lt_tree.specs.Tree.{Program, program_of}
 use Rattle.lt_input.specs.Cases.{cases_of}
 use Rattle.lt_input.specs.Suite.{IsSuite}
@@ -20,9 +20,12 @@ returns-in-Err-NotOfForm-clause-stops c =
 pub returns-in-Err-NotOfForm-resolve-clause-stops : goal.returns-in-Err-NotOfForm-resolve-clause-stops
 returns-in-Err-NotOfForm-resolve-clause-stops c =
     let none = rw c.in-Err-NotOfForm-resolve.field-0-is at c.in-Err-NotOfForm-resolve.ensures in
-    inl (refl, λ g small.
-      let same : g ≡ program_of c.in-Ok.f = c.one_function.ensures c.args.text.now g (program_of c.in-Ok.f) small.parsed c.in-Ok.ensures in
-      none (subst NamesFit same small.names) (subst IdsFit same small.ids))
+    inl (
+      refl,
+      λ g small.
+          let same : g ≡ program_of c.in-Ok.f = c.one_function.ensures c.args.text.now g (program_of c.in-Ok.f) small.parsed c.in-Ok.ensures in
+          none (subst NamesFit same small.names) (subst IdsFit same small.ids),
+    )
 
 pub returns-in-Err-NotOfForm-suite_of-clause-stops : goal.returns-in-Err-NotOfForm-suite_of-clause-stops
 returns-in-Err-NotOfForm-suite_of-clause-stops c =

@@ -1,11 +1,11 @@
-use Rattle.std.proofs.Common.{◌≡◌, ◌++◌, ◌∷◌, [], ◌+◌, ℕ, suc, length, OnOk, true, Bool, List, drop, get_or, arith, rules, refl, sym, ap, ◌∙◌, append_assoc}
+use Rattle.std.proofs.Common.{◌≡◌, ◌++◌, ◌∷◌, [], ◌+◌, length, true, drop, rules, sym, ap, ◌∙◌, append_assoc}
 use Rattle.std.proofs.lemmas.List.{drop_all}
-use Rattle.std.specs.Prelude.{map, ◌&&◌}
+use Rattle.std.specs.Prelude.{◌&&◌}
 use Rattle.lt_tree.specs.declared.statement.Stmt.TheVariants as variant
-use Rattle.lt_tree.specs.Tree.{Assigns, Compound, If as if_only, IfElse, a_statement, a_mark, tree_of, label_of, test_of, statement_of, items_in, labels_in, labels_in_statement}
-use Rattle.lt_replay.specs.Code.{Step, Block, Mark, end, formula_of, spot_of, check_of, step_of, steps_in}
-use Rattle.lt_replay.specs.Resolving.{numbered, numbered_label, numbered_labels, numbered_test, numbered_statement, numbered_items, ids_of, fits, fits_labels, fits_test, fits_statement, fits_items, Gives}
-use Rattle.lt_replay.specs.Numbers.{found, number_by, has_name}
+use Rattle.lt_tree.specs.Tree.{Compound, If as if_only, IfElse, a_statement, a_mark, label_of, test_of, statement_of, items_in, labels_in, labels_in_statement}
+use Rattle.lt_replay.specs.Code.{Block, Mark, end, check_of, step_of, steps_in}
+use Rattle.lt_replay.specs.Resolving.{numbered_label, numbered_statement, numbered_items, ids_of, fits_statement, fits_items}
+use Rattle.lt_replay.specs.Numbers.{number_by, has_name}
 use Rattle.lt_replay.proofs.CodeRows.{block_is}
 use Rattle.lt_replay.proofs.ResolveLemmas.{before, before_end, statement_goes, mark_goes, ids_go, compound_is, next_item, both_true, if_is, else_is}
 use Rattle.lt_replay.proofs.resolving.+resolving.Goals as goal

@@ -1,4 +1,4 @@
-use Rattle.std.proofs.Common.{◌≡◌, ◌++◌, ◌∷◌, [], ◌+◌, true, false, subst, sym, ap, ◌∙◌}
+use Rattle.std.proofs.Common.{◌≡◌, ◌++◌, ◌∷◌, [], ◌+◌, subst, sym, ap, ◌∙◌}
 use Rattle.std.specs.Prelude.{Contains, is_some, if◌then◌else◌}
 use Rattle.std.specs.BTreeMap.{btree_map_len}
 use Rattle.lt_replay.specs.Numbers.{IsScope}

@@ -1,6 +1,5 @@
-use Rattle.std.proofs.Common.{◌≡◌, ◌≢◌, ◌++◌, ◌∷◌, [], ◌+◌, take, drop, get_or, subst, sym, ap, ◌∙◌, append_assoc}
-use Rattle.std.specs.Prelude.{MatchBool, Contains, AllPairs}
-use Rattle.lt_replay.specs.Numbers.{IsScope}
+use Rattle.std.proofs.Common.{◌≡◌, ◌≢◌, ◌++◌, ◌∷◌, ◌+◌, take, drop, subst, sym, ap, ◌∙◌, append_assoc}
+use Rattle.std.specs.Prelude.{Contains, AllPairs}
 use Rattle.lt_replay.proofs.NameLemmas.{twice, split_at}
 use Rattle.lt_replay.proofs.resolving.declare_all.Goals as goal
 

@@ -1,4 +1,4 @@
-use Rattle.std.proofs.Common.{◌≡◌, ℕ, List, ◌++◌, take}
+use Rattle.std.proofs.Common.{ℕ, List, ◌++◌, take}
 use Rattle.lt_replay.specs.Numbers.{IsScope}
 use Rattle.lt_replay.proofs.resolving.declare_all.Given as goal
 

@@ -1,10 +1,10 @@
-use Rattle.std.proofs.Common.{◌≡◌, ◌≤◌, ◌+◌, Bool, true, false, length, take, get_or, subst, sym, ap, ◌∙◌, refl, arith, rules}
+use Rattle.std.proofs.Common.{◌≡◌, ◌≤◌, Bool, true, false, get_or, subst, sym, ◌∙◌, refl, arith}
 use Rattle.std.specs.Prelude.{not}
 use Rattle.std.specs.Ordering.{nat_cmp}
 use Rattle.std.specs.BTreeSet.{contains}
 use Rattle.std.proofs.lemmas.List.{take_all}
 use Rattle.lt_replay.specs.Numbers.{FitIds}
-use Rattle.lt_replay.proofs.IdLemmas.{Seen, fit_more, seen_twice}
+use Rattle.lt_replay.proofs.IdLemmas.{fit_more, seen_twice}
 use Rattle.lt_replay.proofs.resolving.ids_fit.Goals as goal
 
 turned : (b : Bool) → not b ≡ false → b ≡ true

@@ -1,14 +1,11 @@
-use Rattle.std.proofs.Common.{◌≡◌, ◌++◌, [], ℕ, List, length, Vec, Global, Result, Ok, Err, true, subst, sym, ap, ◌∙◌, arith, rules}
-use Rattle.std.specs.Prelude.{map}
+use Rattle.std.proofs.Common.{◌≡◌, length, Vec, Global, Err, true, subst, sym, ap, ◌∙◌, arith, rules}
 use Rattle.std.proofs.lemmas.List.{length-map}
 use Rattle.lt_tree.specs.Tree.{Label, program_of, items_in, labels_in}
-use Rattle.lt_replay.specs.declared.code.Code.{Code}
 use Rattle.lt_replay.specs.declared.code.Command.{Command}
-use Rattle.lt_tree.specs.declared.stop.Stop.{Stop}
 use Rattle.lt_replay.specs.Code.{steps_in}
 use Rattle.lt_replay.specs.Form.{ids_in}
 use Rattle.lt_replay.specs.Numbers.{AreNumbered, FitIds, number_by, has_name}
-use Rattle.lt_replay.specs.Resolving.{numbered_items, place_in, scope_of, fits_items, IsResolved, IsCodeOf}
+use Rattle.lt_replay.specs.Resolving.{numbered_items, fits_items, IsResolved}
 use Rattle.lt_replay.proofs.NameLemmas.{numbers_are}
 use Rattle.lt_replay.proofs.FitLemmas.{known_names, stops}
 use Rattle.lt_replay.proofs.resolving.resolve.Goals as goal

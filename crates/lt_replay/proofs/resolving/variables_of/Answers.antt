@@ -1,7 +1,7 @@
-use Rattle.std.proofs.Common.{◌≡◌, ◌≢◌, ◌++◌, ◌∷◌, [], ℕ, List, true, false, subst, sym, ap, ◌∙◌}
-use Rattle.std.specs.Prelude.{MatchBool, Contains, AllPairs, is_some}
+use Rattle.std.proofs.Common.{◌≡◌, [], true, false, sym, ap, ◌∙◌}
+use Rattle.std.specs.Prelude.{is_some}
 use Rattle.lt_tree.specs.Tree.{program_of}
-use Rattle.lt_replay.specs.Numbers.{found, IsScope, AreTwice, AreNumbered}
+use Rattle.lt_replay.specs.Numbers.{found, IsScope, AreTwice}
 use Rattle.lt_replay.specs.Form.{variables}
 use Rattle.lt_replay.proofs.NameLemmas.{empty_scope, front_differ, rest_differ, head_differs, all_differ, found_declared, declared_found}
 use Rattle.lt_replay.proofs.resolving.variables_of.Goals as goal

@@ -1,5 +1,4 @@
 use Rattle.std.proofs.Common.{ap, ◌∙◌, ◌≡◌, ◌+◌, ◌-◌, suc, Ok, true, arith, rules, sym}
-use Rattle.lt_replay.specs.declared.running.Flow.TheVariants.{Next}
 use Rattle.lt_replay.specs.Code.{check_of, step_of}
 use Rattle.lt_replay.specs.Running.{State, step, ends, truth_of}
 use Rattle.lt_replay.proofs.CodeRows.{block_is}

@@ -1,4 +1,4 @@
-use Rattle.std.proofs.Common.{◌≡◌, ◌-◌, ◌+◌, ◌++◌, ◌∷◌, [], List, Option, ℤ, Some, drop, sym, ap, ◌∙◌, append_assoc, rules}
+use Rattle.std.proofs.Common.{◌≡◌, ◌-◌, ◌+◌, ◌++◌, ◌∷◌, [], Some, drop, sym, ap, ◌∙◌, append_assoc, rules}
 use Rattle.lt_replay.specs.Resolving.{given}
 use Rattle.lt_replay.proofs.Beginning.{given_more}
 use Rattle.lt_replay.proofs.running.first_values.Goals as goal

@@ -1,6 +1,5 @@
-use Rattle.std.proofs.Common.{◌≡◌, List, Bool, Option, ℤ, ap, ◌∙◌, sym, replicate, false, length, rules}
-use Rattle.lt_replay.specs.Code.{steps_in}
-use Rattle.lt_replay.specs.Running.{After, State, steps}
+use Rattle.std.proofs.Common.{◌≡◌, ap, ◌∙◌, replicate, false}
+use Rattle.lt_replay.specs.Running.{After}
 use Rattle.lt_replay.specs.Resolving.{first_values}
 use Rattle.lt_replay.proofs.Beginning.{run_is}
 use Rattle.lt_replay.proofs.running.run.Goals as goal

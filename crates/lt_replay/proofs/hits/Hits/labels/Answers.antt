@@ -1,4 +1,4 @@
-use Rattle.std.proofs.Common.{◌≡◌, List, Bool, true, Some, sym, ap, ◌∙◌}
+use Rattle.std.proofs.Common.{List, Bool, sym, ap, ◌∙◌}
 use Rattle.std.specs.Prelude.{slice_get}
 use Rattle.lt_replay.proofs.HitLemmas.{flag_of_listed, listed_of_flag}
 use Rattle.lt_replay.proofs.hits.Hits.labels.Goals as goal

@@ -1,4 +1,4 @@
-use Rattle.std.proofs.Common.{◌≡◌, ◌<◌, ◌==◌, eqb, List, Bool, true, false, length, get_or, set, arith, rules, sym, ap, ◌∙◌, eq-eqb}
+use Rattle.std.proofs.Common.{◌≡◌, ◌<◌, ◌==◌, List, Bool, true, length, get_or, set, arith, rules, sym, ap, ◌∙◌, eq-eqb}
 use Rattle.std.proofs.lemmas.Bool.{ne_eqb}
 use Rattle.std.proofs.lemmas.List.{get_or_read}
 use Rattle.lt_replay.proofs.HitLemmas.{room_left, kept_put, flags_put, flags_same, flags_past}
