@@ -1,5 +1,6 @@
 pub mod Whole
 pub mod Fitting
 pub mod Ranges
+pub mod Values
 pub mod Results
 pub mod Counting

@@ -12,10 +12,8 @@ use Rattle.lt_model.specs.declared.operator.Ub.{Ub}
 use Rattle.lt_model.specs.declared.operator.Ub.TheVariants.{Overflow, Quotient, Shift}
 use Rattle.lt_model.specs.declared.scalar.DataModel.{DataModel}
 use Rattle.lt_model.specs.declared.scalar.Scalar.{Scalar}
+use Rattle.lt_model.proofs.Values.{between_from_test}
 use Rattle.lt_model.proofs.Ranges.{Bounds, bounds_of, IsValue-wrapped}
-
-between_from_test : (l g z : ℤ) → (int_le l z && int_le z g) ≡ true → (l ≤ℤ z) × (z ≤ℤ g)
-between_from_test l g z e = (grind (arith, ints), grind (arith, ints))
 
 -- a result under a test, where the result is a value if the test holds
 under_test : (kind : Ub) (m : DataModel) (s : Scalar) (b : Bool) (z : ℤ) → (b ≡ true → IsValue m s z) → IfOk (if b then Ok z else Err kind) (IsValue m s)

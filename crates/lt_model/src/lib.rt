@@ -13,6 +13,10 @@ mod run;
 mod scalar;
 mod sequence;
 mod sizes;
+#[cfg(test)]
+mod tables;
+#[cfg(test)]
+mod tests;
 
 pub use arithmetic::apply;
 pub use cell::{Address, CellType, Content, Shape, ShapeCell};

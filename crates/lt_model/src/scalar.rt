@@ -1,5 +1,5 @@
-ghost use Rattle.std.specs.Prelude.{◌≡◌};
-ghost use Rattle.lt_model.specs.Scalar.{width_of, is_signed, least_of, greatest_of};
+ghost use Rattle.std.specs.Prelude.{◌≡◌, ◌↔◌, IsTrue};
+ghost use Rattle.lt_model.specs.Scalar.{width_of, is_signed, least_of, greatest_of, IsValue};
 ghost use Rattle.lt_model.specs.Operators.{is_value};
 
 /// The sizes of `long` and of pointers: 4 bytes both, or 8 bytes both.
@@ -82,8 +82,10 @@ pub fn greatest(model: DataModel, ty: Scalar) -> i128
 }
 
 /// Whether a number is a value of a type.
+#[tactic(auto, using(crate::proofs::Values::value_test))]
 pub fn is_value(model: DataModel, ty: Scalar, z: i128) -> bool
-    ensures { result ≡ is_value model ty z }
+    ensures is { result ≡ is_value model ty z }
+    ensures means { IsTrue result ↔ IsValue model ty z }
 {
     least(model, ty) <= z && z <= greatest(model, ty)
 }
