@@ -4,3 +4,4 @@ pub mod Ranges
 pub mod Values
 pub mod Results
 pub mod Counting
+pub mod Nesting

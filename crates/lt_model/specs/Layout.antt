@@ -1,6 +1,6 @@
 -- Sizes, alignments and offsets, C11 6.2.8, 6.5.3.4 and 6.7.2.1. Void, function and floating types and incomplete structs have none; nor
 -- has a type where a number of bytes on the way passes 64 bits.
-use Rattle.std.specs.Prelude.{ℕ, zero, suc, ◌+◌, ◌*◌, ◌/◌, ◌^◌, max, nat_lt, List, [], ◌∷◌, length, take, slice_get, Option, Some, None, if◌then◌else◌}
+use Rattle.std.specs.Prelude.{◌≡◌, ◌<◌, ℕ, zero, suc, ◌+◌, ◌*◌, ◌/◌, ◌^◌, max, nat_lt, List, [], ◌∷◌, length, take, slice_get, Option, Some, None, if◌then◌else◌}
 use Rattle.std.specs.Int.{next_multiple_of}
 use Rattle.lt_model.specs.declared.scalar.DataModel.{DataModel}
 use Rattle.lt_model.specs.declared.scalar.Scalar.{Scalar}
@@ -108,3 +108,19 @@ offset_among m structs members n =
 -- the offset of a member of a struct
 abbrev pub offset_in : DataModel → List StructType → ℕ → ℕ → Option ℕ
 offset_in m structs k n = then_some (members_of structs k) (λ members. offset_among m structs members n)
+
+-- ---- structs that don't hold themselves
+
+-- a type that is no array holds, of the structs, only one that stands in the list and has a lower rank than struct k
+abbrev pub IsBelow : List StructType → (ℕ → ℕ) → ℕ → CType → Type 0
+IsBelow structs rank k (ctype.Struct j) = (j < length structs) × (rank j < rank k)
+IsBelow structs rank k t = Unit {0}
+
+abbrev pub AreBelow : List StructType → (ℕ → ℕ) → ℕ → List MemberType → Type 0
+AreBelow structs rank k [] = Unit {0}
+AreBelow structs rank k (member ∷ members) = IsBelow structs rank k (element member.ty) × AreBelow structs rank k members
+
+-- No struct holds itself, directly or through others: they have ranks, below their number, that fall from each struct to those that it holds.
+pub record AreRanked (structs : List StructType) (rank : ℕ → ℕ) : Type 0 where
+  pub low : (k : ℕ) → k < length structs → rank k < length structs
+  pub falls : (k : ℕ) (members : List MemberType) → members_of structs k ≡ Some members → AreBelow structs rank k members

@@ -32,4 +32,4 @@ pub use operator::{Op, Ub, ub_number};
 pub use run::{Binding, End, Mark, Run};
 pub use scalar::{DataModel, Scalar, greatest, is_signed, is_value, least, width};
 pub use sequence::Sequence;
-pub use sizes::{layout, size_of};
+pub use sizes::{layout, nesting_law, size_of};

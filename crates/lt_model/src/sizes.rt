@@ -1,6 +1,6 @@
-ghost use Rattle.std.specs.Prelude.{◌≡◌, ◌+◌, ◌*◌, ◌≤◌, ◌^◌, min, slice_get, ℕ, length};
+ghost use Rattle.std.specs.Prelude.{◌≡◌, ◌+◌, ◌*◌, ◌<◌, ◌≤◌, ◌^◌, min, slice_get, ℕ, length};
 ghost use Rattle.std.specs.Option.{option_copied};
-ghost use Rattle.lt_model.specs.Layout.{within, rounded, scalar_extent, resized, element, elements, single_extent, type_extent, member_offset, with_member, no_members, members_extent, struct_extent, extent_of, size_in, offset_behind, offset_among, offset_in, members_of};
+ghost use Rattle.lt_model.specs.Layout.{within, rounded, scalar_extent, resized, element, elements, single_extent, type_extent, member_offset, with_member, no_members, members_extent, struct_extent, extent_of, size_in, offset_behind, offset_among, offset_in, members_of, AreRanked};
 
 use crate::ctype::{CType, MemberType, StructType, Structs};
 use crate::scalar::{DataModel, Scalar, width};
@@ -245,3 +245,9 @@ pub fn layout(model: DataModel, structs: &Structs, tag: u32, member: u32) -> Opt
     let members = members_of(list, tag)?;
     offset_among(model, list, members, member as usize)
 }
+
+/// A law: where no struct holds itself, a greater bound on how deep structs nest changes no extent. It does nothing.
+#[tactic(auto, using(crate::proofs::Nesting::nesting_bounded))]
+pub fn nesting_law(model: DataModel, structs: &Structs)
+    ensures { (rank : ℕ → ℕ) → AreRanked structs.now.list rank → (depth k : ℕ) → k < length structs.now.list → length structs.now.list ≤ depth → struct_extent model structs.now.list depth k ≡ struct_extent model structs.now.list (length structs.now.list) k }
+{}
