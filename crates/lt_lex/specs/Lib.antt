@@ -1,0 +1,9 @@
+pub mod Front
+pub mod Views
+pub mod Steps
+pub mod Levels
+pub mod Lexed
+pub use Rattle.lt_token.specs.Words
+pub use Rattle.lt_token.specs.Tokens
+pub use Rattle.lt_token.specs.Nest
+pub use Rattle.lt_token.specs.Answer

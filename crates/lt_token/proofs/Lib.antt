@@ -1,0 +1,4 @@
+pub mod Unique
+pub mod Placed
+pub mod OneAnswer
+pub mod Literals

@@ -1,0 +1,10 @@
+pub mod Bytes
+pub mod Words
+pub mod Parts
+pub mod Literals
+pub mod Pieces
+pub mod Lexemes
+pub mod Tokens
+pub mod Nest
+pub mod Answer
+pub mod Laws
