@@ -1,0 +1,10 @@
+pub mod Whole
+pub mod Factors
+pub mod Merging
+pub mod Store
+pub mod Scaling
+pub mod Sums
+pub mod Quotients
+pub mod Taking
+pub mod Following
+pub mod Soundness
