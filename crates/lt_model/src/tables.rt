@@ -333,8 +333,10 @@ pub static OPERATORS: [(DataModel, Op, Scalar, i128, i128, Result<i128, Ub>); 31
 
 // From, to, value, converted value.
 #[rattlefmt::skip]
-pub static CONVERSIONS: [(DataModel, Scalar, Scalar, i128, i128); 96] = [
+pub static CONVERSIONS: [(DataModel, Scalar, Scalar, i128, i128); 100] = [
     (Ilp32, Int, Bool, 200, 1),
+    (Ilp32, Int, Bool, 2, 1),
+    (Ilp32, Int, SChar, 200, -56),
     (Ilp32, Int, Char, 2147483647, -1),
     (Ilp32, Int, SChar, -129, 127),
     (Ilp32, Int, UChar, 2, 2),
@@ -383,6 +385,8 @@ pub static CONVERSIONS: [(DataModel, Scalar, Scalar, i128, i128); 96] = [
     (Ilp32, ULLong, LLong, 0, 0),
     (Ilp32, ULLong, ULLong, 18446744073709551615, 18446744073709551615),
     (Lp64, Int, Bool, 200, 1),
+    (Lp64, Int, Bool, 2, 1),
+    (Lp64, Int, SChar, 200, -56),
     (Lp64, Int, Char, 2147483647, -1),
     (Lp64, Int, SChar, -129, 127),
     (Lp64, Int, UChar, 2, 2),
