@@ -186,10 +186,9 @@ pub fn write_cover(alloc: Global, c: &Coverage) -> Result<Vec<u8>, AllocError>
 mod tests {
     use super::*;
     use lt_model::{Name, Ub};
-    use lt_tree::Stop;
 
     #[test]
-    fn writes_a_table(rt: HostRuntime) -> Result<(), Stop> {
+    fn writes_a_table(rt: HostRuntime) -> Result<(), AllocError> {
         let alloc = rt.alloc();
         let mut tests = Vec::new(alloc);
         tests.push(TestRow {

@@ -13,6 +13,7 @@ use Rattle.lt_lin.specs.Rows.{HasContradiction}
 use Rattle.lt_lin.specs.Lines.{Lines, last, combination, division, split, before_lines, side_lines, lines_of}
 use Rattle.lt_lin.specs.Refutation.{RefutesAfter, Refutes}
 use Rattle.lt_lin.specs.Room.{HasPlaces}
+use Rattle.lt_lin.proofs.Taking.{append_nothing}
 use Rattle.lt_lin.specs.Taking.{IsTaken, IsFollowed, Extends}
 
 -- the lines up to `rest` were taken
@@ -28,15 +29,11 @@ pub follow_start : (lines : Lines) (known : List Row) (limit : ℕ) (seen : Seen
 follow_start lines known limit seen e told = record {
   told = told;
   answer = ((λ h. subst (λ (b : Bool). RefutesAfter b known lines) e h), (λ h. subst (λ (b : Bool). RefutesAfter b known lines) (sym e) h));
-  rows = ([], nothing known);
+  rows = ([], append_nothing known);
   grows = omega arith;
   room = λ n h p. p;
   enough = λ h. (refl, h);
 }
-  where
-    nothing : (rs : List Row) → rs ≡ rs ++ []
-    nothing [] = refl
-    nothing (r ∷ rs) = ap (λ k. r ∷ k) (nothing rs)
 
 extends : (a b c : List Row) → Extends a b → Extends b c → Extends a c
 extends a b c p q = (p.0 ++ q.0, q.1 ∙ ap (λ k. k ++ q.0) p.1 ∙ append_assoc a p.0 q.0)
@@ -114,12 +111,8 @@ followed_side lines known limit result after limit' f = record {
   enough = f.enough;
 }
   where
-    nothing : (rs : List Row) → rs ≡ rs ++ []
-    nothing [] = refl
-    nothing (r ∷ rs) = ap (λ k. r ∷ k) (nothing rs)
-
     here : (result : Result Bool AllocError) → OnOk result (Extends known known)
-    here (Ok b) = ([], nothing known)
+    here (Ok b) = ([], append_nothing known)
     here (Err e) = tt
 
 pub row_forgotten : (known after : List Row) (r : Row) (n : ℕ) → n ≡ length known → Extends (known ++ r ∷ []) after → take n after ≡ known

@@ -13,7 +13,7 @@ use Rattle.lt_lin.specs.Taking.{IsTaken, IsFollowed}
 use Rattle.lt_lin.proofs.Sums.{one_sum}
 use Rattle.lt_lin.proofs.Quotients.{one_division}
 
-append_nothing : (rs : List Row) → rs ≡ rs ++ []
+pub append_nothing : (rs : List Row) → rs ≡ rs ++ []
 append_nothing [] = refl
 append_nothing (r ∷ rs) = ap (λ k. r ∷ k) (append_nothing rs)
 
