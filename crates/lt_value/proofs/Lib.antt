@@ -1,0 +1,10 @@
+pub mod Congruent
+pub mod Members
+pub mod Joins
+pub mod Residues
+pub mod Common
+pub mod Meets
+pub mod Cuts
+pub mod Relations
+pub mod Forms
+pub mod Truths

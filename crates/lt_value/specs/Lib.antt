@@ -1,0 +1,4 @@
+pub mod Progression
+pub mod Num
+pub mod Refine
+pub mod Offsets

@@ -1,0 +1,20 @@
+// Sets of whole numbers, each an interval with a congruence; `specs/Num.antt` says which numbers a `Num` holds.
+#![tactic(auto)]
+
+mod cut;
+mod lattice;
+mod law;
+mod modular;
+mod num;
+mod progression;
+mod relation;
+#[cfg(test)]
+mod tables;
+#[cfg(test)]
+mod tests;
+
+pub use lattice::{join, meet};
+pub use law::{one_form_law, relation_law};
+pub use num::Num;
+pub use progression::{between, single};
+pub use relation::refine;

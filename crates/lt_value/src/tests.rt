@@ -1,0 +1,102 @@
+ghost use Rattle.std.specs.Prelude.{◌≡◌, true};
+ghost use Rattle.lt_value.specs.Refine.{IsRelation};
+
+use crate::lattice::{join, meet};
+use crate::num::Num;
+use crate::progression::{between, single};
+use crate::relation::refine;
+use crate::tables::{JOINS, MEETS, Parts, REFINED, Seed};
+use lt_model::Op;
+
+const LEAST: i128 = -0x8000_0000_0000_0000;
+
+const GREATEST: i128 = 0xffff_ffff_ffff_ffff;
+
+fn parts(n: &Num) -> Parts {
+    (n.lo, n.hi, n.step, n.rest)
+}
+
+fn number(z: i128) -> Num {
+    if LEAST <= z && z <= GREATEST {
+        single(z)
+    } else {
+        single(0)
+    }
+}
+
+// The least set that holds three numbers.
+fn spread(seed: Seed) -> Num {
+    join(&join(&number(seed.0), &number(seed.1)), &number(seed.2))
+}
+
+fn joins(row: &(Seed, Seed, Option<Parts>)) -> bool {
+    Some(parts(&join(&spread(row.0), &spread(row.1)))) == row.2
+}
+
+fn meets(row: &(Seed, Seed, Option<Parts>)) -> bool {
+    match meet(&spread(row.0), &spread(row.1)) {
+        Some(common) => Some(parts(&common)) == row.2,
+        None => row.2 == None,
+    }
+}
+
+fn is_relation(op: Op) -> bool
+    ensures { result ≡ true → IsRelation op }
+{
+    matches!(op, Op::Lt | Op::Le | Op::Gt | Op::Ge | Op::Eq | Op::Ne)
+}
+
+fn refines(row: &(Op, Seed, Seed, Option<(Parts, Parts)>)) -> bool {
+    let (op, a, b, wanted) = *row;
+    if !is_relation(op) {
+        return false;
+    }
+    match refine(op, &spread(a), &spread(b)) {
+        Some((left, right)) => Some((parts(&left), parts(&right))) == wanted,
+        None => wanted == None,
+    }
+}
+
+#[test]
+fn joins_are_least(rt: HostRuntime) {
+    for row in JOINS.iter() {
+        assert!(rt; joins(row), "{row:?}");
+    }
+}
+
+#[test]
+fn meets_are_the_common_members(rt: HostRuntime) {
+    for row in MEETS.iter() {
+        assert!(rt; meets(row), "{row:?}");
+    }
+}
+
+#[test]
+fn relations_leave_what_a_script_found(rt: HostRuntime) {
+    for row in REFINED.iter() {
+        assert!(rt; refines(row), "{row:?}");
+    }
+}
+
+#[test]
+fn the_widest_sets_are_held(rt: HostRuntime) {
+    let all = between(LEAST, GREATEST);
+    let even = spread((LEAST, LEAST + 2, GREATEST - 1));
+    let third = spread((LEAST, LEAST + 3, GREATEST - 2));
+    assert!(rt; parts(&all) == (LEAST, GREATEST, 1, 0));
+    assert!(rt; parts(&even) == (LEAST, GREATEST - 1, 2, 0));
+    assert!(rt;
+        joins(&(
+            (LEAST, LEAST, LEAST),
+            (GREATEST, GREATEST, GREATEST),
+            Some((
+                LEAST,
+                GREATEST,
+                0x1_7fff_ffff_ffff_ffff,
+                0xffff_ffff_ffff_ffff
+            ))
+        ))
+    );
+    assert!(rt; parts(&third) == (LEAST, GREATEST - 2, 3, 1));
+    assert!(rt; refine(Op::Eq, &even, &single(7)).is_none());
+}
