@@ -11,7 +11,7 @@ use Rattle.lt_lin.specs.Terms.{Term, sum_at, factor, negated, scaled}
 use Rattle.lt_lin.specs.Rows.{IsTrueAt, Satisfies, IsContradiction, HasContradiction}
 use Rattle.lt_lin.specs.Lines.{Lines, last, combination, division, split}
 use Rattle.lt_lin.specs.Refutation.{SumsTo, IsCombination, IsDivision, low_row, high_row, RefutesAfter, Refutes}
-use Rattle.lt_lin.proofs.Whole.{mul_assoc_ℤ, mul-add_ℤ, add-mul_ℤ, mul-≤ℤ, neg-mul_ℤ}
+use Rattle.lt_model.proofs.Whole.{mul_assoc_ℤ, mul-add_ℤ, add-mul_ℤ, mul-≤ℤ, neg-mul_ℤ}
 use Rattle.lt_lin.proofs.Factors.{AllBelow, AllBelow-mono}
 use Rattle.lt_lin.proofs.Sums.{first_pair}
 

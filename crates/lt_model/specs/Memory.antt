@@ -128,13 +128,14 @@ store model memory at ty value =
 abbrev pub create : Memory → Block → Memory
 create memory block = memory ++ block ∷ []
 
-abbrev pub ended : Memory → ℕ → Option Block → Memory
-ended memory place None = memory
-ended memory place (Some block) = slice_set memory place (record block { alive = false })
+-- What an object leaves behind when its lifetime is over: nothing. Only a living object can be asked anything, so the room of an
+-- ended one can be given back.
+abbrev pub ended_block : Block
+ended_block = record { alive = false; writable = false; size = 0; cells = [] }
 
 -- the object's lifetime is over
 abbrev pub end_block : Memory → ℕ → Memory
-end_block memory place = ended memory place (slice_get memory place)
+end_block memory place = slice_set memory place ended_block
 
 -- ---- objects of a shape
 
