@@ -16,20 +16,15 @@ use Rattle.lt_model.specs.declared.cell.Content.{Content}
 use Rattle.lt_model.specs.declared.cell.Content.TheVariants as content
 use Rattle.lt_model.specs.declared.cell.Shape.{Shape}
 use Rattle.lt_model.specs.declared.cell.ShapeCell.{ShapeCell}
+use Rattle.lt_model.specs.declared.cell.StoredCell.{StoredCell}
 use Rattle.lt_model.specs.Scalar.{convert_of}
-
--- a cell of an object: its byte offset, its type and what it holds
-pub record Cell : Type 0 where
-  pub offset : ℕ
-  pub ty : CellType
-  pub holds : Content
 
 -- an object: whether its lifetime lasts, whether it may be written, its size in bytes, and its cells
 pub record Block : Type 0 where
   pub alive : Bool
   pub writable : Bool
   pub size : ℕ
-  pub cells : List Cell
+  pub cells : List StoredCell
 
 -- the objects, in the order in which they were made
 abbrev pub Memory : Type 0
@@ -78,17 +73,17 @@ offset_of None = 0
 offset_of (Some at) = at.offset
 
 -- what the cell holds that an access of this type meets at this offset
-abbrev pub held_at : List Cell → ℕ → CellType → Result Content Ub
+abbrev pub held_at : List StoredCell → ℕ → CellType → Result Content Ub
 held_at [] offset ty = Err U.NoCell
 held_at (cell ∷ cells) offset ty = if cell.offset == offset && corresponds ty cell.ty then Ok cell.holds else held_at cells offset ty
 
 -- a cell before others, where these are known
-abbrev pub before_cells : Cell → Result (List Cell) Ub → Result (List Cell) Ub
+abbrev pub before_cells : StoredCell → Result (List StoredCell) Ub → Result (List StoredCell) Ub
 before_cells first (Ok rest) = Ok (first ∷ rest)
 before_cells first (Err kind) = Err kind
 
 -- the cells with this content in the cell that an access of this type meets at this offset
-abbrev pub with_held : DataModel → List Cell → ℕ → CellType → Content → Result (List Cell) Ub
+abbrev pub with_held : DataModel → List StoredCell → ℕ → CellType → Content → Result (List StoredCell) Ub
 with_held model [] offset ty value = Err U.NoCell
 with_held model (cell ∷ cells) offset ty value =
     if cell.offset == offset && corresponds ty cell.ty then Ok (record { offset = cell.offset; ty = cell.ty; holds = as_type model cell.ty value } ∷ cells)
@@ -114,7 +109,7 @@ unfoldable pub load : DataModel → Memory → Option Address → CellType → R
 load model memory at ty =
     then_result (object_at memory at) (λ block. then_result (held_at block.cells (offset_of at) ty) (λ held. then_result (usable memory held) (λ used. Ok (as_type model ty used))))
 
-abbrev pub replaced : Memory → Option Address → Block → List Cell → Memory
+abbrev pub replaced : Memory → Option Address → Block → List StoredCell → Memory
 replaced memory None block cells = memory
 replaced memory (Some at) block cells = slice_set memory at.block (record block { cells = cells })
 
@@ -145,7 +140,7 @@ first_content false ty = content.Unset
 first_content true (Num s) = content.Number (pos 0)
 first_content true (Pointer p) = content.Address None
 
-abbrev pub new_cell : Bool → ShapeCell → Cell
+abbrev pub new_cell : Bool → ShapeCell → StoredCell
 new_cell zeroed cell = record { offset = cell.offset; ty = cell.ty; holds = first_content zeroed cell.ty }
 
 -- a living object of this shape
@@ -242,13 +237,13 @@ subtract memory a b size =
 -- ---- copies of structs
 
 -- what the cells of a shape hold that begins at this offset, as they are
-abbrev pub gathered : List Cell → ℕ → List ShapeCell → Result (List Content) Ub
+abbrev pub gathered : List StoredCell → ℕ → List ShapeCell → Result (List Content) Ub
 gathered cells base [] = Ok []
 gathered cells base (cell ∷ rest) =
     then_result (held_at cells (base + cell.offset) cell.ty) (λ held. then_result (gathered cells base rest) (λ others. Ok (held ∷ others)))
 
 -- the cells, with these contents in those of a shape that begins at this offset
-abbrev pub scattered : DataModel → List Cell → ℕ → List ShapeCell → List Content → Result (List Cell) Ub
+abbrev pub scattered : DataModel → List StoredCell → ℕ → List ShapeCell → List Content → Result (List StoredCell) Ub
 scattered model cells base (cell ∷ rest) (held ∷ others) =
     then_result (with_held model cells (base + cell.offset) cell.ty held) (λ after. scattered model after base rest others)
 scattered model cells base shape contents = Ok cells

@@ -23,6 +23,14 @@ pub enum Content {
     Address(Option<Address>),
 }
 
+/// A cell of an object: its byte offset, its type and what it holds.
+#[derive(Clone, Copy, PartialEq, Eq, Debug)]
+pub struct StoredCell {
+    pub offset: u64,
+    pub ty: CellType,
+    pub holds: Content,
+}
+
 /// A cell of an object that is to be made: its byte offset and its type.
 #[derive(Clone, Copy, PartialEq, Eq, Debug)]
 pub struct ShapeCell {

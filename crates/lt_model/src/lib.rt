@@ -19,7 +19,7 @@ mod tables;
 mod tests;
 
 pub use arithmetic::apply;
-pub use cell::{Address, CellType, Content, Shape, ShapeCell};
+pub use cell::{Address, CellType, Content, Shape, ShapeCell, StoredCell};
 pub use checked::{checked_product, checked_sum};
 pub use conversion::{convert, promote, usual};
 pub use ctype::{CType, MemberType, Quals, Signature, StructType, Structs};

@@ -1,0 +1,3 @@
+pub mod Cells
+pub mod Image
+pub use Rattle.lt_model.specs.Memory
