@@ -31,10 +31,13 @@ no_cell = record { offset = 0; ty = Pointer 0; holds = Unset }
 
 -- what the test of all neighbours answers
 pub ascending_answer : (cells : List StoredCell) (r : Bool) → IsAllAdjacentAnswer (λ x y b. b ≡ nat_lt x.offset y.offset) cells r → IsTrue r ↔ IsAscending cells
-ascending_answer cells true next = (λ _. λ i j d less within.
-    let g : ℕ = j - (i + 1) in
-    let e : j ≡ i + 1 + g = omega arith in
-    rw e (far cells next i g d (omega arith)), λ _. refl)
+ascending_answer cells true next = (
+  λ _. λ i j d less within.
+      let g : ℕ = j - (i + 1) in
+      let e : j ≡ i + 1 + g = omega arith in
+      rw e (far cells next i g d (omega arith)),
+  λ _. refl,
+)
 ascending_answer cells false (k, within, falls) = (λ h. absurd (cc), λ up. absurd (clash (up k (k + 1) no_cell (omega arith) within) (falls no_cell)))
   where
     clash : {a b : ℕ} → a < b → false ≡ nat_lt a b → ⊥

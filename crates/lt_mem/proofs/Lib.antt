@@ -1,2 +1,6 @@
 pub mod Finding
 pub mod Contents
+pub mod Blocks
+pub mod Meeting
+pub mod Keeping
+pub mod Becoming

@@ -2,10 +2,11 @@
 
 ghost use Rattle.std.specs.Prelude.{◌≡◌, ◌<◌, false, IfOk, map, length, slice_index_or};
 ghost use Rattle.lt_model.specs.declared.cell.StoredCell.{StoredCell as Stored};
-ghost use Rattle.lt_model.specs.Memory.{new_cell, first_content, as_type};
+ghost use Rattle.lt_model.specs.Memory.{new_cell, first_content, held_at, as_type};
 ghost use Rattle.lt_model.specs.Scalar.{convert_of};
 ghost use Rattle.lt_mem.specs.Cells.{place_of, cells_with, IsFit, IsInteger, AllFit};
 ghost use Rattle.lt_mem.specs.Image.{new_body};
+ghost use Rattle.lt_mem.specs.Calls.{Becomes, stored_in};
 
 use crate::lookup::{ascends, find, walk};
 use lt_model::{CellType, Content, DataModel, Scalar, Shape, ShapeCell, StoredCell, Ub, convert};
@@ -76,7 +77,12 @@ fn step_of(cells: &[StoredCell]) -> u64 {
 
 impl Object {
     /// An object of this shape whose cells hold zeros, or nothing.
-    pub(crate) fn new(alloc: Global, shape: &Shape, zero: bool, writable: bool) -> Result<Object, AllocError>
+    pub(crate) fn new(
+        alloc: Global,
+        shape: &Shape,
+        zero: bool,
+        writable: bool,
+    ) -> Result<Object, AllocError>
         ensures { IfOk result (λ o. o ≡ new_body shape.now zero writable) }
     {
         let cells = new_cells(alloc, shape.cells.as_slice(), zero)?;
@@ -126,6 +132,39 @@ impl Object {
         } else {
             walk(cells, offset, ty)
         }
+    }
+
+    /// What the cell holds that an access of this type meets at an offset.
+    pub(crate) fn held(&self, offset: u128, ty: CellType) -> Result<Content, Ub>
+        ensures is { result ≡ held_at self.now.cells offset ty }
+        ensures fit { IfOk result IsFit }
+    {
+        match self.place(offset, ty) {
+            Some(place) => Ok(self.content(place)),
+            None => Err(Ub::NoCell),
+        }
+    }
+
+    /// Puts a content into the cell that an access of this type meets at an offset.
+    pub(crate) fn store(
+        &mut self,
+        model: DataModel,
+        offset: u128,
+        ty: CellType,
+        value: Content,
+    ) -> Result<(), Ub>
+        requires { IsFit value }
+        ensures becomes { Becomes (stored_in model self.old offset ty value) self.old result self.new }
+        ensures length { length self.new.cells ≡ length self.old.cells }
+    {
+        let Some(place) = self.place(offset, ty) else {
+            return Err(Ub::NoCell);
+        };
+        if !self.writable {
+            return Err(Ub::Sealed);
+        }
+        self.put(model, place, value);
+        Ok(())
     }
 
     /// What the cell at a place holds.

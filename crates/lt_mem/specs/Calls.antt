@@ -1,0 +1,45 @@
+-- What the calls that change a memory promise.
+use Rattle.std.specs.Prelude.{◌≡◌, ◌==◌, ◌&&◌, ℕ, ℤ, pos, List, Bool, Option, Some, None, Result, Ok, Err, if◌then◌else◌, int_le, unsigned_abs}
+use Rattle.lt_model.specs.declared.scalar.DataModel.{DataModel}
+use Rattle.lt_model.specs.declared.operator.Ub.{Ub}
+use Rattle.lt_model.specs.declared.operator.Ub.TheVariants as U
+use Rattle.lt_model.specs.declared.cell.Address.{Address}
+use Rattle.lt_model.specs.declared.cell.CellType.{CellType}
+use Rattle.lt_model.specs.declared.cell.CellType.TheVariants.{Num, Pointer}
+use Rattle.lt_model.specs.declared.cell.Content.{Content}
+use Rattle.lt_model.specs.declared.cell.Content.TheVariants as content
+use Rattle.lt_model.specs.Scalar.{IsValue}
+use Rattle.lt_model.specs.Memory.{Block, then_result, with_held}
+use Rattle.lt_mem.specs.Image.{Image, Body}
+
+-- a content that an access of this type may store: a number of the type, or an address for a pointer
+abbrev pub IsOfType : DataModel → CellType → Content → Type 0
+IsOfType model (Num s) (content.Number z) = IsValue model s z
+IsOfType model (Pointer p) (content.Address at) = Unit {0}
+IsOfType model ty held = ⊥
+
+-- the memory with these objects, or the kind that refuses them
+abbrev pub with_blocks : Image → Result (List Block) Ub → Result Image Ub
+with_blocks memory (Ok blocks) = Ok (record memory { blocks = blocks })
+with_blocks memory (Err kind) = Err kind
+
+-- A call leaves what is given, or answers the kind that refuses it, and then nothing changed.
+abbrev pub Becomes : {A : Type 0} → Result A Ub → A → Result (Unit {0}) Ub → A → Type 0
+Becomes (Ok after) before result now = (result ≡ Ok tt) × (now ≡ after)
+Becomes (Err kind) before result now = (result ≡ Err kind) × (now ≡ before)
+
+-- an object with this content in the cell that an access meets
+abbrev pub stored_in : DataModel → Body → ℕ → CellType → Content → Result Body Ub
+stored_in model body offset ty value =
+    then_result (with_held model body.cells offset ty value) (λ cells. if body.writable then Ok (record body { cells = cells }) else Err U.Sealed)
+
+-- ---- steps of the calls on addresses
+
+-- a number of bytes from the start of an object of this size, or of the place one past its end
+abbrev pub moved_offset : ℕ → ℤ → Option ℕ
+moved_offset size z = if int_le (pos 0) z && int_le z (pos size) then Some (unsigned_abs z) else None
+
+-- the offsets of two addresses of one object
+abbrev pub offsets_in_one : Option Address → Option Address → Result (ℕ × ℕ) Ub
+offsets_in_one (Some a) (Some b) = if a.block == b.block then Ok (a.offset, b.offset) else Err U.Unrelated
+offsets_in_one a b = Err U.Unrelated
