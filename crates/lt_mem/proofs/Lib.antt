@@ -4,3 +4,4 @@ pub mod Blocks
 pub mod Meeting
 pub mod Keeping
 pub mod Becoming
+pub mod Copying
