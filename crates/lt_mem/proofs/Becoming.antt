@@ -27,7 +27,7 @@ module _ {A : Type 0} (kind : Ub) (before after : A) where
 
 -- a store into an object is a store into memory
 module _ (model : DataModel) (living new : BTreeMap ℕ Body) (made : ℕ) (at : Address) (before after : Body) (given : at.block < made) (there : get nat_cmp living at.block ≡ Some before) (change : IsChange living new at.block (Some after)) where
-  abbrev blocks : List Block
+  abbrev pub blocks : List Block
   blocks = blocks_of living made
 
   -- where the object is as it was, so is memory
@@ -36,10 +36,10 @@ module _ (model : DataModel) (living new : BTreeMap ℕ Body) (made : ℕ) (at :
       changed living new at.block (Some after) change made ∙ ap (λ b. set blocks at.block (living_block b)) e
       ∙ ap (set blocks at.block) (sym (get_or-blocks_of living made at.block ended_block given ∙ ap block_of there)) ∙ set-get_or blocks at.block ended_block
 
-  abbrev image_of : List Block → Image
+  abbrev pub image_of : List Block → Image
   image_of bs = record { model = model; blocks = bs }
 
-  by_object : (writable : Bool) (cells : Result (List StoredCell) Ub) (result : Result (Unit {0}) Ub) → Becomes (then_result cells (λ cs. if writable then Ok (record before { cells = cs }) else Err U.Sealed)) before result after
+  pub by_object : (writable : Bool) (cells : Result (List StoredCell) Ub) (result : Result (Unit {0}) Ub) → Becomes (then_result cells (λ cs. if writable then Ok (record before { cells = cs }) else Err U.Sealed)) before result after
       → Becomes (with_blocks (image_of blocks) (then_result cells (λ cs. if writable then Ok (replaced blocks (Some at) (living_block before) cs) else Err U.Sealed))) (image_of blocks) result (image_of (blocks_of new made))
   by_object writable (Err kind) result (r, e) = (r, ap image_of (same e))
   by_object false (Ok cs) result (r, e) = (r, ap image_of (same e))

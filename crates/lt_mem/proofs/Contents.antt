@@ -9,6 +9,7 @@ use Rattle.lt_model.specs.declared.cell.Content.{Content}
 use Rattle.lt_model.specs.declared.cell.StoredCell.{StoredCell}
 use Rattle.lt_model.specs.declared.cell.ShapeCell.{ShapeCell}
 use Rattle.lt_model.specs.Memory.{as_type, first_content, new_cell}
+use Rattle.lt_mem.specs.Image.{Body}
 use Rattle.lt_mem.specs.Cells.{cells_with, place_of, IsAscending, IsFit, IsInteger, AllFit}
 
 -- a cell with another content
@@ -55,3 +56,10 @@ fit_at_first true (Pointer p) = tt
 -- a new object's cells are fit
 pub new_fit : (zeroed : Bool) (shape : List ShapeCell) → AllFit (map (new_cell zeroed) shape)
 new_fit zeroed shape = All-map (λ c. IsFit c.holds) (new_cell zeroed) shape (λ k d h. fit_at_first zeroed (get_or shape k d).ty)
+
+-- a body that differs from another in its cells alone, changed in its cells
+pub same_but_cells : (first before after : Body) (cells : List StoredCell) → before ≡ record first { cells = before.cells } → after ≡ record before { cells = cells } → after ≡ record first { cells = after.cells }
+same_but_cells first before after cells e f =
+    let w : after.writable ≡ first.writable = ap (λ (b : Body). b.writable) f ∙ ap (λ (b : Body). b.writable) e in
+    let s : after.size ≡ first.size = ap (λ (b : Body). b.size) f ∙ ap (λ (b : Body). b.size) e in
+    ap (λ b. record { writable = b; size = after.size; cells = after.cells }) w ∙ ap (λ n. record { writable = first.writable; size = n; cells = after.cells }) s

@@ -10,6 +10,8 @@ use Rattle.std.proofs.lemmas.List.Sums.{get_or-le-sum_by}
 use Rattle.lt_model.specs.declared.cell.Content.{Content}
 use Rattle.lt_model.specs.declared.cell.Shape.{Shape}
 use Rattle.lt_model.specs.Memory.{Block, ended_block, living_cells, cells_alive, most_cells, sealed, seal_block, create, new_block}
+use Rattle.std.specs.List.{All}
+use Rattle.lt_mem.specs.Cells.{IsFit}
 use Rattle.lt_mem.specs.Image.{Image, Body, new_body, living_block, block_of, block_at, blocks_of, IsKept}
 use Rattle.lt_mem.proofs.Blocks.{IsChange, at_key, at_other, changed, appended, recounted, counted_more, length-blocks_of, get_or-blocks_of, slice_get-blocks_of}
 
@@ -48,6 +50,7 @@ module _ (living : BTreeMap ℕ Body) (made alive : ℕ) (scratch : List Content
         unmade = λ q l. at_other living new k None change q (omega arith) ∙ kept.unmade q l;
         counted = omega (arith, count, is, kept.counted);
         few = omega (arith, kept.few);
+        fit = kept.fit;
         room = λ q b e. elim (eqb_tells q k) [ inl same ↦ absurd (cc (at_key living new k None change, same.1)) | inr apart ↦ kept.room q b (sym (at_other living new k None change q apart.1) ∙ e) ];
       }
 
@@ -61,6 +64,7 @@ module _ (living : BTreeMap ℕ Body) (made alive : ℕ) (scratch : List Content
         unmade = λ q l. at_other living new k (Some after) change q (omega arith) ∙ kept.unmade q l;
         counted = omega (arith, count, is, kept.counted, same_length);
         few = kept.few;
+        fit = kept.fit;
         room = λ q b e. elim (eqb_tells q k) [ inl same ↦ here q b e same.1 | inr apart ↦ kept.room q b (sym (at_other living new k (Some after) change q apart.1) ∙ e) ];
       }
     where
@@ -69,12 +73,23 @@ module _ (living : BTreeMap ℕ Body) (made alive : ℕ) (scratch : List Content
           let one : after ≡ b = cc (at_key living new k (Some after) change) in
           omega (arith, kept.room k old at, same_length, ap (λ c. length c.cells) one)
 
+  -- other contents wait
+  pub kept_with : (waits : List Content) → length waits ≡ length scratch → All IsFit waits → IsKept living made alive waits
+  kept_with waits same fit = record {
+    unmade = kept.unmade;
+    counted = kept.counted;
+    few = kept.few;
+    fit = fit;
+    room = λ k body at. omega (arith, kept.room k body at);
+  }
+
   -- an object more
-  pub kept_after_add : (new : BTreeMap ℕ Body) (body : Body) (longer : List Content) → IsChange living new made (Some body) → (next cells : ℕ) → next ≡ made + 1 → cells ≡ length body.cells → alive + cells ≤ most_cells → length scratch ≤ length longer → cells ≤ length longer → IsKept new next (alive + cells) longer
-  kept_after_add new body longer change next cells is_next is_cells few grows enough = rw (is_next) record {
+  pub kept_after_add : (new : BTreeMap ℕ Body) (body : Body) (longer : List Content) → IsChange living new made (Some body) → (next cells : ℕ) → next ≡ made + 1 → cells ≡ length body.cells → alive + cells ≤ most_cells → All IsFit longer → length scratch ≤ length longer → cells ≤ length longer → IsKept new next (alive + cells) longer
+  kept_after_add new body longer change next cells is_next is_cells few fit grows enough = rw (is_next) record {
     unmade = λ q l. at_other living new made (Some body) change q (omega arith) ∙ kept.unmade q (omega arith);
     counted = omega (arith, counted_more living new made (Some body) change, kept.counted, is_cells);
     few = few;
+    fit = fit;
     room = λ q b e. elim (eqb_tells q made) [ inl same ↦ here q b e same.1 | inr apart ↦ omega (arith, grows, kept.room q b (sym (at_other living new made (Some body) change q apart.1) ∙ e)) ];
   }
     where

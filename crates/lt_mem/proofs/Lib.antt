@@ -4,4 +4,5 @@ pub mod Blocks
 pub mod Meeting
 pub mod Keeping
 pub mod Becoming
-pub mod Copying
+pub mod Waiting
+pub mod Copies

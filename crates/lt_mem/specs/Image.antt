@@ -1,14 +1,14 @@
 -- What contracts see of a memory, and how what a memory keeps makes it up: only living objects are kept.
-use Rattle.std.specs.Prelude.{◌≡◌, ◌≤◌, ℕ, Bool, true, List, map, length, Option, Some, None, Result, Ok, Err}
+use Rattle.std.specs.Prelude.{◌≡◌, ◌≤◌, ℕ, Bool, true, List, map, length, Option, Some, None, All}
 use Rattle.std.specs.List.{range_with_len}
 use Rattle.std.specs.BTreeMap.{BTreeMap, get}
 use Rattle.std.specs.Ordering.{nat_cmp}
 use Rattle.lt_model.specs.declared.scalar.DataModel.{DataModel}
-use Rattle.lt_model.specs.declared.operator.Ub.{Ub}
 use Rattle.lt_model.specs.declared.cell.Content.{Content}
 use Rattle.lt_model.specs.declared.cell.Shape.{Shape}
 use Rattle.lt_model.specs.declared.cell.StoredCell.{StoredCell}
 use Rattle.lt_model.specs.Memory.{Block, new_cell, ended_block, cells_alive, most_cells}
+use Rattle.lt_mem.specs.Cells.{IsFit}
 
 -- a memory: its data model and its objects, in the order in which they were made
 pub record Image : Type 0 where
@@ -47,4 +47,5 @@ pub record IsKept (living : BTreeMap ℕ Body) (made alive : ℕ) (scratch : Lis
   pub unmade : (k : ℕ) → made ≤ k → get nat_cmp living k ≡ None
   pub counted : alive ≡ cells_alive (blocks_of living made)
   pub few : alive ≤ most_cells
+  pub fit : All IsFit scratch
   pub room : (k : ℕ) (body : Body) → get nat_cmp living k ≡ Some body → length body.cells ≤ length scratch

@@ -3,6 +3,7 @@
 
 mod access;
 mod address;
+mod copying;
 mod lookup;
 mod memory;
 mod object;

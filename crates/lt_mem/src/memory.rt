@@ -1,9 +1,10 @@
 //! Memory: its objects, and how they begin and end.
 
-ghost use Rattle.std.specs.Prelude.{◌≡◌, ◌↔◌, ◌≤◌, ◌+◌, nat_le, None, Some, Ok, Err, IfOk, OnOk, OnErr, MatchResult, [], length};
+ghost use Rattle.std.specs.Prelude.{◌≡◌, ◌↔◌, ◌≤◌, ◌+◌, nat_le, None, Some, Ok, Err, IfOk, OnOk, OnErr, MatchResult, [], length, All};
 ghost use Rattle.lt_model.specs.Memory.{create, new_block, cells_alive, most_cells, create_shaped, end_block, seal_block, object_at};
 ghost use Rattle.lt_mem.specs.declared.stop.MemStop.TheVariants.{Cells};
 ghost use Rattle.lt_mem.specs.Image.{living_block};
+ghost use Rattle.lt_mem.specs.Cells.{IsFit};
 
 use crate::object::Object;
 use crate::stop::MemStop;
@@ -42,6 +43,8 @@ impl Model for Memory {
 
 // Gives the list a place for each of so many cells.
 fn lengthen(scratch: &mut Vec<Content>, cells: usize) -> Result<(), AllocError>
+    requires { All IsFit scratch.old.items }
+    ensures fit { All IsFit scratch.new.items }
     ensures grows { length scratch.old.items ≤ length scratch.new.items }
     ensures enough { OnOk result (cells ≤ length scratch.new.items) }
 {

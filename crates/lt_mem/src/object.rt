@@ -1,12 +1,12 @@
 //! A living object.
 
-ghost use Rattle.std.specs.Prelude.{◌≡◌, ◌<◌, false, IfOk, map, length, slice_index_or};
+ghost use Rattle.std.specs.Prelude.{◌≡◌, ◌+◌, ◌<◌, false, ◌≤◌, IfOk, All, map, length, slice_index_or};
 ghost use Rattle.lt_model.specs.declared.cell.StoredCell.{StoredCell as Stored};
 ghost use Rattle.lt_model.specs.Memory.{new_cell, first_content, held_at, as_type};
 ghost use Rattle.lt_model.specs.Scalar.{convert_of};
 ghost use Rattle.lt_mem.specs.Cells.{place_of, cells_with, IsFit, IsInteger, AllFit};
 ghost use Rattle.lt_mem.specs.Image.{new_body};
-ghost use Rattle.lt_mem.specs.Calls.{Becomes, stored_in};
+ghost use Rattle.lt_mem.specs.Calls.{Becomes, stored_in, delivered};
 
 use crate::lookup::{ascends, find, walk};
 use lt_model::{CellType, Content, DataModel, Scalar, Shape, ShapeCell, StoredCell, Ub, convert};
@@ -189,6 +189,27 @@ impl Object {
             holds: as_type(model, cell.ty, held),
         };
     }
+
+    /// Puts what waits for each cell of a shape that begins at an offset into it.
+    pub(crate) fn deliver(&mut self, model: DataModel, to: u64, shape: &[ShapeCell], waits: &[Content])
+        requires room { length self.old.cells ≤ length waits.now }
+        requires fit { All IsFit waits.now }
+        ensures cells { self.new ≡ record self.old { cells = delivered model self.old.cells to waits.now shape.now } }
+        ensures length { length self.new.cells ≡ length self.old.cells }
+    {
+        for cell in shape {
+            if let Some(place) = self.place(behind(to, cell.offset), cell.ty) {
+                self.put(model, place, waits[place]);
+            }
+        }
+    }
+}
+
+/// An offset behind another, which may pass 64 bits.
+pub(crate) fn behind(base: u64, offset: u64) -> u128
+    ensures { result ≡ base + offset }
+{
+    u128::from(base) + u128::from(offset)
 }
 
 /// A content as a cell or an access of this type has it: a number is converted.

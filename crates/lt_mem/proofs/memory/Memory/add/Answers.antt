@@ -12,7 +12,7 @@ invariant_of-self-2 c =
     let cells : length c.as_slice-cells.result.now ≡ length c.in_ok-object.object.cells = ap length c.as_slice-cells.ensures ∙ sym (ap (λ (b : Body). length b.cells) c.in_ok-object.ensures ∙ length-map c.args.shape.now.cells (new_cell c.args.zero)) in
     let count = c.self.invariant.counted ∙ ap (λ (i : Image). cells_alive i.blocks) c.self.view_is in
     kept_after_add c.self.inside.living c.self.inside.made c.self.inside.alive c.self.inside.scratch.items c.self.invariant c.insert.new.self c.in_ok-object.object c.lengthen.new.scratch.items change _ _
-    c.in-Some.ensures.1 cells (omega (arith, count, c.requires, ap length c.as_slice-cells.ensures)) c.lengthen.ensures.grows c.in_ok-lengthen.ensures.enough
+    c.in-Some.ensures.1 cells (omega (arith, count, c.requires, ap length c.as_slice-cells.ensures)) c.lengthen.ensures.fit c.lengthen.ensures.grows c.in_ok-lengthen.ensures.enough
 
 pub returns-clause-number : goal.returns-clause-number
 returns-clause-number c = sym (ap (λ (i : Image). length i.blocks) (sym c.self.view_is) ∙ length-blocks_of c.self.inside.living c.self.inside.made)

@@ -1,9 +1,9 @@
 -- A struct copied by way of the places where its contents wait: what waits for a cell is the last that goes there.
-use Rattle.std.proofs.Common.{arith, ◌≡◌, ◌≢◌, refl, sym, ◌∙◌, ap, subst, ℕ, zero, suc, ◌+◌, ◌<◌, ◌≤◌, inl, inr, Bool, true, false, List, [], ◌∷◌, length, get_or, set, Option, Some, None, Result, Ok, Err}
+use Rattle.std.proofs.Common.{arith, ◌≡◌, ◌≢◌, refl, sym, ◌∙◌, ap, subst, ℕ, zero, suc, ◌+◌, ◌<◌, ◌≤◌, inl, inr, Bool, true, false, List, [], ◌∷◌, length, get_or, set, drop, Option, Some, None, Result, Ok, Err}
 use Rattle.std.specs.Prelude.{MatchResult}
 use Rattle.std.specs.List.{position, position_or_len}
 use Rattle.std.proofs.lemmas.Bool.Decides.{eqb_tells}
-use Rattle.std.proofs.lemmas.List.{length-set, get_or-set_same, get_or-set_other}
+use Rattle.std.proofs.lemmas.List.{length-set, get_or-set_same, get_or-set_other, at_drop_more}
 use Rattle.lt_model.specs.declared.scalar.DataModel.{DataModel}
 use Rattle.lt_model.specs.declared.operator.Ub.{Ub}
 use Rattle.lt_model.specs.declared.operator.Ub.TheVariants as U
@@ -143,3 +143,30 @@ module _ (model : DataModel) (source : List StoredCell) (from to : ℕ) where
       by_source step (Some k) at =
           rw (held_some (from + cell.offset) cell.ty source k at)
             (after_one _ (gathered source from rest) (λ contents. scattered model target to (cell ∷ rest) contents) ∙ by_target step _ (place_of target (to + cell.offset) cell.ty) refl)
+
+-- ---- a shape walked from cell to cell
+module _ (shape : List ShapeCell) (i : ℕ) (d : ShapeCell) (within : i < length shape) (source : List StoredCell) (from to : ℕ) where
+  -- one more content waits
+  pub waits_more : (target : List StoredCell) (waits : List Content) (held : Content) (place o p : ℕ) → o ≡ from + (get_or shape i d).offset → p ≡ to + (get_or shape i d).offset
+      → Ok held ≡ held_at source o (get_or shape i d).ty → Some place ≡ place_of target p (get_or shape i d).ty
+      → waiting source from target to (set waits place held) (drop (i + 1) shape) ≡ waiting source from target to waits (drop i shape)
+  waits_more target waits held place o p e f is at =
+      let held_is : held_at source (from + (get_or shape i d).offset) (get_or shape i d).ty ≡ Ok held = ap (λ n. held_at source n (get_or shape i d).ty) (sym e) ∙ sym is in
+      let place_is : place_of target (to + (get_or shape i d).offset) (get_or shape i d).ty ≡ Some place = ap (λ n. place_of target n (get_or shape i d).ty) (sym f) ∙ sym at in
+      sym (at_drop_more (waiting source from target to waits) shape i d within ∙ rw (held_is, place_is) refl)
+
+  -- a cell that content is to go to isn't there
+  pub waits_none : (target : List StoredCell) (waits : List Content) (held : Content) (o p : ℕ) → o ≡ from + (get_or shape i d).offset → p ≡ to + (get_or shape i d).offset
+      → Ok held ≡ held_at source o (get_or shape i d).ty → None ≡ place_of target p (get_or shape i d).ty → waiting source from target to waits (drop i shape) ≡ Err U.NoCell
+  waits_none target waits held o p e f is at =
+      let held_is : held_at source (from + (get_or shape i d).offset) (get_or shape i d).ty ≡ Ok held = ap (λ n. held_at source n (get_or shape i d).ty) (sym e) ∙ sym is in
+      let place_is : place_of target (to + (get_or shape i d).offset) (get_or shape i d).ty ≡ None = ap (λ n. place_of target n (get_or shape i d).ty) (sym f) ∙ sym at in
+      at_drop_more (waiting source from target to waits) shape i d within ∙ rw (held_is, place_is) refl
+
+module _ (shape : List ShapeCell) (i : ℕ) (d : ShapeCell) (within : i < length shape) (to : ℕ) where
+  -- one more content is delivered
+  pub delivered_more : (model : DataModel) (cells after : List StoredCell) (waits : List Content) (p : ℕ) (place : Option ℕ) → p ≡ to + (get_or shape i d).offset → place ≡ place_of cells p (get_or shape i d).ty → after ≡ delivered_at model cells waits place
+      → delivered model after to waits (drop (i + 1) shape) ≡ delivered model cells to waits (drop i shape)
+  delivered_more model cells after waits p place e at is =
+      let place_is : place ≡ place_of cells (to + (get_or shape i d).offset) (get_or shape i d).ty = at ∙ ap (λ n. place_of cells n (get_or shape i d).ty) e in
+      ap (λ cs. delivered model cs to waits (drop (i + 1) shape)) (is ∙ ap (delivered_at model cells waits) place_is) ∙ sym (at_drop_more (delivered model cells to waits) shape i d within)
