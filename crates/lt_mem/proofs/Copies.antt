@@ -33,13 +33,13 @@ module _ (model : DataModel) (source : List StoredCell) (from : ℕ) (target : B
   pub copied_by : (after : List Content) → waiting source from target.cells to waits shape ≡ Ok after → copied_in model source from target to shape ≡ (if target.writable then Ok (record target { cells = delivered model target.cells to after shape }) else Err U.Sealed)
   copied_by after ends =
       regrouped (gathered source from shape) (λ contents. scattered model target.cells to shape contents) (λ cells. if target.writable then Ok (record target { cells = cells }) else Err U.Sealed)
-        ∙ ap (λ r. then_result r (λ cells. if target.writable then Ok (record target { cells = cells }) else Err U.Sealed)) (copied model source from to shape target.cells waits room ∙ ap (λ w. then_result w (λ a. Ok (delivered model target.cells to a shape))) ends)
+      ∙ ap (λ r. then_result r (λ cells. if target.writable then Ok (record target { cells = cells }) else Err U.Sealed)) (copied model source from to shape target.cells waits room ∙ ap (λ w. then_result w (λ a. Ok (delivered model target.cells to a shape))) ends)
 
   -- a cell isn't there
   pub not_copied_by : (kind : Ub) → waiting source from target.cells to waits shape ≡ Err kind → copied_in model source from target to shape ≡ Err kind
   not_copied_by kind ends =
       regrouped (gathered source from shape) (λ contents. scattered model target.cells to shape contents) (λ cells. if target.writable then Ok (record target { cells = cells }) else Err U.Sealed)
-        ∙ ap (λ r. then_result r (λ cells. if target.writable then Ok (record target { cells = cells }) else Err U.Sealed)) (copied model source from to shape target.cells waits room ∙ ap (λ w. then_result w (λ a. Ok (delivered model target.cells to a shape))) ends)
+      ∙ ap (λ r. then_result r (λ cells. if target.writable then Ok (record target { cells = cells }) else Err U.Sealed)) (copied model source from to shape target.cells waits room ∙ ap (λ w. then_result w (λ a. Ok (delivered model target.cells to a shape))) ends)
 
 -- a copy into an object is a copy in memory
 module _ (model : DataModel) (living new : BTreeMap ℕ Body) (made : ℕ) (unmade : (k : ℕ) → made ≤ k → get nat_cmp living k ≡ None) (image : Image) (is : record { model = model; blocks = blocks_of living made } ≡ image) where
@@ -50,11 +50,11 @@ module _ (model : DataModel) (living new : BTreeMap ℕ Body) (made : ℕ) (unma
       let to_is : object_at (blocks_of living made) (Some to) ≡ Ok (living_block before) = used living made unmade to.block ∙ ap if_living there in
       let from_is : object_at (blocks_of living made) (Some from) ≡ Ok (living_block source) = used living made unmade from.block ∙ ap if_living here in
       subst (λ i. Becomes (with_blocks i (copy_struct i.model i.blocks (Some to) (Some from) shape)) i result (record { model = model; blocks = blocks_of new made })) is
-        (rw (to_is, from_is)
-          (subst (λ r. Becomes (with_blocks (record { model = model; blocks = blocks_of living made }) r) (record { model = model; blocks = blocks_of living made }) result (record { model = model; blocks = blocks_of new made }))
-            (sym (regrouped (gathered source.cells from.offset shape.cells) (λ contents. scattered model before.cells to.offset shape.cells contents) (λ cells. if before.writable then Ok (replaced (blocks_of living made) (Some to) (living_block before) cells) else Err U.Sealed)))
-            (by_object model living new made to before after given there change before.writable (then_result (gathered source.cells from.offset shape.cells) (λ contents. scattered model before.cells to.offset shape.cells contents)) result
-              (subst (λ r. Becomes r before result after) (regrouped (gathered source.cells from.offset shape.cells) (λ contents. scattered model before.cells to.offset shape.cells contents) (λ cells. if before.writable then Ok (record before { cells = cells }) else Err U.Sealed)) becomes))))
+      (rw (to_is, from_is)
+      (subst (λ r. Becomes (with_blocks (record { model = model; blocks = blocks_of living made }) r) (record { model = model; blocks = blocks_of living made }) result (record { model = model; blocks = blocks_of new made }))
+      (sym (regrouped (gathered source.cells from.offset shape.cells) (λ contents. scattered model before.cells to.offset shape.cells contents) (λ cells. if before.writable then Ok (replaced (blocks_of living made) (Some to) (living_block before) cells) else Err U.Sealed)))
+      (by_object model living new made to before after given there change before.writable (then_result (gathered source.cells from.offset shape.cells) (λ contents. scattered model before.cells to.offset shape.cells contents)) result
+      (subst (λ r. Becomes r before result after) (regrouped (gathered source.cells from.offset shape.cells) (λ contents. scattered model before.cells to.offset shape.cells contents) (λ cells. if before.writable then Ok (record before { cells = cells }) else Err U.Sealed)) becomes))))
 
   -- an object of theirs has ended
   pub target_ended : (to from : Address) (shape : Shape) → get nat_cmp living to.block ≡ None → Becomes (with_blocks image (copy_struct image.model image.blocks (Some to) (Some from) shape)) image (Err U.Ended) image
@@ -75,14 +75,14 @@ module _ (model : DataModel) (living new : BTreeMap ℕ Body) (made : ℕ) (unma
     pub copy_failed : (kind : Ub) → waiting source.cells from.offset before.cells to.offset waits cells ≡ Err kind → IsChange living new to.block (Some before) → Becomes (with_blocks image (copy_struct image.model image.blocks (Some to) (Some from) shape)) image (Err kind) (record { model = model; blocks = blocks_of new made })
     copy_failed kind ends change =
         copied_into to from before before source shape (Err kind) given there here change
-          (rw (not_copied_by model source.cells from.offset before to.offset shape.cells waits room kind (ap (waiting source.cells from.offset before.cells to.offset waits) (sym same) ∙ ends)) (refl, refl))
+        (rw (not_copied_by model source.cells from.offset before to.offset shape.cells waits room kind (ap (waiting source.cells from.offset before.cells to.offset waits) (sym same) ∙ ends)) (refl, refl))
 
     -- the object isn't writable
     pub copy_sealed : (after : List Content) → waiting source.cells from.offset before.cells to.offset waits cells ≡ Ok after → before.writable ≡ false → IsChange living new to.block (Some before) → Becomes (with_blocks image (copy_struct image.model image.blocks (Some to) (Some from) shape)) image (Err U.Sealed) (record { model = model; blocks = blocks_of new made })
     copy_sealed after ends closed change =
         copied_into to from before before source shape (Err U.Sealed) given there here change
-          (rw (copied_by model source.cells from.offset before to.offset shape.cells waits room after (ap (waiting source.cells from.offset before.cells to.offset waits) (sym same) ∙ ends))
-            (refused_by U.Sealed before _ before.writable closed))
+        (rw (copied_by model source.cells from.offset before to.offset shape.cells waits room after (ap (waiting source.cells from.offset before.cells to.offset waits) (sym same) ∙ ends))
+        (refused_by U.Sealed before _ before.writable closed))
 
     -- the contents that waited are delivered
     pub copy_done : (after : List Content) (found now : Body) → waiting source.cells from.offset before.cells to.offset waits cells ≡ Ok after → before.writable ≡ true → get nat_cmp living to.block ≡ Some found → now ≡ record found { cells = delivered model found.cells to.offset after cells } → IsChange living new to.block (Some now)
@@ -91,5 +91,5 @@ module _ (model : DataModel) (living new : BTreeMap ℕ Body) (made : ℕ) (unma
         let one : before ≡ found = cc in
         let e : now ≡ record before { cells = delivered model before.cells to.offset after shape.cells } = is ∙ ap (λ cs. record found { cells = delivered model found.cells to.offset after cs }) same ∙ ap (λ (b : Body). record b { cells = delivered model b.cells to.offset after shape.cells }) (sym one) in
         copied_into to from before now source shape (Ok tt) given there here change
-          (rw (copied_by model source.cells from.offset before to.offset shape.cells waits room after (ap (waiting source.cells from.offset before.cells to.offset waits) (sym same) ∙ ends))
-            (done_by U.Sealed before _ before.writable now open_ e))
+        (rw (copied_by model source.cells from.offset before to.offset shape.cells waits room after (ap (waiting source.cells from.offset before.cells to.offset waits) (sym same) ∙ ends))
+        (done_by U.Sealed before _ before.writable now open_ e))

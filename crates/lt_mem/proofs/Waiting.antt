@@ -73,7 +73,7 @@ module _ (model : DataModel) (source : List StoredCell) (from to : ℕ) where
       ap (cells_with model target j) (sym here ∙ ap (λ w. get_or w j content.Unset) same)
   in_the_end j h (cell ∷ rest) target waits after room here ends =
       rw (place_with model (to + cell.offset) cell.ty target j h, place_with model (to + cell.offset) cell.ty target j (get_or after j content.Unset))
-        (by_cases (in_the_end j h rest) (held_at source (from + cell.offset) cell.ty) (place_of target (to + cell.offset) cell.ty) ends)
+      (by_cases (in_the_end j h rest) (held_at source (from + cell.offset) cell.ty) (place_of target (to + cell.offset) cell.ty) ends)
     where
       by_cases : IsAlike j h rest → (r : Result Content Ub) (p : Option ℕ) → then_result r (λ k. then_result (placed p) (λ m. waiting source from target to (set waits m k) rest)) ≡ Ok after
           → delivered model (delivered_at model (cells_with model target j h) after p) to after rest ≡ delivered model (delivered_at model (cells_with model target j (get_or after j content.Unset)) after p) to after rest
@@ -83,15 +83,16 @@ module _ (model : DataModel) (source : List StoredCell) (from to : ℕ) where
           let x : Content = get_or after m content.Unset in
           let y : Content = get_or after j content.Unset in
           elim (eqb_tells m j) [
-              inl same ↦ ap (λ cs. delivered model cs to after rest) (subst (λ i. cells_with model (cells_with model target i h) m x ≡ cells_with model (cells_with model target i y) m x) same.1 (again model target m h x ∙ sym (again model target m y x)))
+            | inl same ↦ ap (λ cs. delivered model cs to after rest) (subst (λ i. cells_with model (cells_with model target i h) m x ≡ cells_with model (cells_with model target i y) m x) same.1 (again model target m h x ∙ sym (again model target m y x)))
             | inr differ ↦
                 let other : j ≢ m = λ e. differ.1 (sym e) in
                 let still : get_or (set waits m k) j content.Unset ≡ h = get_or-set_other waits m j k content.Unset other ∙ here in
                 let n : length (cells_with model target m x) ≡ length target = length-cells_with model x target m in
                 let o : length (set waits m k) ≡ length waits = length-set waits m k in
                 ap (λ cs. delivered model cs to after rest) (apart model target j m h x other)
-                  ∙ alike (cells_with model target m x) (set waits m k) after (omega arith) still (waiting_same rest target m x (set waits m k) ∙ ends)
-                  ∙ ap (λ cs. delivered model cs to after rest) (sym (apart model target j m y x other)) ]
+                ∙ alike (cells_with model target m x) (set waits m k) after (omega arith) still (waiting_same rest target m x (set waits m k) ∙ ends)
+                ∙ ap (λ cs. delivered model cs to after rest) (sym (apart model target j m y x other))
+          ]
 
   -- the one kind by which contents can't be had
   pub only_no_cell : (shape : List ShapeCell) → MatchResult (gathered source from shape) (λ _. Unit {0}) (λ kind. kind ≡ U.NoCell)
@@ -133,16 +134,16 @@ module _ (model : DataModel) (source : List StoredCell) (from to : ℕ) where
           let n : length (cells_with model target j h) ≡ length target = length-cells_with model h target j in
           let o : length (set waits j h) ≡ length waits = length-set waits j h in
           rw (with_some (to + cell.offset) cell.ty model h target j at)
-            (step (cells_with model target j h) (set waits j h) (omega arith)
-              ∙ ap (λ w. then_result w (λ after. Ok (delivered model (cells_with model target j h) to after rest))) (waiting_same rest target j h (set waits j h))
-              ∙ at_end j h within (waiting source from target to (set waits j h) rest) refl)
+          (step (cells_with model target j h) (set waits j h) (omega arith)
+          ∙ ap (λ w. then_result w (λ after. Ok (delivered model (cells_with model target j h) to after rest))) (waiting_same rest target j h (set waits j h))
+          ∙ at_end j h within (waiting source from target to (set waits j h) rest) refl)
 
       by_source : IsCopied rest → (p : Option ℕ) → p ≡ place_of source (from + cell.offset) cell.ty
           → then_result (gathered source from (cell ∷ rest)) (λ contents. scattered model target to (cell ∷ rest) contents) ≡ then_result (waiting source from target to waits (cell ∷ rest)) (λ after. Ok (delivered model target to after (cell ∷ rest)))
       by_source step None at = rw (held_none (from + cell.offset) cell.ty source at) refl
       by_source step (Some k) at =
           rw (held_some (from + cell.offset) cell.ty source k at)
-            (after_one _ (gathered source from rest) (λ contents. scattered model target to (cell ∷ rest) contents) ∙ by_target step _ (place_of target (to + cell.offset) cell.ty) refl)
+          (after_one _ (gathered source from rest) (λ contents. scattered model target to (cell ∷ rest) contents) ∙ by_target step _ (place_of target (to + cell.offset) cell.ty) refl)
 
 -- ---- a shape walked from cell to cell
 module _ (shape : List ShapeCell) (i : ℕ) (d : ShapeCell) (within : i < length shape) (source : List StoredCell) (from to : ℕ) where

@@ -38,7 +38,12 @@ impl Memory {
     /// ones and addresses of ended objects are copied as they are; or the kind of undefined behaviour: null followed, an ended
     /// object, no such cell, or an object that isn't writable. It takes no memory.
     #[tactic(auto, unfolding(lt_model::specs::Memory::copy_struct))]
-    pub fn copy_struct(&mut self, to: Option<Address>, from: Option<Address>, shape: &Shape) -> Result<(), Ub>
+    pub fn copy_struct(
+        &mut self,
+        to: Option<Address>,
+        from: Option<Address>,
+        shape: &Shape,
+    ) -> Result<(), Ub>
         ensures { Becomes (with_blocks self.old (copy_struct self.old.model self.old.blocks to from shape.now)) self.old result self.new }
     {
         let Some(to) = to else {
@@ -54,7 +59,14 @@ impl Memory {
             return Err(Ub::Ended);
         };
         let cells = shape.cells.as_slice();
-        gather(source, from.offset, target, to.offset, cells, self.scratch.as_mut_slice())?;
+        gather(
+            source,
+            from.offset,
+            target,
+            to.offset,
+            cells,
+            self.scratch.as_mut_slice(),
+        )?;
         if !target.is_writable() {
             return Err(Ub::Sealed);
         }

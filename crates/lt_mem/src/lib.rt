@@ -11,3 +11,6 @@ mod stop;
 
 pub use memory::Memory;
 pub use stop::MemStop;
+
+#[cfg(test)]
+mod tests;

@@ -69,6 +69,13 @@ impl Memory {
         })
     }
 
+    /// The data model by which numbers are converted.
+    pub fn model(&self) -> DataModel
+        ensures { result ≡ self.now.model }
+    {
+        self.model
+    }
+
     // Whether an object of this shape may be made: then no more cells are alive than may be.
     #[tactic(auto, using(crate::proofs::Keeping::room_test))]
     fn has_room(&self, shape: &Shape) -> bool

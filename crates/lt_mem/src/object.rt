@@ -191,7 +191,13 @@ impl Object {
     }
 
     /// Puts what waits for each cell of a shape that begins at an offset into it.
-    pub(crate) fn deliver(&mut self, model: DataModel, to: u64, shape: &[ShapeCell], waits: &[Content])
+    pub(crate) fn deliver(
+        &mut self,
+        model: DataModel,
+        to: u64,
+        shape: &[ShapeCell],
+        waits: &[Content],
+    )
         requires room { length self.old.cells ≤ length waits.now }
         requires fit { All IsFit waits.now }
         ensures cells { self.new ≡ record self.old { cells = delivered model self.old.cells to waits.now shape.now } }

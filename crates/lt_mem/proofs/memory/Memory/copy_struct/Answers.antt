@@ -23,8 +23,8 @@ returns-in_err-gather c =
     let below = given c.self.inside.living c.self.inside.made _ _ c.self.invariant c.in-Some.to.block c.in-Some-get.target.now there in
     let room : length c.in-Some-get.target.now.cells ≤ length c.as_mut_slice.result.now = omega (arith, c.self.invariant.room c.in-Some.to.block c.in-Some-get.target.now there, ap length c.as_mut_slice.ensures.value) in
     rw (p.1, p.2, c.in-Some.is, c.in-Some-from.is)
-      (copy_failed c.self.inside.model c.self.inside.living c.self.inside.living c.self.inside.made c.self.invariant.unmade c.args.self.now c.self.view_is c.in-Some.to c.in-Some-from.from
-        c.in-Some-get.target.now c.in-Some-get-2.source.now c.args.shape.now c.as_slice-cells.result.now c.as_mut_slice.result.now c.as_slice-cells.ensures below there here room _ c.in_err-gather.ensures.waits (no_change c.self.inside.living _ _ there))
+    (copy_failed c.self.inside.model c.self.inside.living c.self.inside.living c.self.inside.made c.self.invariant.unmade c.args.self.now c.self.view_is c.in-Some.to c.in-Some-from.from
+    c.in-Some-get.target.now c.in-Some-get-2.source.now c.args.shape.now c.as_slice-cells.result.now c.as_mut_slice.result.now c.as_slice-cells.ensures below there here room _ c.in_err-gather.ensures.waits (no_change c.self.inside.living _ _ there))
 
 pub returns-then-not-is_writable : goal.returns-then-not-is_writable
 returns-then-not-is_writable c =
@@ -33,8 +33,8 @@ returns-then-not-is_writable c =
     let below = given c.self.inside.living c.self.inside.made _ _ c.self.invariant c.in-Some.to.block c.in-Some-get.target.now there in
     let room : length c.in-Some-get.target.now.cells ≤ length c.as_mut_slice.result.now = omega (arith, c.self.invariant.room c.in-Some.to.block c.in-Some-get.target.now there, ap length c.as_mut_slice.ensures.value) in
     rw (c.in-Some.is, c.in-Some-from.is)
-      (copy_sealed c.self.inside.model c.self.inside.living c.self.inside.living c.self.inside.made c.self.invariant.unmade c.args.self.now c.self.view_is c.in-Some.to c.in-Some-from.from
-        c.in-Some-get.target.now c.in-Some-get-2.source.now c.args.shape.now c.as_slice-cells.result.now c.as_mut_slice.result.now c.as_slice-cells.ensures below there here room _ c.in_ok-gather.ensures.waits (sym c.is_writable.ensures ∙ c.if-not-is_writable.true) (no_change c.self.inside.living _ _ there))
+    (copy_sealed c.self.inside.model c.self.inside.living c.self.inside.living c.self.inside.made c.self.invariant.unmade c.args.self.now c.self.view_is c.in-Some.to c.in-Some-from.from
+    c.in-Some-get.target.now c.in-Some-get-2.source.now c.args.shape.now c.as_slice-cells.result.now c.as_mut_slice.result.now c.as_slice-cells.ensures below there here room _ c.in_ok-gather.ensures.waits (sym c.is_writable.ensures ∙ c.if-not-is_writable.true) (no_change c.self.inside.living _ _ there))
 
 pub invariant_of-self-2 : goal.invariant_of-self-2
 invariant_of-self-2 c =
@@ -43,7 +43,7 @@ invariant_of-self-2 c =
     let kept = kept_after_change c.self.inside.living _ _ _ c.self.invariant (c.get_mut.follows.lender c.deliver.new.self) c.in-Some.to.block c.in-Some-get_mut.target.now c.deliver.new.self found change c.deliver.ensures.length in
     let same : length c.gather.new.waits ≡ c.self.inside.scratch.len = omega (arith, c.gather.auto.waits, c.as_mut_slice.ensures.len) in
     subst (IsKept (c.get_mut.follows.lender c.deliver.new.self) c.self.inside.made c.self.inside.alive) (sym (with_items_is c.self.inside.scratch c.gather.new.waits same))
-      (kept_with (c.get_mut.follows.lender c.deliver.new.self) c.self.inside.made c.self.inside.alive c.self.inside.scratch.items kept c.gather.new.waits (omega (arith, c.gather.auto.waits, ap length c.as_mut_slice.ensures.value)) c.in_ok-gather.ensures.fit)
+    (kept_with (c.get_mut.follows.lender c.deliver.new.self) c.self.inside.made c.self.inside.alive c.self.inside.scratch.items kept c.gather.new.waits (omega (arith, c.gather.auto.waits, ap length c.as_mut_slice.ensures.value)) c.in_ok-gather.ensures.fit)
 
 pub returns : goal.returns
 returns c =
@@ -54,5 +54,5 @@ returns c =
     let found = sym c.in-Some-get_mut.ensures.value in
     let change = change_through c.self.inside.living (c.get_mut.follows.lender c.deliver.new.self) c.in-Some.to.block c.in-Some-get_mut.target.now c.deliver.new.self (c.get_mut.follows.holds c.deliver.new.self) found in
     rw (c.in-Some.is, c.in-Some-from.is)
-      (copy_done c.self.inside.model c.self.inside.living (c.get_mut.follows.lender c.deliver.new.self) c.self.inside.made c.self.invariant.unmade c.args.self.now c.self.view_is c.in-Some.to c.in-Some-from.from
-        c.in-Some-get.target.now c.in-Some-get-2.source.now c.args.shape.now c.as_slice-cells.result.now c.as_mut_slice.result.now c.as_slice-cells.ensures below there here room c.gather.new.waits c.in-Some-get_mut.target.now c.deliver.new.self c.in_ok-gather.ensures.waits (sym c.is_writable.ensures ∙ c.if-not-is_writable.false) found (c.deliver.ensures.cells ∙ ap (λ waits. record c.in-Some-get_mut.target.now { cells = delivered c.self.inside.model c.in-Some-get_mut.target.now.cells c.in-Some.to.offset waits c.as_slice-cells.result.now }) (c.as_slice.ensures.value ∙ with_items_is c.self.inside.scratch c.gather.new.waits (omega (arith, c.gather.auto.waits, c.as_mut_slice.ensures.len)))) change)
+    (copy_done c.self.inside.model c.self.inside.living (c.get_mut.follows.lender c.deliver.new.self) c.self.inside.made c.self.invariant.unmade c.args.self.now c.self.view_is c.in-Some.to c.in-Some-from.from
+    c.in-Some-get.target.now c.in-Some-get-2.source.now c.args.shape.now c.as_slice-cells.result.now c.as_mut_slice.result.now c.as_slice-cells.ensures below there here room c.gather.new.waits c.in-Some-get_mut.target.now c.deliver.new.self c.in_ok-gather.ensures.waits (sym c.is_writable.ensures ∙ c.if-not-is_writable.false) found (c.deliver.ensures.cells ∙ ap (λ waits. record c.in-Some-get_mut.target.now { cells = delivered c.self.inside.model c.in-Some-get_mut.target.now.cells c.in-Some.to.offset waits c.as_slice-cells.result.now }) (c.as_slice.ensures.value ∙ with_items_is c.self.inside.scratch c.gather.new.waits (omega (arith, c.gather.auto.waits, c.as_mut_slice.ensures.len)))) change)
