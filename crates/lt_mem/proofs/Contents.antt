@@ -1,5 +1,5 @@
 -- One cell of an object takes a content: where cells are found stays.
-use Rattle.std.proofs.Common.{arith, ◌≡◌, refl, sym, ◌∙◌, ap, subst, ℕ, zero, suc, ◌+◌, ◌<◌, ◌≤◌, Bool, true, false, List, [], ◌∷◌, length, get_or, set, map}
+use Rattle.std.proofs.Common.{arith, ◌≡◌, refl, sym, ◌∙◌, ap, subst, ℕ, zero, suc, ◌<◌, Bool, true, false, List, [], ◌∷◌, length, get_or, set, map}
 use Rattle.std.proofs.lemmas.Int.{ints}
 use Rattle.std.proofs.lemmas.List.Elements.{All-map, All-set}
 use Rattle.lt_model.specs.declared.scalar.DataModel.{DataModel}
@@ -10,7 +10,7 @@ use Rattle.lt_model.specs.declared.cell.StoredCell.{StoredCell}
 use Rattle.lt_model.specs.declared.cell.ShapeCell.{ShapeCell}
 use Rattle.lt_model.specs.Memory.{as_type, first_content, new_cell}
 use Rattle.lt_mem.specs.Image.{Body}
-use Rattle.lt_mem.specs.Cells.{cells_with, place_of, IsAscending, IsFit, IsInteger, AllFit}
+use Rattle.lt_mem.specs.Cells.{cells_with, IsAscending, IsFit, AllFit}
 
 -- a cell with another content
 abbrev pub cell_with : DataModel → StoredCell → Content → StoredCell

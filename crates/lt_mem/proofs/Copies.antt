@@ -1,9 +1,9 @@
 -- A struct copied into an object of memory.
-use Rattle.std.proofs.Common.{arith, ◌≡◌, refl, sym, ◌∙◌, ap, subst, cond, ℕ, ◌==◌, ◌<◌, ◌≤◌, inl, inr, length, set, List, Bool, true, false, Option, Some, None, Result, Ok, Err}
+use Rattle.std.proofs.Common.{◌≡◌, refl, sym, ◌∙◌, ap, subst, ℕ, ◌<◌, ◌≤◌, inl, inr, length, List, true, false, Some, None, Result, Ok, Err}
 use Rattle.std.specs.Prelude.{if◌then◌else◌}
 use Rattle.std.specs.BTreeMap.{BTreeMap, get}
 use Rattle.std.specs.Ordering.{nat_cmp}
-use Rattle.std.proofs.lemmas.Bool.Decides.{nat_tests, eqb_tells}
+use Rattle.std.proofs.lemmas.Bool.Decides.{eqb_tells}
 use Rattle.lt_model.specs.declared.scalar.DataModel.{DataModel}
 use Rattle.lt_model.specs.declared.operator.Ub.{Ub}
 use Rattle.lt_model.specs.declared.operator.Ub.TheVariants as U
@@ -12,8 +12,8 @@ use Rattle.lt_model.specs.declared.cell.Content.{Content}
 use Rattle.lt_model.specs.declared.cell.Shape.{Shape}
 use Rattle.lt_model.specs.declared.cell.ShapeCell.{ShapeCell}
 use Rattle.lt_model.specs.declared.cell.StoredCell.{StoredCell}
-use Rattle.lt_model.specs.Memory.{Block, then_result, object_at, replaced, gathered, scattered, copy_struct}
-use Rattle.lt_mem.specs.Image.{Image, Body, living_block, block_of, blocks_of}
+use Rattle.lt_model.specs.Memory.{then_result, object_at, replaced, gathered, scattered, copy_struct}
+use Rattle.lt_mem.specs.Image.{Image, Body, living_block, blocks_of}
 use Rattle.lt_mem.specs.Calls.{Becomes, with_blocks, copied_in, waiting, delivered}
 use Rattle.lt_mem.proofs.Blocks.{IsChange, used, if_living}
 use Rattle.lt_mem.proofs.Becoming.{by_object, refused_by, done_by}

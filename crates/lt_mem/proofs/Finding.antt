@@ -1,7 +1,7 @@
 -- Where offsets ascend, one cell alone can stand at an offset.
-use Rattle.std.proofs.Common.{arith, ◌≡◌, ◌≢◌, ◌↔◌, refl, sym, ◌∙◌, ap, ℕ, zero, suc, ◌+◌, ◌-◌, ◌<◌, ◌≤◌, ◌&&◌, Bool, true, false, IsTrue, List, length, get_or, cond, Option, Some, None, Result, Ok, Err}
-use Rattle.std.specs.Prelude.{nat_lt, if◌then◌else◌}
-use Rattle.std.specs.List.{AllAdjacentBelow, IsAllAdjacentAnswer, position, position_or_len}
+use Rattle.std.proofs.Common.{arith, ◌≡◌, ◌≢◌, ◌↔◌, refl, sym, ◌∙◌, ap, ℕ, zero, suc, ◌+◌, ◌-◌, ◌<◌, ◌≤◌, Bool, true, false, IsTrue, List, length, get_or, Some, None, Result, Ok, Err}
+use Rattle.std.specs.Prelude.{nat_lt}
+use Rattle.std.specs.List.{AllAdjacentBelow, IsAllAdjacentAnswer, position_or_len}
 use Rattle.std.specs.List.Sorted.{IsSearchInRange, IsBinarySearchResult, IsNonDecreasingBy}
 use Rattle.std.specs.Ordering.{nat_cmp, ordering_index}
 use Rattle.std.specs.Result.{result_ok}

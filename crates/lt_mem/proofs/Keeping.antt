@@ -1,5 +1,5 @@
 -- What always holds of what a memory keeps, after an object is made, ended or changed.
-use Rattle.std.proofs.Common.{arith, ◌≡◌, ◌≢◌, refl, sym, ◌∙◌, ap, subst, ℕ, zero, suc, ◌+◌, ◌-◌, ◌<◌, ◌≤◌, ◌⊎◌, inl, inr, Bool, true, false, List, [], ◌∷◌, ◌++◌, length, set, map, Option, Some, None}
+use Rattle.std.proofs.Common.{arith, ◌≡◌, sym, ◌∙◌, ap, ℕ, ◌+◌, ◌-◌, ◌<◌, ◌≤◌, ◌⊎◌, inl, inr, Bool, false, List, [], ◌∷◌, ◌++◌, length, set, Some, None}
 use Rattle.std.specs.Prelude.{nat_le, slice_get}
 use Rattle.std.specs.BTreeMap.{BTreeMap, get}
 use Rattle.std.specs.Ordering.{nat_cmp}
@@ -12,7 +12,7 @@ use Rattle.lt_model.specs.declared.cell.Shape.{Shape}
 use Rattle.lt_model.specs.Memory.{Block, ended_block, living_cells, cells_alive, most_cells, sealed, seal_block, create, new_block}
 use Rattle.std.specs.List.{All}
 use Rattle.lt_mem.specs.Cells.{IsFit}
-use Rattle.lt_mem.specs.Image.{Image, Body, new_body, living_block, block_of, block_at, blocks_of, IsKept}
+use Rattle.lt_mem.specs.Image.{Body, new_body, living_block, block_of, block_at, blocks_of, IsKept}
 use Rattle.lt_mem.proofs.Blocks.{IsChange, at_key, at_other, changed, appended, recounted, counted_more, length-blocks_of, get_or-blocks_of, slice_get-blocks_of}
 
 module _ (living : BTreeMap ℕ Body) (made alive : ℕ) (scratch : List Content) (kept : IsKept living made alive scratch) where

@@ -1,16 +1,14 @@
 -- What an access finds and writes, by the place of the cell that it meets.
-use Rattle.std.proofs.Common.{arith, ◌≡◌, refl, sym, ◌∙◌, ap, ℕ, zero, suc, ◌+◌, ◌<◌, ◌≤◌, Bool, true, false, List, [], ◌∷◌, length, get_or, set, Option, Some, None, Result, Ok, Err}
-use Rattle.std.specs.List.{position, position_or_len}
+use Rattle.std.proofs.Common.{arith, ◌≡◌, refl, sym, ap, ℕ, zero, suc, ◌<◌, true, false, List, [], ◌∷◌, length, get_or, Some, None, Ok, Err}
 use Rattle.std.proofs.lemmas.Bool.Decides.{nat_tests}
 use Rattle.std.proofs.lemmas.List.Quantifiers.{position-Some}
 use Rattle.std.proofs.lemmas.List.Sums.{fails_before_first}
 use Rattle.lt_model.specs.declared.scalar.DataModel.{DataModel}
-use Rattle.lt_model.specs.declared.operator.Ub.{Ub}
 use Rattle.lt_model.specs.declared.operator.Ub.TheVariants as U
 use Rattle.lt_model.specs.declared.cell.CellType.{CellType}
 use Rattle.lt_model.specs.declared.cell.Content.{Content}
 use Rattle.lt_model.specs.declared.cell.StoredCell.{StoredCell}
-use Rattle.lt_model.specs.Memory.{corresponds, held_at, with_held, before_cells}
+use Rattle.lt_model.specs.Memory.{held_at, with_held, before_cells}
 use Rattle.lt_mem.specs.Cells.{meets, place_of, cells_with}
 use Rattle.lt_mem.proofs.Finding.{no_cell}
 

@@ -1,5 +1,5 @@
 -- What the calls that change a memory promise.
-use Rattle.std.specs.Prelude.{◌≡◌, ◌==◌, ◌&&◌, ◌+◌, ℕ, ℤ, pos, List, [], ◌∷◌, get_or, slice_set, Bool, Option, Some, None, Result, Ok, Err, if◌then◌else◌, int_le, unsigned_abs}
+use Rattle.std.specs.Prelude.{◌≡◌, ◌==◌, ◌&&◌, ◌+◌, ℕ, ℤ, pos, List, [], ◌∷◌, get_or, slice_set, Option, Some, None, Result, Ok, Err, if◌then◌else◌, int_le, unsigned_abs}
 use Rattle.lt_model.specs.declared.scalar.DataModel.{DataModel}
 use Rattle.lt_model.specs.declared.operator.Ub.{Ub}
 use Rattle.lt_model.specs.declared.operator.Ub.TheVariants as U

@@ -1,5 +1,5 @@
 -- The cells of an object: which one an access meets, and what each may hold.
-use Rattle.std.specs.Prelude.{◌≡◌, ◌≢◌, ◌<◌, ◌≤ℤ◌, ℕ, zero, suc, ℤ, pos, negsuc, ◌^◌, ◌-◌, ◌+◌, ◌==◌, ◌&&◌, List, [], ◌∷◌, Bool, Option, MatchOption, All, length, get_or, position}
+use Rattle.std.specs.Prelude.{◌≡◌, ◌≢◌, ◌<◌, ◌≤ℤ◌, ℕ, zero, suc, ℤ, pos, negsuc, ◌^◌, ◌-◌, ◌==◌, ◌&&◌, List, [], ◌∷◌, Bool, Option, MatchOption, All, length, get_or, position}
 use Rattle.lt_model.specs.declared.scalar.DataModel.{DataModel}
 use Rattle.lt_model.specs.declared.cell.CellType.{CellType}
 use Rattle.lt_model.specs.declared.cell.Content.{Content}

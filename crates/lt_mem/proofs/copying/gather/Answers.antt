@@ -1,4 +1,4 @@
-use Rattle.std.proofs.Common.{arith, ◌≡◌, sym, ◌∙◌}
+use Rattle.std.proofs.Common.{arith, sym, ◌∙◌}
 use Rattle.std.proofs.lemmas.List.Elements.{All-set}
 use Rattle.lt_mem.specs.Cells.{IsFit}
 use Rattle.lt_mem.proofs.Waiting.{waits_more, waits_none}

@@ -1,4 +1,4 @@
-use Rattle.std.proofs.Common.{◌≡◌, ◌≤◌, length, drop}
+use Rattle.std.proofs.Common.{◌≡◌, drop}
 use Rattle.std.specs.List.{All}
 use Rattle.lt_mem.specs.Cells.{IsFit}
 use Rattle.lt_mem.specs.Calls.{waiting}

@@ -1,8 +1,8 @@
-use Rattle.std.proofs.Common.{arith, ◌≡◌, ◌+◌, ◌≤◌, sym, ◌∙◌, ap, subst, refl, Some, length}
+use Rattle.std.proofs.Common.{arith, ◌≡◌, sym, ◌∙◌, ap, Some, length}
 use Rattle.lt_model.specs.Memory.{cells_alive, new_cell}
 use Rattle.std.proofs.lemmas.List.{length-map}
-use Rattle.lt_mem.specs.Image.{Image, Body, new_body}
-use Rattle.lt_mem.proofs.Blocks.{change_from, appended, length-blocks_of}
+use Rattle.lt_mem.specs.Image.{Image, Body}
+use Rattle.lt_mem.proofs.Blocks.{change_from, length-blocks_of}
 use Rattle.lt_mem.proofs.Keeping.{kept_after_add, made_is}
 use Rattle.lt_mem.proofs.memory.Memory.add.Goals as goal
 

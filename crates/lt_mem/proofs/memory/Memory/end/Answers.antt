@@ -1,4 +1,4 @@
-use Rattle.std.proofs.Common.{arith, ◌≡◌, sym, ap, None}
+use Rattle.std.proofs.Common.{arith, sym, ap, None}
 use Rattle.lt_mem.proofs.Blocks.{change_from, changed}
 use Rattle.lt_mem.proofs.Keeping.{cells_below, kept_after_end}
 use Rattle.lt_mem.proofs.memory.Memory.end.Goals as goal

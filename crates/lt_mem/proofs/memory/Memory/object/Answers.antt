@@ -1,4 +1,4 @@
-use Rattle.std.proofs.Common.{◌≡◌, sym, ◌∙◌, ap}
+use Rattle.std.proofs.Common.{sym, ◌∙◌, ap}
 use Rattle.lt_mem.proofs.Blocks.{used, if_living}
 use Rattle.lt_mem.proofs.memory.Memory.object.Goals as goal
 

@@ -1,4 +1,4 @@
-use Rattle.std.proofs.Common.{◌≡◌, sym, ◌∙◌, ap, refl, Some, false}
+use Rattle.std.proofs.Common.{sym, ap, refl}
 use Rattle.lt_mem.proofs.Blocks.{change_through}
 use Rattle.lt_mem.proofs.Keeping.{given, kept_after_change, sealed_is, not_sealed}
 use Rattle.lt_mem.proofs.memory.Memory.seal.Goals as goal

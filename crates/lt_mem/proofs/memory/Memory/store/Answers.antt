@@ -1,5 +1,4 @@
-use Rattle.std.proofs.Common.{◌≡◌, sym, ◌∙◌, ap}
-use Rattle.lt_mem.specs.Image.{Image}
+use Rattle.std.proofs.Common.{sym, ◌∙◌, ap}
 use Rattle.lt_mem.proofs.Blocks.{used, if_living, change_through}
 use Rattle.lt_mem.proofs.Becoming.{stored, not_stored}
 use Rattle.lt_mem.proofs.Keeping.{given, kept_after_change}

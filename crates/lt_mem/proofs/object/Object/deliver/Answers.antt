@@ -1,4 +1,4 @@
-use Rattle.std.proofs.Common.{arith, ◌≡◌, sym, ◌∙◌, ap, length, Some, None}
+use Rattle.std.proofs.Common.{arith, ◌∙◌, ap, length, Some, None}
 use Rattle.lt_mem.specs.Image.{Body}
 use Rattle.lt_mem.proofs.Contents.{length-cells_with, same_but_cells}
 use Rattle.lt_mem.proofs.Waiting.{delivered_more}

@@ -1,4 +1,4 @@
-use Rattle.std.proofs.Common.{◌≡◌, sym, ◌∙◌, ap, Ok}
+use Rattle.std.proofs.Common.{sym, ◌∙◌, ap, Ok}
 use Rattle.lt_mem.proofs.Finding.{no_cell}
 use Rattle.lt_mem.proofs.Meeting.{held_none, held_some}
 use Rattle.lt_mem.proofs.object.Object.held.Goals as goal

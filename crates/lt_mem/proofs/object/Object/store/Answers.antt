@@ -1,4 +1,4 @@
-use Rattle.std.proofs.Common.{◌≡◌, sym, ◌∙◌, ap, refl}
+use Rattle.std.proofs.Common.{sym, ◌∙◌, ap, refl}
 use Rattle.lt_mem.specs.Image.{Body}
 use Rattle.lt_mem.proofs.Becoming.{refused_by, done_by}
 use Rattle.lt_mem.proofs.Contents.{length-cells_with}
