@@ -13,6 +13,28 @@ const SHORT: CellType = CellType::Num(Scalar::Short);
 
 const UNSIGNED: CellType = CellType::Num(Scalar::UInt);
 
+const POINTER: CellType = CellType::Pointer(3);
+
+const OTHER_POINTER: CellType = CellType::Pointer(4);
+
+type Load = (Option<Address>, CellType, Result<Content, Ub>);
+
+type Store = (Option<Address>, Scalar, i128, Result<(), Ub>);
+
+type Move = (Option<Address>, i128, u64, Result<Option<Address>, Ub>);
+
+type Comparison = (Op, Option<Address>, Option<Address>, Result<bool, Ub>);
+
+type Difference = (Option<Address>, Option<Address>, u64, Result<i128, Ub>);
+
+const fn at(block: u32, offset: u64) -> Option<Address> {
+    Some(Address { block, offset })
+}
+
+const fn number(z: i128) -> Result<Content, Ub> {
+    Ok(Content::Number(z))
+}
+
 // The helpers promise nothing, so that the tests are proved quickly.
 fn shape(alloc: Global, cells: &[(u64, CellType)], size: u64) -> Result<Shape, AllocError> {
     let mut list = Vec::new(alloc);
@@ -49,76 +71,126 @@ fn made(memory: &mut Memory, shape: &Shape, zero: bool) -> Result<u32, AllocErro
     }
 }
 
-fn at(block: u32, offset: u64) -> Option<Address> {
-    Some(Address { block, offset })
-}
-
-// Stores a number that is a value of the type.
-fn put(memory: &mut Memory, to: Option<Address>, ty: Scalar, z: i128) -> Result<(), Ub> {
-    if !is_value(memory.model(), ty, z) {
-        return Err(Ub::NoValue);
+// A memory with objects of so many cells of type `int` each.
+fn memory_of(alloc: Global, counts: &[u32], zero: bool) -> Result<Memory, AllocError> {
+    let mut memory = Memory::new(alloc, DataModel::Lp64)?;
+    for count in counts {
+        made(&mut memory, &ints(alloc, *count)?, zero)?;
     }
-    memory.store(to, CellType::Num(ty), Content::Number(z))
+    Ok(memory)
 }
 
-fn holds(memory: &Memory, from: Option<Address>, ty: CellType, z: i128) -> bool {
-    memory.load(from, ty) == Ok(Content::Number(z))
+fn load_all(memory: &Memory, rows: &[Load]) -> bool {
+    for row in rows {
+        let (from, ty, wanted) = *row;
+        if memory.load(from, ty) != wanted {
+            return false;
+        }
+    }
+    true
 }
 
-fn fails(memory: &Memory, from: Option<Address>, ty: CellType, kind: Ub) -> bool {
-    memory.load(from, ty) == Err(kind)
+fn store_all(memory: &mut Memory, rows: &[Store]) -> bool {
+    for row in rows {
+        let (to, ty, z, wanted) = *row;
+        if !is_value(memory.model(), ty, z) {
+            return false;
+        }
+        if memory.store(to, CellType::Num(ty), Content::Number(z)) != wanted {
+            return false;
+        }
+    }
+    true
+}
+
+fn move_all(memory: &Memory, rows: &[Move]) -> bool {
+    for row in rows {
+        let (from, count, size, wanted) = *row;
+        if memory.move_by(from, count, size) != wanted {
+            return false;
+        }
+    }
+    true
+}
+
+fn compare_all(memory: &Memory, rows: &[Comparison]) -> bool {
+    for row in rows {
+        let (op, a, b, wanted) = *row;
+        if memory.compare(op, a, b) != wanted {
+            return false;
+        }
+    }
+    true
+}
+
+fn subtract_all(memory: &Memory, rows: &[Difference]) -> bool {
+    for row in rows {
+        let (a, b, size, wanted) = *row;
+        if memory.subtract(a, b, size) != wanted {
+            return false;
+        }
+    }
+    true
 }
 
 #[test]
 fn addresses_move_within_an_object(rt: HostRuntime) -> Result<(), Fail> {
-    let alloc = rt.alloc();
-    let mut memory = Memory::new(alloc, DataModel::Lp64)?;
-    let block = made(&mut memory, &ints(alloc, 2)?, true)?;
-    assert!(rt; block == 0);
-    assert!(rt; memory.move_by(at(0, 0), 2, 4) == Ok(at(0, 8)));
-    assert!(rt; memory.move_by(at(0, 0), 3, 4) == Err(Ub::Move));
-    assert!(rt; memory.move_by(at(0, 4), -1, 4) == Ok(at(0, 0)));
-    assert!(rt; memory.move_by(at(0, 0), -1, 4) == Err(Ub::Move));
-    assert!(rt; memory.move_by(at(0, 0), i128::MAX, u64::MAX) == Err(Ub::Move));
-    assert!(rt; memory.move_by(None, 0, 4) == Err(Ub::Move));
+    let mut memory = memory_of(rt.alloc(), &[2], true)?;
+    let moves = [
+        (at(0, 0), 2, 4, Ok(at(0, 8))),
+        (at(0, 0), 3, 4, Err(Ub::Move)),
+        (at(0, 4), -1, 4, Ok(at(0, 0))),
+        (at(0, 0), -1, 4, Err(Ub::Move)),
+        (at(0, 0), i128::MAX, u64::MAX, Err(Ub::Move)),
+        (None, 0, 4, Err(Ub::Move)),
+    ];
+    assert!(rt; move_all(&memory, &moves));
     memory.end(0);
-    assert!(rt; memory.move_by(at(0, 0), 0, 4) == Err(Ub::Ended));
+    assert!(rt; move_all(&memory, &[(at(0, 0), 0, 4, Err(Ub::Ended))]));
     Ok(())
 }
 
 #[test]
 fn loads_meet_a_cell(rt: HostRuntime) -> Result<(), Fail> {
     let alloc = rt.alloc();
-    let mut memory = Memory::new(alloc, DataModel::Lp64)?;
-    let _block = made(&mut memory, &ints(alloc, 2)?, true)?;
-    assert!(rt; holds(&memory, at(0, 4), INT, 0));
-    assert!(rt; fails(&memory, at(0, 8), INT, Ub::NoCell));
-    assert!(rt; fails(&memory, at(0, 2), INT, Ub::NoCell));
-    assert!(rt; fails(&memory, at(0, 0), SHORT, Ub::NoCell));
-    assert!(rt; fails(&memory, None, INT, Ub::Null));
-    assert!(rt; fails(&memory, at(7, 0), INT, Ub::Ended));
-    let _local = made(&mut memory, &ints(alloc, 1)?, false)?;
-    assert!(rt; fails(&memory, at(1, 0), INT, Ub::Unset));
+    let mut memory = memory_of(alloc, &[2], true)?;
+    assert!(rt; made(&mut memory, &ints(alloc, 1)?, false)? == 1);
+    let loads = [
+        (at(0, 4), INT, number(0)),
+        (at(0, 8), INT, Err(Ub::NoCell)),
+        (at(0, 2), INT, Err(Ub::NoCell)),
+        (at(0, 0), SHORT, Err(Ub::NoCell)),
+        (None, INT, Err(Ub::Null)),
+        (at(7, 0), INT, Err(Ub::Ended)),
+        (at(1, 0), INT, Err(Ub::Unset)),
+    ];
+    assert!(rt; load_all(&memory, &loads));
     memory.end(0);
-    assert!(rt; fails(&memory, at(0, 0), INT, Ub::Ended));
+    assert!(rt; load_all(&memory, &[(at(0, 0), INT, Err(Ub::Ended))]));
     Ok(())
 }
 
 #[test]
 fn stores_convert_to_the_type_of_the_cell(rt: HostRuntime) -> Result<(), Fail> {
-    let alloc = rt.alloc();
-    let mut memory = Memory::new(alloc, DataModel::Lp64)?;
-    let _block = made(&mut memory, &ints(alloc, 2)?, false)?;
-    assert!(rt; put(&mut memory, at(0, 4), Scalar::UInt, 4_294_967_295) == Ok(()));
-    assert!(rt; holds(&memory, at(0, 4), INT, -1));
-    assert!(rt; holds(&memory, at(0, 4), UNSIGNED, 4_294_967_295));
-    assert!(rt; put(&mut memory, at(0, 8), Scalar::Int, 1) == Err(Ub::NoCell));
+    let mut memory = memory_of(rt.alloc(), &[2], false)?;
+    let stores = [
+        (at(0, 4), Scalar::UInt, 4_294_967_295, Ok(())),
+        (at(0, 8), Scalar::Int, 1, Err(Ub::NoCell)),
+    ];
+    assert!(rt; store_all(&mut memory, &stores));
     memory.seal(0);
-    assert!(rt; put(&mut memory, at(0, 4), Scalar::Int, 1) == Err(Ub::Sealed));
-    assert!(rt; holds(&memory, at(0, 4), INT, -1));
+    assert!(rt; store_all(&mut memory, &[(at(0, 4), Scalar::Int, 1, Err(Ub::Sealed))]));
+    let loads = [
+        (at(0, 4), INT, number(-1)),
+        (at(0, 4), UNSIGNED, number(4_294_967_295)),
+    ];
+    assert!(rt; load_all(&memory, &loads));
     memory.end(0);
-    assert!(rt; put(&mut memory, at(0, 4), Scalar::Int, 1) == Err(Ub::Ended));
-    assert!(rt; put(&mut memory, None, Scalar::Int, 1) == Err(Ub::Null));
+    let refused = [
+        (at(0, 4), Scalar::Int, 1, Err(Ub::Ended)),
+        (None, Scalar::Int, 1, Err(Ub::Null)),
+    ];
+    assert!(rt; store_all(&mut memory, &refused));
     Ok(())
 }
 
@@ -126,104 +198,135 @@ fn stores_convert_to_the_type_of_the_cell(rt: HostRuntime) -> Result<(), Fail> {
 #[test]
 fn cells_are_found_whatever_their_offsets(rt: HostRuntime) -> Result<(), Fail> {
     let alloc = rt.alloc();
-    let mut memory = Memory::new(alloc, DataModel::Lp64)?;
-    let spread = shape(alloc, &[(0, SHORT), (4, INT), (8, SHORT), (16, INT)], 20)?;
+    let mut memory = memory_of(alloc, &[], true)?;
+    let rising = shape(alloc, &[(0, SHORT), (4, INT), (8, SHORT), (16, INT)], 20)?;
     let falling = shape(alloc, &[(16, INT), (8, SHORT), (4, INT), (0, SHORT)], 20)?;
-    let _spread = made(&mut memory, &spread, true)?;
-    let _falling = made(&mut memory, &falling, true)?;
-    for block in 0..2 {
-        assert!(rt; put(&mut memory, at(block, 16), Scalar::Int, 5) == Ok(()));
-        assert!(rt; put(&mut memory, at(block, 8), Scalar::Short, 6) == Ok(()));
-        assert!(rt; holds(&memory, at(block, 16), INT, 5));
-        assert!(rt; holds(&memory, at(block, 8), SHORT, 6));
-        assert!(rt; holds(&memory, at(block, 4), INT, 0));
-        assert!(rt; fails(&memory, at(block, 12), INT, Ub::NoCell));
-    }
     let both = shape(alloc, &[(0, SHORT), (0, INT)], 4)?;
-    let _both = made(&mut memory, &both, true)?;
-    assert!(rt; put(&mut memory, at(2, 0), Scalar::Int, 7) == Ok(()));
-    assert!(rt; holds(&memory, at(2, 0), INT, 7));
-    assert!(rt; holds(&memory, at(2, 0), SHORT, 0));
+    for shape in [&rising, &falling, &both] {
+        made(&mut memory, shape, true)?;
+    }
+    let stores = [
+        (at(0, 16), Scalar::Int, 5, Ok(())),
+        (at(0, 8), Scalar::Short, 6, Ok(())),
+        (at(1, 16), Scalar::Int, 5, Ok(())),
+        (at(1, 8), Scalar::Short, 6, Ok(())),
+        (at(2, 0), Scalar::Int, 7, Ok(())),
+    ];
+    assert!(rt; store_all(&mut memory, &stores));
+    let loads = [
+        (at(0, 16), INT, number(5)),
+        (at(0, 8), SHORT, number(6)),
+        (at(0, 4), INT, number(0)),
+        (at(0, 12), INT, Err(Ub::NoCell)),
+        (at(1, 16), INT, number(5)),
+        (at(1, 8), SHORT, number(6)),
+        (at(1, 4), INT, number(0)),
+        (at(1, 12), INT, Err(Ub::NoCell)),
+        (at(2, 0), INT, number(7)),
+        (at(2, 0), SHORT, number(0)),
+    ];
+    assert!(rt; load_all(&memory, &loads));
     Ok(())
 }
 
 #[test]
 fn addresses_are_compared_and_subtracted(rt: HostRuntime) -> Result<(), Fail> {
-    let alloc = rt.alloc();
-    let mut memory = Memory::new(alloc, DataModel::Lp64)?;
-    let _first = made(&mut memory, &ints(alloc, 2)?, true)?;
-    let _second = made(&mut memory, &ints(alloc, 2)?, true)?;
-    assert!(rt; memory.compare(Op::Lt, at(0, 0), at(1, 0)) == Err(Ub::Unrelated));
-    assert!(rt; memory.compare(Op::Eq, at(0, 0), at(1, 0)) == Ok(false));
-    assert!(rt; memory.compare(Op::Ne, at(0, 4), None) == Ok(true));
-    assert!(rt; memory.compare(Op::Lt, at(0, 0), at(0, 4)) == Ok(true));
-    assert!(rt; memory.compare(Op::Ge, at(0, 0), at(0, 4)) == Ok(false));
-    assert!(rt; memory.compare(Op::Lt, None, at(0, 4)) == Err(Ub::Unrelated));
-    assert!(rt; memory.subtract(at(0, 0), at(0, 8), 4) == Ok(-2));
-    assert!(rt; memory.subtract(at(0, 8), at(0, 2), 4) == Err(Ub::Unrelated));
-    assert!(rt; memory.subtract(at(0, 8), at(0, 0), 0) == Err(Ub::Unrelated));
-    assert!(rt; memory.subtract(at(0, 8), at(1, 0), 4) == Err(Ub::Unrelated));
-    assert!(rt; memory.subtract(at(0, 8), None, 4) == Err(Ub::Unrelated));
+    let mut memory = memory_of(rt.alloc(), &[2, 2], true)?;
+    let comparisons = [
+        (Op::Lt, at(0, 0), at(1, 0), Err(Ub::Unrelated)),
+        (Op::Eq, at(0, 0), at(1, 0), Ok(false)),
+        (Op::Ne, at(0, 4), None, Ok(true)),
+        (Op::Lt, at(0, 0), at(0, 4), Ok(true)),
+        (Op::Ge, at(0, 0), at(0, 4), Ok(false)),
+        (Op::Lt, None, at(0, 4), Err(Ub::Unrelated)),
+        (Op::Eq, at(0, 0), at(9, 0), Err(Ub::Ended)),
+    ];
+    assert!(rt; compare_all(&memory, &comparisons));
+    let differences = [
+        (at(0, 0), at(0, 8), 4, Ok(-2)),
+        (at(0, 8), at(0, 2), 4, Err(Ub::Unrelated)),
+        (at(0, 8), at(0, 0), 0, Err(Ub::Unrelated)),
+        (at(0, 8), at(1, 0), 4, Err(Ub::Unrelated)),
+        (at(0, 8), None, 4, Err(Ub::Unrelated)),
+    ];
+    assert!(rt; subtract_all(&memory, &differences));
     memory.end(1);
-    assert!(rt; memory.compare(Op::Eq, at(1, 0), at(1, 0)) == Err(Ub::Ended));
-    assert!(rt; memory.compare(Op::Eq, at(0, 0), at(9, 0)) == Err(Ub::Ended));
-    assert!(rt; memory.subtract(at(1, 0), at(0, 0), 4) == Err(Ub::Ended));
+    assert!(rt; compare_all(&memory, &[(Op::Eq, at(1, 0), at(1, 0), Err(Ub::Ended))]));
+    assert!(rt; subtract_all(&memory, &[(at(1, 0), at(0, 0), 4, Err(Ub::Ended))]));
     Ok(())
 }
 
 #[test]
 fn addresses_are_stored_by_pointer_types(rt: HostRuntime) -> Result<(), Fail> {
     let alloc = rt.alloc();
-    let mut memory = Memory::new(alloc, DataModel::Lp64)?;
-    let pointer = CellType::Pointer(3);
-    let _pointer = made(&mut memory, &shape(alloc, &[(0, pointer)], 8)?, true)?;
-    let _object = made(&mut memory, &ints(alloc, 2)?, true)?;
-    assert!(rt; memory.load(at(0, 0), pointer) == Ok(Content::Address(None)));
-    assert!(rt; memory.store(at(0, 0), pointer, Content::Address(at(1, 4))) == Ok(()));
-    assert!(rt; memory.load(at(0, 0), pointer) == Ok(Content::Address(at(1, 4))));
-    assert!(rt; fails(&memory, at(0, 0), CellType::Pointer(4), Ub::NoCell));
-    memory.end(1);
-    assert!(rt; fails(&memory, at(0, 0), pointer, Ub::Ended));
+    let mut memory = memory_of(alloc, &[2], true)?;
+    assert!(rt; made(&mut memory, &shape(alloc, &[(0, POINTER)], 8)?, true)? == 1);
+    assert!(rt; load_all(&memory, &[(at(1, 0), POINTER, Ok(Content::Address(None)))]));
+    let stored = memory.store(at(1, 0), POINTER, Content::Address(at(0, 4)));
+    assert!(rt; stored == Ok(()));
+    let loads = [
+        (at(1, 0), POINTER, Ok(Content::Address(at(0, 4)))),
+        (at(1, 0), OTHER_POINTER, Err(Ub::NoCell)),
+    ];
+    assert!(rt; load_all(&memory, &loads));
+    memory.end(0);
+    assert!(rt; load_all(&memory, &[(at(1, 0), POINTER, Err(Ub::Ended))]));
     Ok(())
 }
 
 #[test]
 fn structs_are_copied_as_they_are(rt: HostRuntime) -> Result<(), Fail> {
     let alloc = rt.alloc();
-    let mut memory = Memory::new(alloc, DataModel::Lp64)?;
+    let mut memory = memory_of(alloc, &[2, 2], false)?;
     let pair = ints(alloc, 2)?;
-    let _first = made(&mut memory, &pair, false)?;
-    let _second = made(&mut memory, &pair, true)?;
-    assert!(rt; put(&mut memory, at(0, 0), Scalar::Int, 5) == Ok(()));
+    let stores = [
+        (at(0, 0), Scalar::Int, 5, Ok(())),
+        (at(1, 4), Scalar::Int, 6, Ok(())),
+    ];
+    assert!(rt; store_all(&mut memory, &stores));
     assert!(rt; memory.copy_struct(at(1, 0), at(0, 0), &pair) == Ok(()));
-    assert!(rt; holds(&memory, at(1, 0), INT, 5));
-    assert!(rt; fails(&memory, at(1, 4), INT, Ub::Unset));
-    assert!(rt; memory.copy_struct(at(1, 4), at(0, 0), &pair) == Err(Ub::NoCell));
+    let loads = [(at(1, 0), INT, number(5)), (at(1, 4), INT, Err(Ub::Unset))];
+    assert!(rt; load_all(&memory, &loads));
     memory.seal(1);
-    assert!(rt; memory.copy_struct(at(1, 0), at(0, 0), &pair) == Err(Ub::Sealed));
     memory.end(0);
-    assert!(rt; memory.copy_struct(None, at(0, 0), &pair) == Err(Ub::Null));
-    assert!(rt; memory.copy_struct(at(1, 0), at(0, 0), &pair) == Err(Ub::Ended));
+    let copies = [
+        (at(1, 4), at(1, 0), Err(Ub::NoCell)),
+        (at(1, 0), at(1, 0), Err(Ub::Sealed)),
+        (at(1, 0), at(0, 0), Err(Ub::Ended)),
+        (None, at(0, 0), Err(Ub::Null)),
+    ];
+    for (to, from, wanted) in copies {
+        assert!(rt; memory.copy_struct(to, from, &pair) == wanted);
+    }
     Ok(())
 }
 
-// All cells are read before one is written, also within one object.
+// All cells are read before one is written, also within one object, and whatever cells the shape has.
 #[test]
 fn a_copy_may_overlap_its_source(rt: HostRuntime) -> Result<(), Fail> {
     let alloc = rt.alloc();
-    let mut memory = Memory::new(alloc, DataModel::Lp64)?;
-    let _block = made(&mut memory, &ints(alloc, 3)?, false)?;
-    for k in 0..3 {
-        assert!(rt; put(&mut memory, at(0, 4 * k), Scalar::Int, i128::from(k)) == Ok(()));
-    }
-    let pair = ints(alloc, 2)?;
-    assert!(rt; memory.copy_struct(at(0, 4), at(0, 0), &pair) == Ok(()));
-    assert!(rt; holds(&memory, at(0, 4), INT, 0));
-    assert!(rt; holds(&memory, at(0, 8), INT, 1));
+    let mut memory = memory_of(alloc, &[3], false)?;
+    let stores = [
+        (at(0, 0), Scalar::Int, 0, Ok(())),
+        (at(0, 4), Scalar::Int, 1, Ok(())),
+        (at(0, 8), Scalar::Int, 2, Ok(())),
+    ];
+    assert!(rt; store_all(&mut memory, &stores));
+    assert!(rt; memory.copy_struct(at(0, 4), at(0, 0), &ints(alloc, 2)?) == Ok(()));
+    assert!(rt;
+        load_all(
+            &memory,
+            &[(at(0, 4), INT, number(0)), (at(0, 8), INT, number(1))]
+        )
+    );
     let long = shape(alloc, &[(0, INT), (4, INT), (0, INT), (4, INT)], 8)?;
     assert!(rt; memory.copy_struct(at(0, 0), at(0, 4), &long) == Ok(()));
-    assert!(rt; holds(&memory, at(0, 0), INT, 0));
-    assert!(rt; holds(&memory, at(0, 4), INT, 1));
+    assert!(rt;
+        load_all(
+            &memory,
+            &[(at(0, 0), INT, number(0)), (at(0, 4), INT, number(1))]
+        )
+    );
     Ok(())
 }
 
