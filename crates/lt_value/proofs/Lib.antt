@@ -8,3 +8,4 @@ pub mod Cuts
 pub mod Relations
 pub mod Forms
 pub mod Truths
+mod Rows
