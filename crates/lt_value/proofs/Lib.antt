@@ -9,3 +9,8 @@ pub mod Relations
 pub mod Forms
 pub mod Truths
 mod Rows
+pub mod Entries
+pub mod Settled
+pub mod Corners
+pub mod Sums
+pub mod Products
