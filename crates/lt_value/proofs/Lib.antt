@@ -14,3 +14,5 @@ pub mod Settled
 pub mod Corners
 pub mod Sums
 pub mod Products
+pub mod Shifts
+pub mod Remainders
