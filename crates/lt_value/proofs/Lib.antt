@@ -16,3 +16,5 @@ pub mod Sums
 pub mod Products
 pub mod Shifts
 pub mod Remainders
+pub mod Masks
+pub mod Bits
