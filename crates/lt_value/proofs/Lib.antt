@@ -18,3 +18,4 @@ pub mod Shifts
 pub mod Remainders
 pub mod Masks
 pub mod Bits
+pub mod Quotients
