@@ -19,3 +19,4 @@ pub mod Remainders
 pub mod Masks
 pub mod Bits
 pub mod Quotients
+pub mod Results

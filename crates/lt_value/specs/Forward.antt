@@ -43,3 +43,17 @@ pub record IsForward (m : DataModel) (o : Op) (s : Scalar) (a b : Num) (z : ℤ)
   pub left_is : IsOperand a (TakesLeft m o s) left
   pub right_is : IsOperand b (TakesRight m o s) right
   pub result : IsResult m o s left right z
+
+-- what the ends of the operand on the right are
+abbrev pub IsRightEnd : DataModel → Op → Scalar → ℤ → Type 0
+IsRightEnd m O.Shl s y = IsCount m s y
+IsRightEnd m O.Shr s y = IsCount m s y
+IsRightEnd m o s y = IsValue m s y
+
+-- two sets as an operator takes them
+pub record AreTaken (m : DataModel) (o : Op) (s : Scalar) (p q : Num) : Type 0 where
+  pub left_lo : TakesLeft m o s p.lo
+  pub left_hi : TakesLeft m o s p.hi
+  pub right_lo : IsRightEnd m o s q.lo
+  pub right_hi : IsRightEnd m o s q.hi
+  pub right_some : (y : ℤ) × IsTakenFrom q (TakesRight m o s) y
