@@ -20,3 +20,4 @@ pub mod Masks
 pub mod Bits
 pub mod Quotients
 pub mod Results
+pub mod Operands

@@ -50,6 +50,17 @@ IsRightEnd m O.Shl s y = IsCount m s y
 IsRightEnd m O.Shr s y = IsCount m s y
 IsRightEnd m o s y = IsValue m s y
 
+-- the operand on the left, and that its ends are taken
+pub record IsLeftTaken (m : DataModel) (o : Op) (s : Scalar) (n p : Num) : Type 0 where
+  pub operand : IsOperand n (TakesLeft m o s) p
+  pub lo : TakesLeft m o s p.lo
+  pub hi : TakesLeft m o s p.hi
+
+pub record IsRightTaken (m : DataModel) (o : Op) (s : Scalar) (n p : Num) : Type 0 where
+  pub operand : IsOperand n (TakesRight m o s) p
+  pub lo : IsRightEnd m o s p.lo
+  pub hi : IsRightEnd m o s p.hi
+
 -- two sets as an operator takes them
 pub record AreTaken (m : DataModel) (o : Op) (s : Scalar) (p q : Num) : Type 0 where
   pub left_lo : TakesLeft m o s p.lo

@@ -6,6 +6,7 @@ mod lattice;
 mod law;
 mod modular;
 mod num;
+mod operators;
 mod progression;
 mod relation;
 #[cfg(test)]
