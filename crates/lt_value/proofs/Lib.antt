@@ -21,3 +21,4 @@ pub mod Bits
 pub mod Quotients
 pub mod Results
 pub mod Operands
+pub mod Settling

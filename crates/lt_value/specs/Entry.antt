@@ -1,5 +1,5 @@
 -- What a row of the table of operators gives: ends, step and rest, and what is left of them in a type.
-use Rattle.std.specs.Prelude.{◌≡◌, ℕ, zero, suc, ℤ, pos, ◌-ℤ◌, ◌≤ℤ◌, ◌^◌, ◌%◌, ◌==◌, Bool, ◌&&◌, ◌||◌, if◌then◌else◌, unsigned_abs, int_le}
+use Rattle.std.specs.Prelude.{◌≡◌, ℕ, zero, suc, ℤ, pos, ◌+ℤ◌, ◌-ℤ◌, ◌≤ℤ◌, ◌<◌, ◌^◌, ◌%◌, ◌==◌, Bool, ◌&&◌, ◌||◌, if◌then◌else◌, unsigned_abs, int_le}
 use Rattle.std.specs.Int.{◌∣◌}
 use Rattle.std.specs.Bool.{MatchBool}
 use Rattle.lt_model.specs.declared.scalar.DataModel.{DataModel}
@@ -51,10 +51,18 @@ range_of m s = entry_of (least_of m s) (greatest_of m s) 1 (pos 0)
 abbrev pub is_within : DataModel → Scalar → Entry → Bool
 is_within m s e = int_le (least_of m s) e.lo && int_le e.hi (greatest_of m s)
 
--- A signed result is met with the type's range. An unsigned one that doesn't fit is the type's range by the common divisor of
--- the step and 2 ^ w, and the rest.
+abbrev pub IsKept : DataModel → Scalar → Entry → ℤ → Type 0
+IsKept m s e z = IsIn e z × IsValue m s z
+
+-- the type's range by the common divisor of a step and 2 ^ w, and a rest
+abbrev pub IsReduced : DataModel → Scalar → ℕ → ℤ → ℤ → Type 0
+IsReduced m s step rest z = IsCongruent (gcd_of step (2 ^ width_of m s)) rest z × IsValue m s z
+
+-- A signed result is met with the type's range, and an unsigned one that doesn't fit is reduced.
 abbrev pub IsSettled : DataModel → Scalar → Entry → ℤ → Type 0
-IsSettled m s e z =
-    MatchBool (is_signed s || is_within m s e)
-    (IsIn e z × IsValue m s z)
-    (IsCongruent (gcd_of e.step (2 ^ width_of m s)) e.rest z × IsValue m s z)
+IsSettled m s e z = MatchBool (is_signed s || is_within m s e) (IsKept m s e z) (IsReduced m s e.step e.rest z)
+
+-- the least number from lo on that is congruent to the rest is skip above lo
+pub record IsSkip (lo : ℤ) (step : ℕ) (rest : ℤ) (skip : ℕ) : Type 0 where
+  pub congruent : IsCongruent step rest (lo +ℤ pos skip)
+  pub below : skip < step

@@ -1,1 +1,2 @@
 mod operand;
+mod settle;
