@@ -44,7 +44,7 @@ greatest_corner_below f p q h all =
     (all p.lo q.lo (lo_holds p) (lo_holds q)) (all p.lo q.hi (lo_holds p) (hi_holds q)) (all p.hi q.lo (hi_holds p) (lo_holds q)) (all p.hi q.hi (hi_holds p) (hi_holds q))
 
 -- the least corner is what the function gives at two ends
-four_least : (P : ℤ → Type 0) (a b c d : ℤ) → P a → P b → P c → P d → P (int_min (int_min a b) (int_min c d))
+pub four_least : (P : ℤ → Type 0) (a b c d : ℤ) → P a → P b → P c → P d → P (int_min (int_min a b) (int_min c d))
 four_least P a b c d p q r s = two (int_min a b) (int_min c d) (two a b p q) (two c d r s)
   where
     two : (x y : ℤ) → P x → P y → P (int_min x y)
@@ -53,6 +53,16 @@ four_least P a b c d p q r s = two (int_min a b) (int_min c d) (two a b p q) (tw
         by_test : (t : Bool) → P (cond t y x)
         by_test true = q
         by_test false = p
+
+pub four_greatest : (P : ℤ → Type 0) (a b c d : ℤ) → P a → P b → P c → P d → P (int_max (int_max a b) (int_max c d))
+four_greatest P a b c d p q r s = two (int_max a b) (int_max c d) (two a b p q) (two c d r s)
+  where
+    two : (x y : ℤ) → P x → P y → P (int_max x y)
+    two x y p q = by_test (int_lt y x)
+      where
+        by_test : (t : Bool) → P (cond t x y)
+        by_test true = p
+        by_test false = q
 
 pub at_least_corner : (f : ℤ → ℤ → ℤ) (p q : Num) (P : ℤ → Type 0) → ((x y : ℤ) → Holds p x → Holds q y → P (f x y)) → P (least_corner f (written p) (written q))
 at_least_corner f p q P all =

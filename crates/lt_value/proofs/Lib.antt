@@ -22,3 +22,4 @@ pub mod Quotients
 pub mod Results
 pub mod Operands
 pub mod Settling
+pub mod Made

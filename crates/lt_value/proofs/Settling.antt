@@ -246,7 +246,7 @@ passed_code m s hi g e less =
     let b : Bounds m s = bounds_of m s in
     omega (arith, ints, abs_up g (omega (arith, ints, b.one)))
 
-unsigned_least : (m : DataModel) (s : Scalar) → is_signed s ≡ false → least_of m s ≡ pos 0
+pub unsigned_least : (m : DataModel) (s : Scalar) → is_signed s ≡ false → least_of m s ≡ pos 0
 unsigned_least m s e = rw e refl
 
 or_is : (a b c : Bool) → a ≡ false → b ≡ c → (a || b) ≡ c

@@ -1,2 +1,4 @@
+mod arithmetic;
 mod operand;
 mod settle;
+mod span;

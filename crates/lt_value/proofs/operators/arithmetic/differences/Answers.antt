@@ -1,0 +1,27 @@
+use Rattle.std.proofs.Common.{arith, ◌^◌}
+use Rattle.lt_value.specs.Entry.{written}
+use Rattle.lt_value.specs.Table.{difference_row}
+use Rattle.lt_value.proofs.Members.{step_fits}
+use Rattle.lt_value.proofs.Made.{IsMade, made_some, made_none, gcd_below, difference_made, difference_code, lo_most, hi_least}
+use Rattle.lt_value.proofs.operators.arithmetic.differences.Goals as goal
+
+pub settle-requires-clause-step : goal.settle-requires-clause-step
+settle-requires-clause-step c =
+    let below = gcd_below _ _ _ (2 ^ 66) c.gcd.ensures (step_fits c.args.a.now) (step_fits c.args.b.now) in
+    omega arith
+
+pub returns-clause-some : goal.returns-clause-some
+returns-clause-some c =
+    let a = c.args.a.now in
+    let b = c.args.b.now in
+    made_some c.args.model c.args.ty (difference_row (written a) (written b)) _ _ c.gcd.result c.settle.result
+    (difference_made a b _ _ _ (difference_code a.lo b.hi a.canonical.least (lo_most a) (hi_least b) b.canonical.greatest) (difference_code a.hi b.lo (hi_least a) a.canonical.greatest b.canonical.least (lo_most b)) c.gcd.ensures)
+    c.settle.ensures.some
+
+pub returns-clause-none : goal.returns-clause-none
+returns-clause-none c =
+    let a = c.args.a.now in
+    let b = c.args.b.now in
+    made_none c.args.model c.args.ty (difference_row (written a) (written b)) _ _ c.gcd.result c.settle.result
+    (difference_made a b _ _ _ (difference_code a.lo b.hi a.canonical.least (lo_most a) (hi_least b) b.canonical.greatest) (difference_code a.hi b.lo (hi_least a) a.canonical.greatest b.canonical.least (lo_most b)) c.gcd.ensures)
+    c.settle.ensures.none
