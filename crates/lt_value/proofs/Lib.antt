@@ -23,3 +23,4 @@ pub mod Results
 pub mod Operands
 pub mod Settling
 pub mod Made
+pub mod MadeShifts

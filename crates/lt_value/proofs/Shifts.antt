@@ -27,13 +27,13 @@ div_falls a d e some le = le-div (a / e) a d some (omega (arith, mul-le-mul_left
 power_some : (k : ℕ) → 0 < 2 ^ k
 power_some k = one-le-pow k 2 (omega arith)
 
-abs_order : (c d : ℤ) → pos 0 ≤ℤ c → c ≤ℤ d → unsigned_abs c ≤ unsigned_abs d
+pub abs_order : (c d : ℤ) → pos 0 ≤ℤ c → c ≤ℤ d → unsigned_abs c ≤ unsigned_abs d
 abs_order (pos a) (pos b) p q = omega (arith, ints)
 abs_order (pos a) (negsuc b) p q = absurd (omega (arith, ints))
 abs_order (negsuc a) d p q = absurd (omega (arith, ints))
 
 -- ---- to the left
-power_grows : (c d : ℤ) → pos 0 ≤ℤ c → c ≤ℤ d → power c ≤ power d
+pub power_grows : (c d : ℤ) → pos 0 ≤ℤ c → c ≤ℤ d → power c ≤ power d
 power_grows c d p q = pow_mono (abs_order c d p q)
 
 pub shifted_order : (x y : ℤ) (k l : ℕ) → pos 0 ≤ℤ x → x ≤ℤ y → k ≤ l → (x *ℤ pos k) ≤ℤ (y *ℤ pos l)
@@ -82,7 +82,7 @@ left_shift_wider a b c d s t f g =
     (left_shift_holds c d a.lo b.lo s t x y).congruent
 
 -- ---- to the right
-shr_grows : (x y : ℤ) (k : ℕ) → x ≤ℤ y → int_shr x k ≤ℤ int_shr y k
+pub shr_grows : (x y : ℤ) (k : ℕ) → x ≤ℤ y → int_shr x k ≤ℤ int_shr y k
 shr_grows (pos a) (pos b) k h = let le = div_grows a b (2 ^ k) (power_some k) (omega (arith, ints)) in omega (arith, ints)
 shr_grows (pos a) (negsuc b) k h = absurd (omega (arith, ints))
 shr_grows (negsuc a) (pos b) k h = omega (arith, ints)

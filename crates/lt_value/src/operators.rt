@@ -1,4 +1,5 @@
 mod arithmetic;
 mod operand;
 mod settle;
+mod shift;
 mod span;
