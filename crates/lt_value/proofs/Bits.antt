@@ -223,7 +223,7 @@ or_row_holds f m s a b x y short va vb p q = by_test (int_le (pos 0) a.lo && int
         by_ones (pos 0) (pos (mask_of n)) v r.0 r.1
     by_test false e = in_range m s v (IsValue-wrapped m s (pos (f (bits_of m s x) (bits_of m s y))))
 
-mask_value : (m : DataModel) (s : Scalar) (n : ℕ) → pos n ≤ℤ greatest_of m s → (pos (mask_of n) ≤ℤ greatest_of m s) × (n < 2 ^ 64)
+pub mask_value : (m : DataModel) (s : Scalar) (n : ℕ) → pos n ≤ℤ greatest_of m s → (pos (mask_of n) ≤ℤ greatest_of m s) × (n < 2 ^ 64)
 mask_value m s n top =
     let (j, is, le) = greatest_power m s in
     let b : Bounds m s = bounds_of m s in

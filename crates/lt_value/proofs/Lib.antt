@@ -24,3 +24,5 @@ pub mod Operands
 pub mod Settling
 pub mod Made
 pub mod MadeShifts
+pub mod MadeAnswers
+pub mod MadeBits

@@ -10,6 +10,7 @@ use Rattle.lt_model.specs.Scalar.{IsValue}
 use Rattle.lt_model.specs.Operators.{bitwise, value_of}
 use Rattle.lt_value.specs.declared.num.Num.{Num}
 use Rattle.lt_value.specs.Num.{Holds}
+use Rattle.lt_value.specs.Refine.{Relates}
 use Rattle.lt_value.specs.Entry.{Entry, entry_of, written, is_single, gcd_of, range_of, IsSettled}
 
 -- ---- ends of ends
@@ -115,6 +116,20 @@ or_row m s p q =
 -- 1, 0 or both, by all pairs
 abbrev pub IsAnswer : DataModel → Op → Scalar → Num → Num → ℤ → Type 0
 IsAnswer m o s p q z = (x : ℤ) × (y : ℤ) × Holds p x × Holds q y × (value_of m o s x y ≡ Ok z)
+
+-- some pair of members stands in the relation
+abbrev pub IsRelated : Op → Num → Num → Type 0
+IsRelated o p q = (x : ℤ) × (y : ℤ) × Holds p x × Holds q y × Relates o x y
+
+-- the relation that holds where another fails
+abbrev pub opposite_of : Op → Op
+opposite_of O.Lt = O.Ge
+opposite_of O.Le = O.Gt
+opposite_of O.Gt = O.Le
+opposite_of O.Ge = O.Lt
+opposite_of O.Eq = O.Ne
+opposite_of O.Ne = O.Eq
+opposite_of o = o
 
 -- ---- the table
 abbrev pub IsResult : DataModel → Op → Scalar → Num → Num → ℤ → Type 0

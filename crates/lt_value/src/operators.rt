@@ -1,5 +1,7 @@
 mod arithmetic;
+mod bits;
 mod operand;
 mod settle;
 mod shift;
 mod span;
+mod truth;
