@@ -26,3 +26,4 @@ pub mod Made
 pub mod MadeShifts
 pub mod MadeAnswers
 pub mod MadeBits
+pub mod MadeQuotients

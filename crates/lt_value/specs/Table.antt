@@ -59,16 +59,30 @@ IsEndQuotient p q v = (d : ℤ) × (IsEndOf (IsPositiveIn q) d ⊎ IsEndOf (IsNe
 abbrev pub IsBetween : (ℤ → Type 0) → ℤ → Type 0
 IsBetween set z = (u : ℤ) × (v : ℤ) × set u × set v × (u ≤ℤ z) × (z ≤ℤ v)
 
+-- lo and hi are the least and the greatest of a set
+pub record IsSpan (set : ℤ → Type 0) (lo hi : ℤ) : Type 0 where
+  pub first : set lo
+  pub last : set hi
+  pub above : (v : ℤ) → set v → lo ≤ℤ v
+  pub below : (v : ℤ) → set v → v ≤ℤ hi
+
 -- the greatest size of a divisor, less 1
 abbrev pub greatest_remainder : Entry → ℤ
 greatest_remainder q = pos (max (unsigned_abs q.lo) (unsigned_abs q.hi) - 1)
+
+-- the least remainder of dividends from lo on, and the greatest of dividends up to hi
+abbrev pub low_remainder : ℤ → ℤ → ℤ
+low_remainder lo most = if int_lt lo (pos 0) then int_max lo (neg_ℤ most) else pos 0
+
+abbrev pub high_remainder : ℤ → ℤ → ℤ
+high_remainder hi most = if int_lt (pos 0) hi then int_min hi most else pos 0
 
 -- by a single divisor k, the common divisor of the step and k
 abbrev pub remainder_row : Entry → Entry → Entry
 remainder_row p q =
     entry_of
-    (if int_lt p.lo (pos 0) then int_max p.lo (neg_ℤ (greatest_remainder q)) else pos 0)
-    (if int_lt (pos 0) p.hi then int_min p.hi (greatest_remainder q) else pos 0)
+    (low_remainder p.lo (greatest_remainder q))
+    (high_remainder p.hi (greatest_remainder q))
     (if is_single q then gcd_of p.step (unsigned_abs q.lo) else 1)
     (if is_single q then p.rest else pos 0)
 

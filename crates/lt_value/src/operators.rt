@@ -1,5 +1,6 @@
 mod arithmetic;
 mod bits;
+mod division;
 mod operand;
 mod settle;
 mod shift;

@@ -32,7 +32,7 @@ fn skip_from(lo: i128, step: u128, rest: i128) -> u128
 }
 
 /// The numbers from `lo` to `hi` that are congruent to the rest modulo the step.
-fn congruent(lo: i128, hi: i128, step: u128, rest: i128) -> Option<Num>
+pub(crate) fn congruent(lo: i128, hi: i128, step: u128, rest: i128) -> Option<Num>
     requires least { negsuc (2 ^ 63 - 1) ≤ℤ lo }
     requires greatest { hi ≤ℤ pos (2 ^ 64 - 1) }
     requires step { step < 2 ^ 127 }

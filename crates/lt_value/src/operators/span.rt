@@ -18,3 +18,14 @@ pub(crate) fn span_of(a: i128, b: i128, c: i128, d: i128) -> Span
         hi: a.max(b).max(c.max(d)),
     }
 }
+
+/// The least span that holds two.
+pub(crate) fn joined(s: Span, t: Span) -> Span
+    ensures lo { result.lo ≡ int_min s.lo t.lo }
+    ensures hi { result.hi ≡ int_max s.hi t.hi }
+{
+    Span {
+        lo: s.lo.min(t.lo),
+        hi: s.hi.max(t.hi),
+    }
+}
