@@ -27,3 +27,4 @@ pub mod MadeShifts
 pub mod MadeAnswers
 pub mod MadeBits
 pub mod MadeQuotients
+pub mod Wholes

@@ -15,7 +15,8 @@ mod tables;
 mod tests;
 
 pub use lattice::{join, meet};
-pub use law::{one_form_law, relation_law};
+pub use law::{forward_monotone_law, forward_sound_law, one_form_law, relation_law};
 pub use num::Num;
+pub use operators::forward;
 pub use progression::{between, single};
 pub use relation::refine;
