@@ -15,20 +15,12 @@ use Rattle.lt_value.specs.Num.{Holds, IsBelow}
 use Rattle.lt_value.specs.Entry.{Entry, entry_of, IsIn, IsCongruent, written, is_single, range_of}
 use Rattle.lt_value.specs.Table.{exact_or_row, and_row, or_row, mask_of}
 use Rattle.lt_value.specs.declared.num.Num.{Num}
+use Rattle.lt_value.proofs.Orders.{le_true, le_false, le_test}
 use Rattle.lt_value.proofs.Members.{lo_holds, hi_holds}
 use Rattle.lt_value.proofs.Entries.{one_member, one_congruent, IsCongruent-same, abs_up}
 use Rattle.lt_value.proofs.Masks.{greatest_power, mask_is, mask_least, mask_grows}
 use Rattle.lt_value.proofs.Products.{still_single}
 use Rattle.lt_value.proofs.Settled.{IsWider, wrapped_same}
-
-le_true : (a b : ℤ) → int_le a b ≡ true → a ≤ℤ b
-le_true a b e = grind (arith, ints)
-
-le_false : (a b : ℤ) → int_le a b ≡ false → b <ℤ a
-le_false a b e = grind (arith, ints)
-
-le_test : (a b : ℤ) → a ≤ℤ b → int_le a b ≡ true
-le_test a b h = grind (arith, ints)
 
 both_true : (a b : Bool) → (a && b) ≡ true → (a ≡ true) × (b ≡ true)
 both_true true true e = (refl, refl)

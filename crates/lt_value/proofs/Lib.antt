@@ -8,7 +8,7 @@ pub mod Cuts
 pub mod Relations
 pub mod Forms
 pub mod Truths
-mod Rows
+mod Worked
 pub mod Entries
 pub mod Settled
 pub mod Corners
@@ -28,3 +28,4 @@ pub mod MadeAnswers
 pub mod MadeBits
 pub mod MadeQuotients
 pub mod Wholes
+pub mod Orders

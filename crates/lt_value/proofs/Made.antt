@@ -230,6 +230,12 @@ natural_order a b p q =
     (omega (arith, ints, a.canonical.ordered, abs_up a.lo p, abs_up a.hi (omega (arith, ints, a.canonical.ordered)))) (omega (arith, ints, b.canonical.ordered, abs_up b.lo q, abs_up b.hi (omega (arith, ints, b.canonical.ordered))))
 
 -- ---- as the code computes them
+pub min_fits : (a b : ℤ) → SFits w128 a → SFits w128 b → SFits w128 (int_min a b)
+min_fits a b p q = omega (arith, ints, clamps)
+
+pub max_fits : (a b : ℤ) → SFits w128 a → SFits w128 b → SFits w128 (int_max a b)
+max_fits a b p q = omega (arith, ints, clamps)
+
 pub min_code : (a b c d x y z : ℤ) → SFits w128 a → SFits w128 b → SFits w128 c → SFits w128 d → x ≡ int_min (to_z w128 (of_z w128 a)) (to_z w128 (of_z w128 b)) → y ≡ int_min (to_z w128 (of_z w128 c)) (to_z w128 (of_z w128 d)) → z ≡ int_min (to_z w128 (of_z w128 x)) (to_z w128 (of_z w128 y)) → to_z w128 (of_z w128 z) ≡ int_min (int_min a b) (int_min c d)
 min_code a b c d x y z p q r s e f g =
     let e' : x ≡ int_min a b = e ∙ ap₂ int_min (to_z-of_z w128 a p) (to_z-of_z w128 b q) in
@@ -238,9 +244,6 @@ min_code a b c d x y z p q r s e f g =
     let y_fits : SFits w128 y = subst (SFits w128) (sym f') (min_fits c d r s) in
     let is : z ≡ int_min (int_min a b) (int_min c d) = g ∙ ap₂ int_min (to_z-of_z w128 x x_fits ∙ e') (to_z-of_z w128 y y_fits ∙ f') in
     to_z-of_z w128 z (subst (SFits w128) (sym is) (min_fits (int_min a b) (int_min c d) (min_fits a b p q) (min_fits c d r s))) ∙ is
-  where
-    min_fits : (a b : ℤ) → SFits w128 a → SFits w128 b → SFits w128 (int_min a b)
-    min_fits a b p q = omega (arith, ints, clamps)
 
 pub max_code : (a b c d x y z : ℤ) → SFits w128 a → SFits w128 b → SFits w128 c → SFits w128 d → x ≡ int_max (to_z w128 (of_z w128 a)) (to_z w128 (of_z w128 b)) → y ≡ int_max (to_z w128 (of_z w128 c)) (to_z w128 (of_z w128 d)) → z ≡ int_max (to_z w128 (of_z w128 x)) (to_z w128 (of_z w128 y)) → to_z w128 (of_z w128 z) ≡ int_max (int_max a b) (int_max c d)
 max_code a b c d x y z p q r s e f g =
@@ -250,9 +253,6 @@ max_code a b c d x y z p q r s e f g =
     let y_fits : SFits w128 y = subst (SFits w128) (sym f') (max_fits c d r s) in
     let is : z ≡ int_max (int_max a b) (int_max c d) = g ∙ ap₂ int_max (to_z-of_z w128 x x_fits ∙ e') (to_z-of_z w128 y y_fits ∙ f') in
     to_z-of_z w128 z (subst (SFits w128) (sym is) (max_fits (int_max a b) (int_max c d) (max_fits a b p q) (max_fits c d r s))) ∙ is
-  where
-    max_fits : (a b : ℤ) → SFits w128 a → SFits w128 b → SFits w128 (int_max a b)
-    max_fits a b p q = omega (arith, ints, clamps)
 
 corner_fits : (f : ℤ → ℤ → ℤ) (a b : Num) (p q r t : ℤ) → AreFour f a b p q r t → (SFits w128 (f a.lo b.lo) × SFits w128 (f a.lo b.hi)) × (SFits w128 (f a.hi b.lo) × SFits w128 (f a.hi b.hi))
 corner_fits f a b p q r t k = (

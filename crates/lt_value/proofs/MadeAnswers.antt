@@ -16,32 +16,15 @@ use Rattle.lt_value.specs.Num.{Holds, IsExactly}
 use Rattle.lt_value.specs.Refine.{IsRelation, Relates}
 use Rattle.lt_value.specs.Table.{opposite_of, IsRelated, IsAnswer}
 use Rattle.lt_value.specs.declared.num.Num.{Num}
+use Rattle.lt_value.proofs.Orders.{le_true, le_false, le_test, lt_true, lt_false, lt_test}
 use Rattle.lt_value.proofs.Members.{lo_holds, hi_holds, lo_fits, hi_fits}
 use Rattle.lt_value.proofs.Truths.{relates_is}
 
-abbrev plain : ℤ → Result ℤ Ub
+abbrev pub plain : ℤ → Result ℤ Ub
 plain z = Ok z
 
-same_number : (u v : ℤ) → plain u ≡ plain v → u ≡ v
+pub same_number : (u v : ℤ) → plain u ≡ plain v → u ≡ v
 same_number u v e = cc
-
-lt_true : (x y : ℤ) → int_lt x y ≡ true → x <ℤ y
-lt_true x y e = omega (arith, ints)
-
-lt_false : (x y : ℤ) → int_lt x y ≡ false → y ≤ℤ x
-lt_false x y e = omega (arith, ints)
-
-le_true : (x y : ℤ) → int_le x y ≡ true → x ≤ℤ y
-le_true x y e = omega (arith, ints)
-
-le_false : (x y : ℤ) → int_le x y ≡ false → y <ℤ x
-le_false x y e = omega (arith, ints)
-
-le_holds : (x y : ℤ) → x ≤ℤ y → int_le x y ≡ true
-le_holds x y h = grind (arith, ints)
-
-lt_holds : (x y : ℤ) → x <ℤ y → int_lt x y ≡ true
-lt_holds x y h = grind (arith, ints)
 
 -- a relation or its opposite holds, and the value says which
 abbrev IsDecided : DataModel → Op → Scalar → ℤ → ℤ → Type 0
@@ -156,19 +139,19 @@ answers_both m o s a b n r (x, y, p, q, h) (u, v, f, g, k) two z = (forth, back)
 pub related_le : (o : Op) (a b : Num) (lo hi : ℤ) → o ≡ O.Le → lo ≡ a.lo → hi ≡ b.hi → IsTrue (int_le lo hi) ↔ IsRelated o a b
 related_le o a b lo hi is e f = rw is (
   (λ t. (a.lo, b.hi, lo_holds a, hi_holds b, omega (arith, ints, le_true lo hi t))),
-  (λ (x, y, p, q, h). le_holds lo hi (omega (arith, ints, p.above, q.below))),
+  (λ (x, y, p, q, h). le_test lo hi (omega (arith, ints, p.above, q.below))),
 )
 
 pub related_gt : (o : Op) (a b : Num) (lo hi : ℤ) → o ≡ O.Gt → lo ≡ b.lo → hi ≡ a.hi → IsTrue (int_lt lo hi) ↔ IsRelated o a b
 related_gt o a b lo hi is e f = rw is (
   (λ t. (a.hi, b.lo, hi_holds a, lo_holds b, omega (arith, ints, lt_true lo hi t))),
-  (λ (x, y, p, q, h). lt_holds lo hi (omega (arith, ints, p.below, q.above))),
+  (λ (x, y, p, q, h). lt_test {a = lo} {b = hi} (omega (arith, ints, p.below, q.above))),
 )
 
 pub related_ge : (o : Op) (a b : Num) (lo hi : ℤ) → o ≡ O.Ge → lo ≡ b.lo → hi ≡ a.hi → IsTrue (int_le lo hi) ↔ IsRelated o a b
 related_ge o a b lo hi is e f = rw is (
   (λ t. (a.hi, b.lo, hi_holds a, lo_holds b, omega (arith, ints, le_true lo hi t))),
-  (λ (x, y, p, q, h). le_holds lo hi (omega (arith, ints, p.below, q.above))),
+  (λ (x, y, p, q, h). le_test lo hi (omega (arith, ints, p.below, q.above))),
 )
 
 pub related_eq : (o : Op) (a b : Num) (t : Bool) → o ≡ O.Eq → (IsTrue t ↔ ((z : ℤ) × Holds a z × Holds b z)) → IsTrue t ↔ IsRelated o a b

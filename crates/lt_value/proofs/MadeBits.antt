@@ -14,18 +14,14 @@ use Rattle.lt_value.specs.Num.{Holds, IsExactly, IsEmpty}
 use Rattle.lt_value.specs.Entry.{Entry, entry_of, IsIn, IsSettled, written, is_single, range_of}
 use Rattle.lt_value.specs.Table.{exact_or_row, and_row, or_row, mask_of}
 use Rattle.lt_value.specs.declared.num.Num.{Num}
+use Rattle.lt_value.proofs.Orders.{le_true}
 use Rattle.lt_value.proofs.Members.{lo_fits, hi_fits}
 use Rattle.lt_value.proofs.Cuts.{if_some_as, if_none_as}
 use Rattle.lt_value.proofs.Entries.{abs_up}
 use Rattle.lt_value.proofs.Settling.{exactly_as, rest_alone}
-use Rattle.lt_value.proofs.Made.{within_settled, ones_made, ones_settled}
+use Rattle.lt_value.proofs.MadeAnswers.{plain, same_number}
+use Rattle.lt_value.proofs.Made.{min_fits, max_fits, within_settled, ones_made, ones_settled}
 use Rattle.lt_value.proofs.Bits.{AreValues, mask_value}
-
-abbrev pub plain : ℤ → Result ℤ Ub
-plain z = Ok z
-
-same_number : (u v : ℤ) → plain u ≡ plain v → u ≡ v
-same_number u v e = cc
 
 pub exact_is : (n : Num) (v v' : ℤ) (r : Result ℤ Ub) → plain v ≡ r → v' ≡ v → ((z : ℤ) → Holds n z ↔ (z ≡ v')) → (z : ℤ) → Holds n z ↔ (r ≡ plain z)
 exact_is n v v' r e f is z = (
@@ -106,26 +102,17 @@ top_value m s a b va vb p = (abs_up (int_max a.hi b.hi) (omega (arith, ints, cla
 
 natural_from : (l : ℤ) (t : Bool) → t ≡ int_le (pos 0) l → t ≡ true → pos 0 ≤ℤ l
 natural_from l t e f = le_true (pos 0) l (sym e ∙ f)
-  where
-    le_true : (a b : ℤ) → int_le a b ≡ true → a ≤ℤ b
-    le_true a b e = grind (arith, ints)
 
 max_is : (a b : Num) (top : ℤ) → top ≡ int_max (to_z w128 (of_z w128 a.hi)) (to_z w128 (of_z w128 b.hi)) → top ≡ int_max a.hi b.hi
 max_is a b top e = e ∙ ap₂ int_max (to_z-of_z w128 a.hi (hi_fits a)) (to_z-of_z w128 b.hi (hi_fits b))
 
 max_code : (a b : Num) (top : ℤ) → top ≡ int_max (to_z w128 (of_z w128 a.hi)) (to_z w128 (of_z w128 b.hi)) → to_z w128 (of_z w128 top) ≡ int_max a.hi b.hi
 max_code a b top e = to_z-of_z w128 top (subst (SFits w128) (sym (max_is a b top e)) (max_fits a.hi b.hi (hi_fits a) (hi_fits b))) ∙ max_is a b top e
-  where
-    max_fits : (x y : ℤ) → SFits w128 x → SFits w128 y → SFits w128 (int_max x y)
-    max_fits x y p q = omega (arith, ints, clamps)
 
 pub min_code : (a b : Num) (top : ℤ) → top ≡ int_min (to_z w128 (of_z w128 a.hi)) (to_z w128 (of_z w128 b.hi)) → to_z w128 (of_z w128 top) ≡ int_min a.hi b.hi
 min_code a b top e =
     let is : top ≡ int_min a.hi b.hi = e ∙ ap₂ int_min (to_z-of_z w128 a.hi (hi_fits a)) (to_z-of_z w128 b.hi (hi_fits b)) in
     to_z-of_z w128 top (subst (SFits w128) (sym is) (min_fits a.hi b.hi (hi_fits a) (hi_fits b))) ∙ is
-  where
-    min_fits : (x y : ℤ) → SFits w128 x → SFits w128 y → SFits w128 (int_min x y)
-    min_fits x y p q = omega (arith, ints, clamps)
 
 -- the mask, as the code computes it
 pub mask_below : (m : DataModel) (s : Scalar) (a b : Num) (top : ℤ) → AreValues m s a → AreValues m s b → top ≡ int_max (to_z w128 (of_z w128 a.hi)) (to_z w128 (of_z w128 b.hi)) → to_z w128 (of_z w128 top) <ℤ pos (2 ^ 64)

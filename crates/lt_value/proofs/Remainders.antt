@@ -9,16 +9,11 @@ use Rattle.lt_value.specs.Num.{Holds, IsBelow}
 use Rattle.lt_value.specs.Entry.{IsIn, IsCongruent, written, rest_of, gcd_of}
 use Rattle.lt_value.specs.Table.{greatest_remainder, remainder_row}
 use Rattle.lt_value.specs.declared.num.Num.{Num}
+use Rattle.lt_value.proofs.Orders.{lt_test, lt_fails}
 use Rattle.lt_value.proofs.Members.{lo_holds, hi_holds, step_divides}
 use Rattle.lt_value.proofs.Entries.{IsGcd-gcd_of, gcd_divides, member_congruent, one_member, one_congruent, IsCongruent-trans, IsCongruent-sym}
 use Rattle.lt_value.proofs.Products.{still_single}
 use Rattle.lt_value.proofs.Settled.{IsWider, wider_by}
-
-lt_true : {a b : ℤ} → a <ℤ b → int_lt a b ≡ true
-lt_true {a} {b} h = grind (arith, ints)
-
-lt_false : {a b : ℤ} → b ≤ℤ a → int_lt a b ≡ false
-lt_false {a} {b} h = grind (arith, ints)
 
 -- the size of what lies between two numbers is at most the greater of theirs
 size_between : (l y h : ℤ) → l ≤ℤ y → y ≤ℤ h → unsigned_abs y ≤ max (unsigned_abs l) (unsigned_abs h)
@@ -84,34 +79,34 @@ high_end hi m = if int_lt (pos 0) hi then int_min hi m else pos 0
 low_end_is : (lo x r : ℤ) (m : ℕ) → lo ≤ℤ x → IsRemainder x r m → low_end lo (pos m) ≤ℤ r
 low_end_is lo x r m p h =
     by_lt_z lo (pos 0)
-    (λ less. rw (lt_true less) (by_lt_z x (pos 0)
+    (λ less. rw (lt_test less) (by_lt_z x (pos 0)
       (λ down. omega (arith, ints, clamps, h.low, h.down_from (omega (arith, ints))))
       (λ up. omega (arith, ints, clamps, h.low, h.up_from up))))
-    (λ more. rw (lt_false more) (h.up_from (omega (arith, ints))))
+    (λ more. rw (lt_fails more) (h.up_from (omega (arith, ints))))
 
 high_end_is : (hi x r : ℤ) (m : ℕ) → x ≤ℤ hi → IsRemainder x r m → r ≤ℤ high_end hi (pos m)
 high_end_is hi x r m p h =
     by_lt_z (pos 0) hi
-    (λ less. rw (lt_true less) (by_lt_z x (pos 0)
+    (λ less. rw (lt_test less) (by_lt_z x (pos 0)
       (λ down. omega (arith, ints, clamps, h.high, h.down_to (omega (arith, ints))))
       (λ up. omega (arith, ints, clamps, h.high, h.up_to up))))
-    (λ more. rw (lt_false more) (h.down_to (omega (arith, ints))))
+    (λ more. rw (lt_fails more) (h.down_to (omega (arith, ints))))
 
 low_end_falls : (l lo : ℤ) (m k : ℕ) → l ≤ℤ lo → m ≤ k → low_end l (pos k) ≤ℤ low_end lo (pos m)
 low_end_falls l lo m k p q =
     by_lt_z lo (pos 0)
-    (λ less. rw (lt_true less, lt_true {a = l} {b = pos 0} (omega (arith, ints))) (omega (arith, ints, clamps)))
+    (λ less. rw (lt_test less, lt_test {a = l} {b = pos 0} (omega (arith, ints))) (omega (arith, ints, clamps)))
     (λ more. by_lt_z l (pos 0)
-      (λ less. rw (lt_false more, lt_true less) (omega (arith, ints, clamps)))
-      (λ all. rw (lt_false more, lt_false all) (omega (arith, ints))))
+      (λ less. rw (lt_fails more, lt_test less) (omega (arith, ints, clamps)))
+      (λ all. rw (lt_fails more, lt_fails all) (omega (arith, ints))))
 
 high_end_grows : (hi h : ℤ) (m k : ℕ) → hi ≤ℤ h → m ≤ k → high_end hi (pos m) ≤ℤ high_end h (pos k)
 high_end_grows hi h m k p q =
     by_lt_z (pos 0) hi
-    (λ less. rw (lt_true less, lt_true {a = pos 0} {b = h} (omega (arith, ints))) (omega (arith, ints, clamps)))
+    (λ less. rw (lt_test less, lt_test {a = pos 0} {b = h} (omega (arith, ints))) (omega (arith, ints, clamps)))
     (λ more. by_lt_z (pos 0) h
-      (λ less. rw (lt_false more, lt_true less) (omega (arith, ints, clamps)))
-      (λ all. rw (lt_false more, lt_false all) (omega (arith, ints))))
+      (λ less. rw (lt_fails more, lt_test less) (omega (arith, ints, clamps)))
+      (λ all. rw (lt_fails more, lt_fails all) (omega (arith, ints))))
 
 -- a remainder is congruent to the dividend modulo the size of the divisor
 remainder_congruent : (x y : ℤ) → IsCongruent (unsigned_abs y) (int_rem x y) x

@@ -17,6 +17,7 @@ use Rattle.lt_value.specs.Entry.{Entry, IsIn, IsSettled, written}
 use Rattle.lt_value.specs.Table.{IsResult, IsBetween, IsEndQuotient, power, right_shift, sum_row, difference_row, product_row, remainder_row, left_shift_row, right_shift_row, exact_or_row, and_row, or_row}
 use Rattle.lt_value.specs.Forward.{AreTaken, TakesRight, IsTakenFrom}
 use Rattle.lt_value.specs.declared.num.Num.{Num}
+use Rattle.lt_value.proofs.MadeAnswers.{plain}
 use Rattle.lt_value.proofs.Settled.{given, settled_given, settled_value, settled_wider}
 use Rattle.lt_value.proofs.Sums.{sum_holds, difference_holds, sum_wider, difference_wider}
 use Rattle.lt_value.proofs.Products.{product_holds, product_wider}
@@ -64,9 +65,6 @@ kept m s e z v is h value = settled_value m s e v (subst (IsIn e) (sym is) h) va
 
 value_is : (m : DataModel) (o : Op) (s : Scalar) (x y v : ℤ) → IsValue m s x → value_of m o s x y ≡ Ok v → IsValue m s v
 value_is m o s x y v value e = value_of_fits m o s x y (Ok v) (sym e) value
-
-abbrev plain : ℤ → Result ℤ Ub
-plain z = Ok z
 
 bits_given : (z v : ℤ) → plain z ≡ plain v → v ≡ z
 bits_given z v e = cc

@@ -1,4 +1,4 @@
-// Sets of whole numbers, each an interval with a congruence; `specs/Num.antt` says which numbers a `Num` holds.
+// Sets of whole numbers, each an interval with a congruence: `specs/Num.antt` says which numbers a `Num` holds, and `specs/Table.antt` what operators give.
 #![tactic(auto)]
 
 mod cut;
@@ -9,6 +9,8 @@ mod num;
 mod operators;
 mod progression;
 mod relation;
+#[cfg(test)]
+mod rows;
 #[cfg(test)]
 mod tables;
 #[cfg(test)]

@@ -3,10 +3,12 @@ ghost use Rattle.lt_value.specs.Refine.{IsRelation};
 
 use crate::lattice::{join, meet};
 use crate::num::Num;
+use crate::operators::forward;
 use crate::progression::{between, single};
 use crate::relation::refine;
+use crate::rows::{ROWS, Row, WORKED};
 use crate::tables::{JOINS, MEETS, Parts, REFINED, Seed};
-use lt_model::Op;
+use lt_model::{DataModel, Op, Scalar};
 
 const LEAST: i128 = -0x8000_0000_0000_0000;
 
@@ -55,6 +57,38 @@ fn refines(row: &(Op, Seed, Seed, Option<(Parts, Parts)>)) -> bool {
         Some((left, right)) => Some((parts(&left), parts(&right))) == wanted,
         None => wanted == None,
     }
+}
+
+fn gives(row: &Row) -> bool {
+    let (op, ty, a, b, wanted) = *row;
+    match forward(DataModel::Lp64, op, ty, &spread(a), &spread(b)) {
+        Some(n) => Some(parts(&n)) == wanted,
+        None => wanted == None,
+    }
+}
+
+#[test]
+fn operators_give_what_a_script_found(rt: HostRuntime) {
+    for row in ROWS.iter() {
+        assert!(rt; gives(row), "{row:?}");
+    }
+}
+
+#[test]
+fn operators_give_the_worked_rows(rt: HostRuntime) {
+    for row in WORKED.iter() {
+        assert!(rt; gives(row), "{row:?}");
+    }
+}
+
+#[test]
+fn an_even_product_is_never_seven(rt: HostRuntime) {
+    let all = between(-0x8000_0000, 0x7fff_ffff);
+    match forward(DataModel::Ilp32, Op::Mul, Scalar::Int, &all, &single(2)) {
+        Some(even) => assert!(rt; refine(Op::Eq, &even, &single(7)).is_none()),
+        None => assert!(rt; false),
+    }
+    assert!(rt; parts(&join(&single(3), &single(7))) == (3, 7, 4, 3));
 }
 
 #[test]
