@@ -1,18 +1,18 @@
 -- What the operators on bits give is among the rows' numbers, and the rows grow with the operands.
-use Rattle.std.proofs.Common.{arith, ◌≡◌, refl, sym, ◌∙◌, ap, ap₂, subst, ℕ, ℤ, pos, negsuc, suc, zero, ◌-ℤ◌, ◌≤ℤ◌, ◌<ℤ◌, ◌-◌, ◌^◌, ◌%◌, ◌<◌, ◌≤◌, Bool, true, false, ◌&&◌}
-use Rattle.std.specs.Prelude.{unsigned_abs, ◌==◌, if◌then◌else◌, int_le, bit_and, bit_or, bit_xor, max}
-use Rattle.std.specs.Int.{◌∣◌, int_min, int_max, int_rem_euclid}
-use Rattle.std.proofs.lemmas.Int.{ints, clamps, by_lt_z}
-use Rattle.std.proofs.lemmas.Bool.{eqb-true, eqb-false, eq-eqb}
-use Rattle.std.proofs.lemmas.Nat.{and_le_l, and_le_r, or_lt, xor_lt}
+use Rattle.std.proofs.Common.{arith, ◌≡◌, refl, sym, ap₂, subst, ℕ, ℤ, pos, negsuc, ◌≤ℤ◌, ◌-◌, ◌^◌, ◌<◌, ◌≤◌, Bool, true, false, ◌&&◌}
+use Rattle.std.specs.Prelude.{unsigned_abs, ◌==◌, if◌then◌else◌, int_le, bit_and}
+use Rattle.std.specs.Int.{int_min, int_max}
+use Rattle.std.proofs.lemmas.Int.{ints, clamps}
+use Rattle.std.proofs.lemmas.Bool.{eqb-true, eq-eqb}
+use Rattle.std.proofs.lemmas.Nat.{and_le_l, and_le_r}
 use Rattle.std.proofs.Math.Nat.{dvd-zero, one-dvd, mod-eq_of_lt, one-le-pow}
 use Rattle.lt_model.specs.declared.scalar.DataModel.{DataModel}
 use Rattle.lt_model.specs.declared.scalar.Scalar.{Scalar}
-use Rattle.lt_model.specs.Scalar.{width_of, least_of, greatest_of, IsValue}
+use Rattle.lt_model.specs.Scalar.{least_of, greatest_of, IsValue}
 use Rattle.lt_model.specs.Operators.{bits_of, bitwise}
 use Rattle.lt_model.proofs.Ranges.{Bounds, bounds_of, IsValue-wrapped}
 use Rattle.lt_value.specs.Num.{Holds, IsBelow}
-use Rattle.lt_value.specs.Entry.{Entry, entry_of, IsIn, IsCongruent, written, is_single, range_of}
+use Rattle.lt_value.specs.Entry.{Entry, entry_of, IsIn, written, range_of}
 use Rattle.lt_value.specs.Table.{exact_or_row, and_row, or_row, mask_of}
 use Rattle.lt_value.specs.declared.num.Num.{Num}
 use Rattle.lt_value.proofs.Orders.{le_true, le_false, le_test}
@@ -156,7 +156,7 @@ and_row_holds m s a b x y va vb p q = by_tests (int_le (pos 0) a.lo) (int_le (po
     right t = and_right m s x y (omega (arith, ints, le_true (pos 0) b.lo t, q.above)) (member_value m s b y vb q)
 
     by_tests : (t u : Bool) → int_le (pos 0) a.lo ≡ t → int_le (pos 0) b.lo ≡ u
-      → IsIn (if t then (if u then entry_of (pos 0) (int_min a.hi b.hi) 1 (pos 0) else entry_of (pos 0) a.hi 1 (pos 0)) else (if u then entry_of (pos 0) b.hi 1 (pos 0) else range_of m s)) v
+        → IsIn (if t then (if u then entry_of (pos 0) (int_min a.hi b.hi) 1 (pos 0) else entry_of (pos 0) a.hi 1 (pos 0)) else (if u then entry_of (pos 0) b.hi 1 (pos 0) else range_of m s)) v
     by_tests true true e f = by_ones (pos 0) (int_min a.hi b.hi) v (left e).0 (omega (arith, ints, clamps, (left e).1, (right f).1, p.below, q.below))
     by_tests true false e f = by_ones (pos 0) a.hi v (left e).0 (omega (arith, ints, (left e).1, p.below))
     by_tests false true e f = by_ones (pos 0) b.hi v (right f).0 (omega (arith, ints, (right f).1, q.below))
@@ -181,7 +181,7 @@ and_row_wider m s a b c d vc vd f g = by_tests (int_le (pos 0) c.lo) (int_le (po
     low = (bounds_of m s).not_above
 
     by_tests : (t u v w : Bool) → int_le (pos 0) c.lo ≡ t → int_le (pos 0) d.lo ≡ u → int_le (pos 0) a.lo ≡ v → int_le (pos 0) b.lo ≡ w
-      → IsWider
+        → IsWider
         (if v then (if w then entry_of (pos 0) (int_min a.hi b.hi) 1 (pos 0) else entry_of (pos 0) a.hi 1 (pos 0)) else (if w then entry_of (pos 0) b.hi 1 (pos 0) else range_of m s))
         (if t then (if u then entry_of (pos 0) (int_min c.hi d.hi) 1 (pos 0) else entry_of (pos 0) c.hi 1 (pos 0)) else (if u then entry_of (pos 0) d.hi 1 (pos 0) else range_of m s))
     by_tests true u false w p q r o = absurd (omega (arith, ints, le_true (pos 0) c.lo p, le_false (pos 0) a.lo r, la))
@@ -239,7 +239,7 @@ or_row_wider m s a b c d vc vd f g = by_tests (int_le (pos 0) c.lo && int_le (po
         (is, omega (arith, ints, clamps, (f a.hi (hi_holds a)).below, (g b.hi (hi_holds b)).below, vc.last.below, vd.last.below))
 
     by_tests : (t u : Bool) → (int_le (pos 0) c.lo && int_le (pos 0) d.lo) ≡ t → (int_le (pos 0) a.lo && int_le (pos 0) b.lo) ≡ u
-      → IsWider (if u then entry_of (pos 0) (pos (mask_of n)) 1 (pos 0) else range_of m s) (if t then entry_of (pos 0) (pos (mask_of o)) 1 (pos 0) else range_of m s)
+        → IsWider (if u then entry_of (pos 0) (pos (mask_of n)) 1 (pos 0) else range_of m s) (if t then entry_of (pos 0) (pos (mask_of o)) 1 (pos 0) else range_of m s)
     by_tests true true e i =
         let h = both_true (int_le (pos 0) c.lo) (int_le (pos 0) d.lo) e in
         let is : pos o ≡ int_max c.hi d.hi = abs_up (int_max c.hi d.hi) (omega (arith, ints, clamps, le_true (pos 0) c.lo h.0, c.canonical.ordered)) in

@@ -1,9 +1,9 @@
 -- The least and the greatest of what a function gives at the ends.
-use Rattle.std.proofs.Common.{arith, ◌≡◌, ℤ, ◌≤ℤ◌, ◌⊎◌, inl, inr}
+use Rattle.std.proofs.Common.{arith, ℤ, ◌≤ℤ◌, ◌⊎◌}
 use Rattle.std.specs.Prelude.{int_lt, cond, Bool, true, false}
 use Rattle.std.specs.Int.{int_min, int_max}
 use Rattle.std.proofs.lemmas.Int.{ints, clamps}
-use Rattle.lt_value.specs.Num.{Holds, IsBelow}
+use Rattle.lt_value.specs.Num.{Holds}
 use Rattle.lt_value.specs.Entry.{Entry, written}
 use Rattle.lt_value.specs.Table.{least_corner, greatest_corner}
 use Rattle.lt_value.specs.declared.num.Num.{Num}

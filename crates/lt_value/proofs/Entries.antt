@@ -1,15 +1,15 @@
 -- Numbers that are congruent, and the greatest common divisor.
-use Rattle.std.proofs.Common.{arith, ◌≡◌, refl, sym, ◌∙◌, ap, subst, ℕ, ℤ, pos, negsuc, suc, zero, ◌+ℤ◌, ◌-ℤ◌, ◌*ℤ◌, ◌≤ℤ◌, ◌<ℤ◌, ◌+◌, ◌-◌, ◌*◌, ◌%◌, ◌<◌, ◌≤◌, inl, inr, Bool, true, false}
+use Rattle.std.proofs.Common.{arith, ◌≡◌, refl, sym, ◌∙◌, ap, subst, ℕ, ℤ, pos, negsuc, suc, zero, ◌+ℤ◌, ◌-ℤ◌, ◌*ℤ◌, ◌≤ℤ◌, ◌+◌, ◌-◌, ◌*◌, ◌%◌, ◌<◌, inl, inr, Bool, true, false}
 use Rattle.std.specs.Prelude.{unsigned_abs, neg_ℤ, ◌==◌, if◌then◌else◌}
 use Rattle.std.specs.Int.{◌∣◌, int_rem_euclid, IsGcd}
 use Rattle.std.proofs.lemmas.Int.{ints, by_lt_z, unsigned_abs-mul}
 use Rattle.std.proofs.lemmas.Bool.{eqb-true, eqb-false, eq-eqb}
 use Rattle.std.proofs.lemmas.Nat.Gcd.{IsGcd-from_zero, IsGcd-from_mod, same_from_IsGcd}
-use Rattle.std.proofs.Math.Nat.{dvd-zero, dvd_refl, dvd_trans, dvd-add, dvd-sub, one-dvd, mod-lt, mod-eq_of_lt, pos_of_ne-zero, mul-dvd-mul_right, eq-zero-or-pos}
+use Rattle.std.proofs.Math.Nat.{dvd-zero, dvd_trans, dvd-add, dvd-sub, one-dvd, mod-lt, mod-eq_of_lt, pos_of_ne-zero, mul-dvd-mul_right, eq-zero-or-pos}
 use Rattle.std.proofs.Math.Dec.{eqb-suc-zero}
 use Rattle.lt_model.proofs.Whole.{add-mul_ℤ, neg-mul_ℤ}
-use Rattle.lt_value.specs.Num.{Holds, IsBelow}
-use Rattle.lt_value.specs.Entry.{Entry, entry_of, IsIn, IsCongruent, gcd_by, gcd_of, rest_of}
+use Rattle.lt_value.specs.Num.{Holds}
+use Rattle.lt_value.specs.Entry.{IsCongruent, gcd_by, gcd_of, rest_of}
 use Rattle.lt_value.specs.declared.num.Num.{Num}
 use Rattle.lt_value.proofs.Congruent.{dvd_from_rests}
 

@@ -1,25 +1,24 @@
 -- The entries that the code makes are the table's rows.
-use Rattle.std.proofs.Common.{arith, ◌≡◌, refl, sym, ◌∙◌, ap, ap₂, subst, ℕ, ℤ, pos, negsuc, suc, zero, ◌+ℤ◌, ◌-ℤ◌, ◌*ℤ◌, ◌≤ℤ◌, ◌<ℤ◌, ◌+◌, ◌-◌, ◌*◌, ◌<◌, ◌≤◌, inl, inr, ◌^◌, ◌↔◌, Bool, true, false, ◌||◌, to_z, of_z}
-use Rattle.std.specs.Prelude.{unsigned_abs, neg_ℤ, Option, IfSome, IfNone, if◌then◌else◌, ◌==◌}
-use Rattle.std.specs.Int.{◌∣◌, int_min, int_max, int_shr, IsGcd, w128}
+use Rattle.std.proofs.Common.{arith, ◌≡◌, refl, sym, ◌∙◌, ap, ap₂, subst, ℕ, ℤ, pos, negsuc, ◌+ℤ◌, ◌-ℤ◌, ◌*ℤ◌, ◌≤ℤ◌, ◌-◌, ◌*◌, ◌<◌, ◌≤◌, inl, inr, ◌^◌, ◌↔◌, Bool, true, false, ◌||◌, to_z, of_z}
+use Rattle.std.specs.Prelude.{unsigned_abs, Option, IfSome, IfNone, if◌then◌else◌, ◌==◌}
+use Rattle.std.specs.Int.{◌∣◌, int_min, int_max, IsGcd, w128}
 use mir.Val.{SFits}
-use Rattle.std.proofs.lemmas.Int.{ints, clamps, by_lt_z, to_z_pos, to_z-of_z, fits_signed_mul, unsigned_abs-mul}
-use Rattle.std.proofs.lemmas.Bool.{eqb-true, eqb-false}
-use Rattle.std.proofs.Math.Nat.{dvd-zero, dvd_refl, one-dvd, le_of_dvd, eq-zero-or-pos, eq-zero_of_zero-dvd, mul-le-mul_left, mul-le-mul_right, div-le_self}
+use Rattle.std.proofs.lemmas.Int.{ints, clamps, to_z-of_z, unsigned_abs-mul}
+use Rattle.std.proofs.Math.Nat.{dvd-zero, dvd_refl, le_of_dvd, eq-zero-or-pos, eq-zero_of_zero-dvd, mul-le-mul_left, mul-le-mul_right}
 use Rattle.lt_model.specs.declared.scalar.DataModel.{DataModel}
 use Rattle.lt_model.specs.declared.scalar.Scalar.{Scalar}
-use Rattle.lt_model.specs.Scalar.{width_of, is_signed, least_of, greatest_of, IsValue}
-use Rattle.lt_model.proofs.Ranges.{Bounds, bounds_of, signed_abs}
+use Rattle.lt_model.specs.Scalar.{is_signed, least_of, greatest_of, IsValue}
+use Rattle.lt_model.proofs.Ranges.{Bounds, bounds_of}
 use Rattle.lt_value.specs.Num.{Holds, IsExactly, IsEmpty}
-use Rattle.lt_value.specs.Entry.{Entry, entry_of, IsIn, IsCongruent, IsKept, IsSettled, is_within, gcd_of, written, rest_of}
+use Rattle.lt_value.specs.Entry.{Entry, entry_of, IsIn, IsCongruent, IsSettled, is_within, gcd_of, written, rest_of}
 use Rattle.lt_value.specs.Table.{product, sum_row, difference_row, product_row, product_step, least_corner, greatest_corner}
 use Rattle.lt_value.specs.declared.num.Num.{Num}
-use Rattle.lt_value.proofs.Members.{gap_is, lo_holds, hi_holds, apart_by_step, lo_fits, hi_fits, step_fits}
+use Rattle.lt_value.proofs.Members.{gap_is, lo_holds, hi_holds, apart_by_step, lo_fits, hi_fits}
 use Rattle.lt_value.proofs.Entries.{gcd_is, abs_up, one_congruent, IsCongruent-sym}
 use Rattle.lt_value.proofs.Sums.{sum_holds, difference_holds}
 use Rattle.lt_value.proofs.Products.{product_holds}
 use Rattle.lt_value.proofs.Corners.{at_least_corner, four_least, four_greatest}
-use Rattle.lt_value.proofs.Settled.{IsWider, settled_wider, test_from_within}
+use Rattle.lt_value.proofs.Settled.{settled_wider, test_from_within}
 use Rattle.lt_value.proofs.Settling.{some_as, none_as, settled_kept, unsigned_least}
 
 -- a row, written with its least number in place of the rest
@@ -188,7 +187,7 @@ natural_corners a b p q = corners (unsigned_abs a.lo) (unsigned_abs a.hi) (unsig
     four x y z w p q r s = (omega (arith, ints, clamps), omega (arith, ints, clamps))
 
     corners : (al ah bl bh : ℕ) (x y z w : ℤ) → x ≡ pos al → y ≡ pos ah → z ≡ pos bl → w ≡ pos bh → al ≤ ah → bl ≤ bh
-      → (pos (al * bl) ≡ int_min (int_min (x *ℤ z) (x *ℤ w)) (int_min (y *ℤ z) (y *ℤ w))) × (pos (ah * bh) ≡ int_max (int_max (x *ℤ z) (x *ℤ w)) (int_max (y *ℤ z) (y *ℤ w)))
+        → (pos (al * bl) ≡ int_min (int_min (x *ℤ z) (x *ℤ w)) (int_min (y *ℤ z) (y *ℤ w))) × (pos (ah * bh) ≡ int_max (int_max (x *ℤ z) (x *ℤ w)) (int_max (y *ℤ z) (y *ℤ w)))
     corners al ah bl bh x y z w e f g h le more =
         rw (e, f, g, h) (four (al * bl) (al * bh) (ah * bl) (ah * bh) (mul-le-mul_left al more) (mul-le-mul_right bl le) (mul-le-mul_right bh le) (mul-le-mul_left ah more))
 

@@ -1,6 +1,6 @@
 -- The entries that the code makes of the operators on bits are the table's rows.
-use Rattle.std.proofs.Common.{arith, ◌≡◌, refl, sym, ◌∙◌, ap, ap₂, subst, ℕ, ℤ, pos, negsuc, ◌≤ℤ◌, ◌<ℤ◌, ◌<◌, ◌-◌, ◌^◌, ◌↔◌, Bool, true, false, ◌&&◌, to_z, of_z}
-use Rattle.std.specs.Prelude.{Result, Ok, unsigned_abs, ◌==◌, if◌then◌else◌, int_le, Option, IfSome, IfNone}
+use Rattle.std.proofs.Common.{arith, ◌≡◌, refl, sym, ◌∙◌, ap, ap₂, subst, ℕ, ℤ, pos, ◌≤ℤ◌, ◌<ℤ◌, ◌^◌, ◌↔◌, Bool, true, false, ◌&&◌, to_z, of_z}
+use Rattle.std.specs.Prelude.{Result, unsigned_abs, if◌then◌else◌, int_le, Option, IfSome, IfNone}
 use Rattle.std.specs.Int.{int_min, int_max, w128}
 use mir.Val.{SFits}
 use Rattle.std.proofs.lemmas.Int.{ints, clamps, to_z-of_z}
@@ -10,7 +10,7 @@ use Rattle.lt_model.specs.declared.operator.Ub.{Ub}
 use Rattle.lt_model.specs.Scalar.{least_of, greatest_of, IsValue}
 use Rattle.lt_model.specs.Operators.{bits_of, bitwise}
 use Rattle.lt_model.proofs.Ranges.{Bounds, bounds_of, IsValue-wrapped}
-use Rattle.lt_value.specs.Num.{Holds, IsExactly, IsEmpty}
+use Rattle.lt_value.specs.Num.{Holds, IsExactly}
 use Rattle.lt_value.specs.Entry.{Entry, entry_of, IsIn, IsSettled, written, is_single, range_of}
 use Rattle.lt_value.specs.Table.{exact_or_row, and_row, or_row, mask_of}
 use Rattle.lt_value.specs.declared.num.Num.{Num}

@@ -1,26 +1,25 @@
 -- The entries that the code makes of quotients and remainders are the table's rows.
-use Rattle.std.proofs.Common.{arith, ◌≡◌, ◌≢◌, refl, sym, ◌∙◌, ap, ap₂, subst, ℕ, ℤ, pos, negsuc, suc, zero, ◌+ℤ◌, ◌-ℤ◌, ◌≤ℤ◌, ◌<ℤ◌, ◌<◌, ◌≤◌, ◌-◌, ◌^◌, ◌⊎◌, inl, inr, ◌↔◌, Bool, true, false, to_z, of_z}
-use Rattle.std.specs.Prelude.{unsigned_abs, neg_ℤ, max, int_div, int_lt, ◌==◌, if◌then◌else◌, Option, IfSome, IfNone}
-use Rattle.std.specs.Int.{◌∣◌, int_min, int_max, IsGcd, w128}
+use Rattle.std.proofs.Common.{arith, ◌≡◌, ◌≢◌, refl, sym, ◌∙◌, ap, ap₂, subst, ℕ, ℤ, pos, negsuc, suc, zero, ◌≤ℤ◌, ◌≤◌, ◌-◌, ◌^◌, ◌⊎◌, inl, inr, ◌↔◌, Bool, true, false, to_z, of_z}
+use Rattle.std.specs.Prelude.{unsigned_abs, neg_ℤ, int_div, int_lt, ◌==◌, if◌then◌else◌, Option, IfSome, IfNone}
+use Rattle.std.specs.Int.{int_min, int_max, IsGcd, w128}
 use mir.Val.{SFits}
-use Rattle.std.proofs.lemmas.Int.{ints, clamps, by_lt_z, to_z-of_z}
+use Rattle.std.proofs.lemmas.Int.{ints, clamps, to_z-of_z}
 use Rattle.std.proofs.lemmas.Bool.{eq-eqb}
-use Rattle.std.proofs.Math.Nat.{dvd_trans, dvd_refl}
+use Rattle.std.proofs.Math.Nat.{dvd_trans}
 use Rattle.std.proofs.Math.Dec.{eqb-suc-zero}
 use Rattle.lt_model.specs.declared.scalar.DataModel.{DataModel}
 use Rattle.lt_model.specs.declared.scalar.Scalar.{Scalar}
 use Rattle.lt_model.specs.Scalar.{least_of, greatest_of, IsValue}
-use Rattle.lt_model.proofs.Ranges.{Bounds, bounds_of}
+use Rattle.lt_model.proofs.Ranges.{bounds_of}
 use Rattle.lt_value.specs.Num.{Holds, IsExactly, IsEmpty}
 use Rattle.lt_value.specs.Refine.{IsFrom, IsUpTo}
-use Rattle.lt_value.specs.Entry.{Entry, entry_of, IsIn, IsCongruent, IsSettled, written, rest_of, gcd_of}
+use Rattle.lt_value.specs.Entry.{entry_of, IsIn, IsCongruent, IsSettled, written, rest_of, gcd_of}
 use Rattle.lt_value.specs.Table.{IsEndOf, IsPositiveIn, IsNegativeIn, IsEndQuotient, IsBetween, IsSpan, least_corner, greatest_corner, greatest_remainder, low_remainder, high_remainder, remainder_row}
 use Rattle.lt_value.specs.declared.num.Num.{Num}
-use Rattle.lt_value.proofs.Members.{lo_holds, hi_holds, lo_fits, hi_fits}
+use Rattle.lt_value.proofs.Members.{lo_holds, hi_holds}
 use Rattle.lt_value.proofs.Cuts.{if_some_as, if_none_as}
 use Rattle.lt_value.proofs.Entries.{one_congruent, member_congruent, gcd_is, IsGcd-gcd_of, IsCongruent-trans, IsCongruent-sym}
-use Rattle.lt_value.proofs.Corners.{least_corner_above, greatest_corner_below, four_least, four_greatest}
-use Rattle.lt_value.proofs.Settled.{IsWider, in_wider}
+use Rattle.lt_value.proofs.Corners.{four_least, four_greatest}
 use Rattle.lt_value.proofs.Settling.{exactly_as, empty_as, some_as, none_as}
 use Rattle.lt_value.proofs.Made.{within_settled, small_fits}
 

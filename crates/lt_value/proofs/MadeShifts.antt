@@ -1,5 +1,5 @@
 -- The entries that the code makes of shifts are the table's rows.
-use Rattle.std.proofs.Common.{arith, ◌≡◌, refl, sym, ◌∙◌, ap, ap₂, subst, ℕ, ℤ, pos, negsuc, suc, zero, ◌*ℤ◌, ◌≤ℤ◌, ◌<ℤ◌, ◌*◌, ◌-◌, ◌/◌, ◌<◌, ◌≤◌, ◌^◌, Bool, true, false, to_z, of_z}
+use Rattle.std.proofs.Common.{arith, ◌≡◌, sym, ◌∙◌, ap, subst, ℕ, ℤ, pos, negsuc, ◌*ℤ◌, ◌≤ℤ◌, ◌<ℤ◌, ◌*◌, ◌≤◌, ◌^◌, to_z, of_z}
 use Rattle.std.specs.Prelude.{unsigned_abs, if◌then◌else◌, ◌==◌}
 use Rattle.std.specs.Int.{int_min, int_max, int_shr, w128}
 use mir.Val.{SFits}
@@ -8,14 +8,13 @@ use Rattle.std.proofs.Math.Nat.{div-le_self}
 use Rattle.lt_model.specs.declared.scalar.DataModel.{DataModel}
 use Rattle.lt_model.specs.declared.scalar.Scalar.{Scalar}
 use Rattle.lt_model.specs.declared.operator.Op.TheVariants as O
-use Rattle.lt_model.specs.Scalar.{width_of, is_signed, least_of, greatest_of, IsValue}
+use Rattle.lt_model.specs.Scalar.{least_of, greatest_of, IsValue}
 use Rattle.lt_model.proofs.Ranges.{Bounds, bounds_of}
-use Rattle.lt_value.specs.Num.{Holds}
-use Rattle.lt_value.specs.Entry.{Entry, entry_of, IsCongruent, written, rest_of}
+use Rattle.lt_value.specs.Entry.{IsCongruent, written, rest_of}
 use Rattle.lt_value.specs.Table.{power, left_shift_row, right_shift, least_corner, greatest_corner}
 use Rattle.lt_value.specs.Forward.{AreTaken, IsCount}
 use Rattle.lt_value.specs.declared.num.Num.{Num}
-use Rattle.lt_value.proofs.Members.{lo_holds, hi_holds, lo_fits, hi_fits}
+use Rattle.lt_value.proofs.Members.{lo_holds, lo_fits, hi_fits}
 use Rattle.lt_value.proofs.Entries.{abs_up}
 use Rattle.lt_value.proofs.Corners.{least_corner_above, greatest_corner_below}
 use Rattle.lt_value.proofs.Shifts.{left_shift_holds, power_grows}
@@ -86,9 +85,9 @@ pub record IsRightSpan (m : DataModel) (s : Scalar) (a b : Num) (lo hi : ℤ) : 
   pub ordered : lo ≤ℤ hi
 
 pub right_span : (m : DataModel) (s : Scalar) (a b : Num) (p q r t lo hi : ℤ) → AreTaken m O.Shr s a b → AreFour right_shift a b p q r t
-  → lo ≡ int_min (int_min (to_z w128 (of_z w128 p)) (to_z w128 (of_z w128 q))) (int_min (to_z w128 (of_z w128 r)) (to_z w128 (of_z w128 t)))
-  → hi ≡ int_max (int_max (to_z w128 (of_z w128 p)) (to_z w128 (of_z w128 q))) (int_max (to_z w128 (of_z w128 r)) (to_z w128 (of_z w128 t)))
-  → IsRightSpan m s a b (to_z w128 (of_z w128 lo)) (to_z w128 (of_z w128 hi))
+    → lo ≡ int_min (int_min (to_z w128 (of_z w128 p)) (to_z w128 (of_z w128 q))) (int_min (to_z w128 (of_z w128 r)) (to_z w128 (of_z w128 t)))
+    → hi ≡ int_max (int_max (to_z w128 (of_z w128 p)) (to_z w128 (of_z w128 q))) (int_max (to_z w128 (of_z w128 r)) (to_z w128 (of_z w128 t)))
+    → IsRightSpan m s a b (to_z w128 (of_z w128 lo)) (to_z w128 (of_z w128 hi))
 right_span m s a b p q r t lo hi k four e f = record {
   low = least_corner_above right_shift a b (least_of m s) (λ x y h j. (shr_value m s x (unsigned_abs y) (member_value m s a x values h)).above);
   high = greatest_corner_below right_shift a b (greatest_of m s) (λ x y h j. (shr_value m s x (unsigned_abs y) (member_value m s a x values h)).below);

@@ -1,8 +1,8 @@
 -- The least 2 ^ k - 1 that a number doesn't pass.
-use Rattle.std.proofs.Common.{arith, ◌≡◌, refl, ap, ℕ, ℤ, pos, ◌+◌, ◌-◌, ◌*◌, ◌^◌, ◌<◌, ◌≤◌, suc}
+use Rattle.std.proofs.Common.{arith, ◌≡◌, refl, ap, ℕ, pos, ◌+◌, ◌-◌, ◌*◌, ◌^◌, ◌<◌, ◌≤◌, suc}
 use lib.Count.{count_leading_zeros}
 use Rattle.std.proofs.lemmas.Nat.{leading_length}
-use Rattle.std.proofs.Math.Nat.{one-le-pow, pow-suc}
+use Rattle.std.proofs.Math.Nat.{pow-suc}
 use Rattle.std.proofs.Math.Pow.{pow_mono}
 use Rattle.std.proofs.lemmas.Int.{ints, by_lt_z}
 use Rattle.lt_model.specs.Scalar.{greatest_of}

@@ -1,7 +1,7 @@
 -- Which members an operator takes, and the least `Num` of these.
-use Rattle.std.proofs.Common.{arith, ◌≡◌, refl, sym, ◌∙◌, ap, subst, ℕ, ℤ, pos, negsuc, suc, zero, ◌≤ℤ◌, ◌<ℤ◌, ◌≢◌, ◌⊎◌, inl, inr, ◌↔◌, ◌-ℤ◌, ◌-◌, ◌^◌, ◌≤◌, to_z, of_z}
+use Rattle.std.proofs.Common.{arith, ◌≡◌, refl, sym, ◌∙◌, ap, ℕ, ℤ, pos, negsuc, ◌≤ℤ◌, ◌≢◌, ◌⊎◌, inl, inr, ◌↔◌, ◌-ℤ◌, ◌-◌, ◌^◌, ◌≤◌, to_z, of_z}
 use Rattle.std.specs.Int.{w128}
-use Rattle.std.specs.Prelude.{Option, Some, None, IfSome, IfNone}
+use Rattle.std.specs.Prelude.{Option, IfSome, IfNone}
 use Rattle.std.proofs.lemmas.Int.{ints}
 use Rattle.lt_model.specs.declared.scalar.DataModel.{DataModel}
 use Rattle.lt_model.specs.declared.scalar.Scalar.{Scalar}

@@ -1,5 +1,5 @@
 -- Tests of the order of whole numbers.
-use Rattle.std.proofs.Common.{arith, ◌≡◌, ℤ, ◌≤ℤ◌, ◌<ℤ◌, Bool, true, false}
+use Rattle.std.proofs.Common.{arith, ◌≡◌, ℤ, ◌≤ℤ◌, ◌<ℤ◌, true, false}
 use Rattle.std.specs.Prelude.{int_le, int_lt}
 use Rattle.std.proofs.lemmas.Int.{ints}
 

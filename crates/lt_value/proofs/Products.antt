@@ -1,9 +1,9 @@
 -- Products of members are among the row's numbers, and the row grows with the operands.
-use Rattle.std.proofs.Common.{arith, ◌≡◌, refl, sym, ◌∙◌, ap, subst, ℕ, ℤ, pos, ◌*ℤ◌, ◌≤ℤ◌, ◌-ℤ◌, ◌*◌, inl, inr, Bool, true, false, zero}
+use Rattle.std.proofs.Common.{arith, ◌≡◌, refl, sym, ◌∙◌, ap, subst, ℕ, ℤ, pos, ◌*ℤ◌, ◌≤ℤ◌, ◌-ℤ◌, ◌*◌, inl, inr, Bool, true, false}
 use Rattle.std.specs.Prelude.{unsigned_abs, neg_ℤ, ◌==◌, if◌then◌else◌}
 use Rattle.std.specs.Int.{◌∣◌}
 use Rattle.std.proofs.lemmas.Int.{ints, by_lt_z}
-use Rattle.std.proofs.lemmas.Bool.{eqb-true, eqb-false, eq-eqb}
+use Rattle.std.proofs.lemmas.Bool.{eqb-true, eqb-false}
 use Rattle.std.proofs.Math.Nat.{dvd-zero, one-dvd, mul-dvd-mul_right, eq-zero_of_zero-dvd}
 use Rattle.std.proofs.Math.IntN.{*ℤ_comm}
 use Rattle.lt_model.proofs.Whole.{mul-≤ℤ, neg-mul_ℤ}
@@ -11,7 +11,7 @@ use Rattle.lt_value.specs.Num.{Holds, IsBelow}
 use Rattle.lt_value.specs.Entry.{IsIn, IsCongruent, written, rest_of}
 use Rattle.lt_value.specs.Table.{product, product_row, product_step, product_rest, least_corner, greatest_corner}
 use Rattle.lt_value.specs.declared.num.Num.{Num}
-use Rattle.lt_value.proofs.Members.{lo_holds, hi_holds, step_divides}
+use Rattle.lt_value.proofs.Members.{lo_holds, step_divides}
 use Rattle.lt_value.proofs.Entries.{member_congruent, one_member, congruent_mul, one_congruent}
 use Rattle.lt_value.proofs.Corners.{IsAmid, above_least, below_greatest, least_corner_above, greatest_corner_below}
 use Rattle.lt_value.proofs.Settled.{IsWider, wider_by}
@@ -20,8 +20,8 @@ amid_product : (l x h y : ℤ) → l ≤ℤ x → x ≤ℤ h → IsAmid (y *ℤ 
 amid_product l x h y p q =
     by_lt_z y (pos 0)
     (λ less.
-        let up' : pos 0 ≤ℤ neg_ℤ y = omega (arith, ints) in
-        inr (turned y x h (mul-≤ℤ x h (neg_ℤ y) up' q), turned y l x (mul-≤ℤ l x (neg_ℤ y) up' p)))
+    let up' : pos 0 ≤ℤ neg_ℤ y = omega (arith, ints) in
+    inr (turned y x h (mul-≤ℤ x h (neg_ℤ y) up' q), turned y l x (mul-≤ℤ l x (neg_ℤ y) up' p)))
     (λ more. inl (mul-≤ℤ l x y more p, mul-≤ℤ x h y more q))
   where
     flip : (na nb a b : ℤ) → na ≡ neg_ℤ a → nb ≡ neg_ℤ b → na ≤ℤ nb → b ≤ℤ a
@@ -71,7 +71,7 @@ step_grows : (a b c d : Num) → IsBelow a c → IsBelow b d → product_step (w
 step_grows a b c d f g = by_tests (d.step == 0) (c.step == 0) (b.step == 0) (a.step == 0) refl refl refl refl
   where
     by_tests : (t u v w : Bool) → (d.step == 0) ≡ t → (c.step == 0) ≡ u → (b.step == 0) ≡ v → (a.step == 0) ≡ w
-      → (if t then c.step * unsigned_abs d.lo else (if u then d.step * unsigned_abs c.lo else 1)) ∣ (if v then a.step * unsigned_abs b.lo else (if w then b.step * unsigned_abs a.lo else 1))
+        → (if t then c.step * unsigned_abs d.lo else (if u then d.step * unsigned_abs c.lo else 1)) ∣ (if v then a.step * unsigned_abs b.lo else (if w then b.step * unsigned_abs a.lo else 1))
     by_tests true u true w p q r s =
         subst (λ (k : ℤ). c.step * unsigned_abs d.lo ∣ a.step * unsigned_abs k) (sym (still_single b d g (eqb-true d.step 0 p)).1) (mul-dvd-mul_right c.step (step_divides a c f) (unsigned_abs d.lo))
     by_tests true u false w p q r s = absurd (eqb-false b.step 0 r (still_single b d g (eqb-true d.step 0 p)).0)

@@ -1,6 +1,6 @@
 -- Quotients of members lie between quotients of ends.
-use Rattle.std.proofs.Common.{arith, ◌≡◌, refl, sym, ◌∙◌, ap, subst, ℕ, ℤ, pos, negsuc, suc, zero, ◌+ℤ◌, ◌-ℤ◌, ◌≤ℤ◌, ◌<ℤ◌, ◌+◌, ◌-◌, ◌*◌, ◌/◌, ◌%◌, ◌<◌, ◌≤◌, ◌⊎◌, inl, inr}
-use Rattle.std.specs.Prelude.{unsigned_abs, neg_ℤ, int_div}
+use Rattle.std.proofs.Common.{arith, ◌≡◌, refl, sym, ap, subst, ℕ, ℤ, pos, negsuc, suc, zero, ◌≤ℤ◌, ◌<ℤ◌, ◌+◌, ◌-◌, ◌*◌, ◌/◌, ◌%◌, ◌<◌, ◌≤◌, ◌⊎◌, inl, inr}
+use Rattle.std.specs.Prelude.{neg_ℤ, int_div}
 use Rattle.std.specs.Int.{◌∣◌}
 use Rattle.std.proofs.lemmas.Int.{ints, by_lt_z}
 use Rattle.std.proofs.Math.Nat.{dvd-sub, dvd-mul_left, le_of_dvd, div-add-mod', mod-lt, eq-zero-or-pos}
@@ -23,47 +23,45 @@ positive_end q n h =
     by_lt_z (pos 0) q.lo
     (λ up. (q.lo, (lo_holds q, up), λ y k. k.0.above))
     (λ le.
-      let s : ℕ = q.step in
-      let some : 0 < s = some_step q (omega (arith, ints, h.below)) in
-      let small : n % s < s = mod-lt n some in
-      let parts : n / s * s + n % s ≡ n = div-add-mod' n s in
-      let (g, far) = gap_is q.lo (pos (suc n)) h.above in
-      let d : s ∣ g = apart_by_step q q.lo (pos (suc n)) g (lo_holds q) h far in
-      let e : s ∣ g - n / s * s = dvd-sub s d (dvd-mul_left s (n / s)) in
-      let holds : Holds q (pos (suc (n % s))) = holds_by_step q q.lo (pos (suc (n % s))) (g - n / s * s) (lo_holds q) (omega (arith, ints)) (omega (arith, ints, h.below)) e in
-      (
-        pos (suc (n % s)),
-        (holds, omega (arith, ints)),
-        λ y k.
-            by_lt_z y (pos (suc (n % s)))
-            (λ less.
-              let (w, apart) = gap_is y (pos (suc (n % s))) (omega (arith, ints)) in
-              let wide : s ≤ w = le_of_dvd (omega (arith, ints)) (apart_by_step q y (pos (suc (n % s))) w k.0 holds apart) in
-              absurd (omega (arith, ints, k.1)))
-            (λ more. more),
-      ))
+    let s : ℕ = q.step in
+    let some : 0 < s = some_step q (omega (arith, ints, h.below)) in
+    let small : n % s < s = mod-lt n some in
+    let parts : n / s * s + n % s ≡ n = div-add-mod' n s in
+    let (g, far) = gap_is q.lo (pos (suc n)) h.above in
+    let d : s ∣ g = apart_by_step q q.lo (pos (suc n)) g (lo_holds q) h far in
+    let e : s ∣ g - n / s * s = dvd-sub s d (dvd-mul_left s (n / s)) in
+    let holds : Holds q (pos (suc (n % s))) = holds_by_step q q.lo (pos (suc (n % s))) (g - n / s * s) (lo_holds q) (omega (arith, ints)) (omega (arith, ints, h.below)) e in (
+      pos (suc (n % s)),
+      (holds, omega (arith, ints)),
+      λ y k.
+          by_lt_z y (pos (suc (n % s)))
+          (λ less.
+          let (w, apart) = gap_is y (pos (suc (n % s))) (omega (arith, ints)) in
+          let wide : s ≤ w = le_of_dvd (omega (arith, ints)) (apart_by_step q y (pos (suc (n % s))) w k.0 holds apart) in
+          absurd (omega (arith, ints, k.1)))
+          (λ more. more),
+    ))
 
 pub negative_end : (q : Num) (n : ℕ) → Holds q (negsuc n) → (d : ℤ) × IsNegativeIn q d × ((y : ℤ) → IsNegativeIn q y → y ≤ℤ d)
 negative_end q n h =
     by_lt_z q.hi (pos 0)
     (λ down. (q.hi, (hi_holds q, down), λ y k. k.0.below))
     (λ le.
-      let s : ℕ = q.step in
-      let some : 0 < s = some_step q (omega (arith, ints, h.above)) in
-      let small : n % s < s = mod-lt n some in
-      let parts : n / s * s + n % s ≡ n = div-add-mod' n s in
-      let holds : Holds q (negsuc (n % s)) = holds_by_step q (negsuc n) (negsuc (n % s)) (n / s * s) h (omega (arith, ints)) (omega (arith, ints)) (dvd-mul_left s (n / s)) in
-      (
-        negsuc (n % s),
-        (holds, omega (arith, ints)),
-        λ y k.
-            by_lt_z (negsuc (n % s)) y
-            (λ less.
-              let (w, apart) = gap_is (negsuc (n % s)) y (omega (arith, ints)) in
-              let wide : s ≤ w = le_of_dvd (omega (arith, ints)) (apart_by_step q (negsuc (n % s)) y w holds k.0 apart) in
-              absurd (omega (arith, ints, k.1)))
-            (λ more. more),
-      ))
+    let s : ℕ = q.step in
+    let some : 0 < s = some_step q (omega (arith, ints, h.above)) in
+    let small : n % s < s = mod-lt n some in
+    let parts : n / s * s + n % s ≡ n = div-add-mod' n s in
+    let holds : Holds q (negsuc (n % s)) = holds_by_step q (negsuc n) (negsuc (n % s)) (n / s * s) h (omega (arith, ints)) (omega (arith, ints)) (dvd-mul_left s (n / s)) in (
+      negsuc (n % s),
+      (holds, omega (arith, ints)),
+      λ y k.
+          by_lt_z (negsuc (n % s)) y
+          (λ less.
+          let (w, apart) = gap_is (negsuc (n % s)) y (omega (arith, ints)) in
+          let wide : s ≤ w = le_of_dvd (omega (arith, ints)) (apart_by_step q (negsuc (n % s)) y w holds k.0 apart) in
+          absurd (omega (arith, ints, k.1)))
+          (λ more. more),
+    ))
 
 -- ---- a quotient moves one way with the dividend, and one way with a divisor of one sign
 neg_order : (m n : ℕ) → m ≤ n → neg_ℤ (pos n) ≤ℤ neg_ℤ (pos m)

@@ -1,5 +1,5 @@
 -- Remainders of members are among the row's numbers, and the row grows with the operands.
-use Rattle.std.proofs.Common.{arith, ◌≡◌, refl, sym, ◌∙◌, ap, subst, ℕ, ℤ, pos, negsuc, suc, zero, ◌+ℤ◌, ◌-ℤ◌, ◌*ℤ◌, ◌≤ℤ◌, ◌<ℤ◌, ◌-◌, ◌%◌, ◌*◌, ◌<◌, ◌≤◌, Bool, true, false}
+use Rattle.std.proofs.Common.{arith, ◌≡◌, refl, sym, ◌∙◌, ap, subst, ℕ, ℤ, pos, negsuc, suc, zero, ◌+ℤ◌, ◌-ℤ◌, ◌*ℤ◌, ◌≤ℤ◌, ◌-◌, ◌<◌, ◌≤◌, Bool, true, false}
 use Rattle.std.specs.Prelude.{unsigned_abs, neg_ℤ, max, ◌==◌, if◌then◌else◌, int_lt, int_div, int_rem}
 use Rattle.std.specs.Int.{◌∣◌, int_min, int_max}
 use Rattle.std.proofs.lemmas.Int.{ints, clamps, by_lt_z, quot-rem, rem_below, unsigned_abs-mul}
@@ -7,7 +7,7 @@ use Rattle.std.proofs.lemmas.Bool.{eqb-true, eqb-false}
 use Rattle.std.proofs.Math.Nat.{mod-le, one-dvd, dvd_trans, dvd_refl, dvd-mul_left}
 use Rattle.lt_value.specs.Num.{Holds, IsBelow}
 use Rattle.lt_value.specs.Entry.{IsIn, IsCongruent, written, rest_of, gcd_of}
-use Rattle.lt_value.specs.Table.{greatest_remainder, remainder_row}
+use Rattle.lt_value.specs.Table.{remainder_row}
 use Rattle.lt_value.specs.declared.num.Num.{Num}
 use Rattle.lt_value.proofs.Orders.{lt_test, lt_fails}
 use Rattle.lt_value.proofs.Members.{lo_holds, hi_holds, step_divides}
@@ -80,16 +80,16 @@ low_end_is : (lo x r : ℤ) (m : ℕ) → lo ≤ℤ x → IsRemainder x r m → 
 low_end_is lo x r m p h =
     by_lt_z lo (pos 0)
     (λ less. rw (lt_test less) (by_lt_z x (pos 0)
-      (λ down. omega (arith, ints, clamps, h.low, h.down_from (omega (arith, ints))))
-      (λ up. omega (arith, ints, clamps, h.low, h.up_from up))))
+    (λ down. omega (arith, ints, clamps, h.low, h.down_from (omega (arith, ints))))
+    (λ up. omega (arith, ints, clamps, h.low, h.up_from up))))
     (λ more. rw (lt_fails more) (h.up_from (omega (arith, ints))))
 
 high_end_is : (hi x r : ℤ) (m : ℕ) → x ≤ℤ hi → IsRemainder x r m → r ≤ℤ high_end hi (pos m)
 high_end_is hi x r m p h =
     by_lt_z (pos 0) hi
     (λ less. rw (lt_test less) (by_lt_z x (pos 0)
-      (λ down. omega (arith, ints, clamps, h.high, h.down_to (omega (arith, ints))))
-      (λ up. omega (arith, ints, clamps, h.high, h.up_to up))))
+    (λ down. omega (arith, ints, clamps, h.high, h.down_to (omega (arith, ints))))
+    (λ up. omega (arith, ints, clamps, h.high, h.up_to up))))
     (λ more. rw (lt_fails more) (h.down_to (omega (arith, ints))))
 
 low_end_falls : (l lo : ℤ) (m k : ℕ) → l ≤ℤ lo → m ≤ k → low_end l (pos k) ≤ℤ low_end lo (pos m)
@@ -97,16 +97,16 @@ low_end_falls l lo m k p q =
     by_lt_z lo (pos 0)
     (λ less. rw (lt_test less, lt_test {a = l} {b = pos 0} (omega (arith, ints))) (omega (arith, ints, clamps)))
     (λ more. by_lt_z l (pos 0)
-      (λ less. rw (lt_fails more, lt_test less) (omega (arith, ints, clamps)))
-      (λ all. rw (lt_fails more, lt_fails all) (omega (arith, ints))))
+    (λ less. rw (lt_fails more, lt_test less) (omega (arith, ints, clamps)))
+    (λ all. rw (lt_fails more, lt_fails all) (omega (arith, ints))))
 
 high_end_grows : (hi h : ℤ) (m k : ℕ) → hi ≤ℤ h → m ≤ k → high_end hi (pos m) ≤ℤ high_end h (pos k)
 high_end_grows hi h m k p q =
     by_lt_z (pos 0) hi
     (λ less. rw (lt_test less, lt_test {a = pos 0} {b = h} (omega (arith, ints))) (omega (arith, ints, clamps)))
     (λ more. by_lt_z (pos 0) h
-      (λ less. rw (lt_fails more, lt_test less) (omega (arith, ints, clamps)))
-      (λ all. rw (lt_fails more, lt_fails all) (omega (arith, ints))))
+    (λ less. rw (lt_fails more, lt_test less) (omega (arith, ints, clamps)))
+    (λ all. rw (lt_fails more, lt_fails all) (omega (arith, ints))))
 
 -- a remainder is congruent to the dividend modulo the size of the divisor
 remainder_congruent : (x y : ℤ) → IsCongruent (unsigned_abs y) (int_rem x y) x

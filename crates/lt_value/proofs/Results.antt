@@ -1,6 +1,6 @@
 -- What an operator gives on members is in the table, and the table's sets grow with the operands.
-use Rattle.std.proofs.Common.{arith, ◌≡◌, refl, sym, ◌∙◌, ap, subst, ℕ, ℤ, pos, negsuc, suc, zero, ◌*ℤ◌, ◌+ℤ◌, ◌-ℤ◌, ◌≤ℤ◌, ◌^◌, Bool, true, false}
-use Rattle.std.specs.Prelude.{Result, Ok, Err, if◌then◌else◌, unsigned_abs, int_lt, int_div, int_rem, bit_and, bit_or, bit_xor, IfOk}
+use Rattle.std.proofs.Common.{◌≡◌, sym, subst, ℤ, pos, negsuc, suc, zero, ◌*ℤ◌, ◌+ℤ◌, ◌-ℤ◌, Bool, true, false}
+use Rattle.std.specs.Prelude.{Ok, Err, if◌then◌else◌, unsigned_abs, int_lt, int_div, int_rem, bit_and, bit_or, bit_xor}
 use Rattle.std.specs.Int.{int_shr}
 use Rattle.std.proofs.lemmas.Nat.{or_lt, xor_lt}
 use Rattle.lt_model.specs.declared.scalar.DataModel.{DataModel}
@@ -8,9 +8,9 @@ use Rattle.lt_model.specs.declared.scalar.Scalar.{Scalar}
 use Rattle.lt_model.specs.declared.operator.Op.{Op}
 use Rattle.lt_model.specs.declared.operator.Op.TheVariants as O
 use Rattle.lt_model.specs.declared.operator.Ub.{Ub}
-use Rattle.lt_model.specs.declared.operator.Ub.TheVariants.{Overflow, ZeroDivisor, Quotient, Shift}
+use Rattle.lt_model.specs.declared.operator.Ub.TheVariants.{Overflow, Quotient, Shift}
 use Rattle.lt_model.specs.Scalar.{is_signed, wrapped, IsValue}
-use Rattle.lt_model.specs.Operators.{is_value, is_count, exact_or, shifted_left, after_division, bitwise, value_of}
+use Rattle.lt_model.specs.Operators.{is_value, is_count, exact_or, after_division, bitwise, value_of}
 use Rattle.lt_model.proofs.Results.{value_of_fits}
 use Rattle.lt_value.specs.Num.{Holds, IsBelow}
 use Rattle.lt_value.specs.Entry.{Entry, IsIn, IsSettled, written}
@@ -24,7 +24,7 @@ use Rattle.lt_value.proofs.Products.{product_holds, product_wider}
 use Rattle.lt_value.proofs.Quotients.{quotient_holds, quotients_wider}
 use Rattle.lt_value.proofs.Remainders.{remainder_holds, remainder_wider}
 use Rattle.lt_value.proofs.Shifts.{left_shift_holds, left_shift_wider, right_shift_holds, right_shift_wider}
-use Rattle.lt_value.proofs.Bits.{AreValues, and_holds, and_wider, or_holds, or_wider}
+use Rattle.lt_value.proofs.Bits.{and_holds, and_wider, or_holds, or_wider}
 
 -- what a defined value says
 divided : (m : DataModel) (s : Scalar) (x y z v : ℤ) → after_division m s x y z ≡ Ok v → v ≡ z

@@ -11,8 +11,8 @@ use Rattle.lt_model.specs.declared.operator.Ub.{Ub}
 use Rattle.lt_model.specs.Scalar.{width_of, is_signed, least_of, greatest_of, wrapped, IsValue}
 use Rattle.lt_model.specs.Operators.{is_value, exact_or}
 use Rattle.lt_model.proofs.Ranges.{Bounds, bounds_of, IsValue-wrapped, residue_below}
-use Rattle.lt_model.proofs.Values.{between_from_test, test_from_between}
-use Rattle.lt_value.specs.Entry.{Entry, entry_of, IsIn, IsCongruent, IsSettled, is_within, gcd_of}
+use Rattle.lt_model.proofs.Values.{between_from_test}
+use Rattle.lt_value.specs.Entry.{Entry, IsIn, IsCongruent, IsSettled, is_within, gcd_of}
 use Rattle.lt_value.proofs.Entries.{IsGcd-gcd_of, gcd_divides, congruent_by, congruent_from_rests, IsCongruent-trans, IsCongruent-sym, IsCongruent-same}
 
 -- each number of e is one of f
@@ -135,8 +135,7 @@ settled_given kind m s e z v h g = by_tests (is_signed s) (is_within m s e) refl
 
     reduced : v ≡ wrapped m s z → IsCongruent (gcd_of e.step n) e.rest v × IsValue m s v
     reduced is =
-        let g : IsGcd e.step n (gcd_of e.step n) = IsGcd-gcd_of e.step n in
-        (
+        let g : IsGcd e.step n (gcd_of e.step n) = IsGcd-gcd_of e.step n in (
           subst (IsCongruent (gcd_of e.step n) e.rest) (sym is) (IsCongruent-trans (gcd_of e.step n) e.rest z (wrapped m s z) (dvd_trans (gcd_of e.step n) g.0 h.congruent) (dvd_trans (gcd_of e.step n) g.1 (wrapped_congruent m s z))),
           subst (IsValue m s) (sym is) (IsValue-wrapped m s z),
         )

@@ -1,5 +1,5 @@
 -- The least `Num` of an entry, and of what is left of one in a type.
-use Rattle.std.proofs.Common.{arith, ◌≡◌, refl, sym, ◌∙◌, ap, subst, ℕ, ℤ, pos, negsuc, suc, zero, ◌+ℤ◌, ◌-ℤ◌, ◌≤ℤ◌, ◌<ℤ◌, ◌+◌, ◌-◌, ◌%◌, ◌<◌, ◌≤◌, ◌⊎◌, inl, inr, ◌^◌, ◌↔◌, Bool, true, false, ◌||◌, ◌*◌, to_z, of_z}
+use Rattle.std.proofs.Common.{arith, ◌≡◌, refl, sym, ◌∙◌, ap, subst, ℕ, ℤ, pos, negsuc, ◌+ℤ◌, ◌-ℤ◌, ◌≤ℤ◌, ◌<ℤ◌, ◌-◌, ◌%◌, ◌<◌, ◌≤◌, ◌⊎◌, inl, inr, ◌^◌, ◌↔◌, Bool, true, false, ◌||◌, ◌*◌, to_z, of_z}
 use Rattle.std.specs.Prelude.{unsigned_abs, neg_ℤ, Option, IfSome, IfNone}
 use Rattle.std.specs.Int.{◌∣◌, int_rem_euclid, int_min, int_max, IsGcd, IsNonNegative, w128}
 use Rattle.std.specs.Bool.{MatchBool}
@@ -8,7 +8,7 @@ use Rattle.std.proofs.lemmas.Int.{ints, clamps, by_lt_z, to_z_pos, to_z-of_z}
 use Rattle.std.proofs.Math.Nat.{dvd-zero, dvd_trans, le_of_dvd, eq-zero-or-pos, eq-zero_of_zero-dvd, mod-eq_of_lt, mod-lt}
 use Rattle.lt_model.specs.declared.scalar.DataModel.{DataModel}
 use Rattle.lt_model.specs.declared.scalar.Scalar.{Scalar}
-use Rattle.lt_model.specs.Scalar.{width_of, is_signed, least_of, greatest_of, IsValue}
+use Rattle.lt_model.specs.Scalar.{width_of, is_signed, least_of, greatest_of}
 use Rattle.lt_model.proofs.Ranges.{Bounds, bounds_of}
 use Rattle.lt_value.specs.Num.{Holds, IsExactly, IsEmpty, IsRun}
 use Rattle.lt_value.specs.Entry.{Entry, entry_of, IsIn, IsCongruent, IsSkip, IsKept, IsReduced, IsSettled, is_within, gcd_of}
@@ -61,10 +61,10 @@ first_least : (lo z rest : ℤ) (step skip : ℕ) → IsSkip lo step rest skip �
 first_least lo z rest step skip s above c =
     by_lt_z z (lo +ℤ pos skip)
     (λ less.
-      let first : ℤ = lo +ℤ pos skip in
-      let d : step ∣ unsigned_abs (first -ℤ z) = IsCongruent-trans step z rest first (IsCongruent-sym step rest z c) s.congruent in
-      let is : pos (unsigned_abs (first -ℤ z)) ≡ first -ℤ z = abs_up (first -ℤ z) (omega (arith, ints)) in
-      absurd (omega (arith, ints, le_of_dvd (omega (arith, ints)) d, s.below)))
+    let first : ℤ = lo +ℤ pos skip in
+    let d : step ∣ unsigned_abs (first -ℤ z) = IsCongruent-trans step z rest first (IsCongruent-sym step rest z c) s.congruent in
+    let is : pos (unsigned_abs (first -ℤ z)) ≡ first -ℤ z = abs_up (first -ℤ z) (omega (arith, ints)) in
+    absurd (omega (arith, ints, le_of_dvd (omega (arith, ints)) d, s.below)))
     (λ more. more)
 
 pub from_first : (n : Num) (lo hi rest first : ℤ) (step skip : ℕ) → first ≡ lo +ℤ pos skip → IsSkip lo step rest skip → IsExactly (IsIn (entry_of first hi step first)) n → IsExactly (IsIn (entry_of lo hi step rest)) n

@@ -1,5 +1,5 @@
 -- Shifted members are among the rows' numbers, and the rows grow with the operands.
-use Rattle.std.proofs.Common.{arith, ◌≡◌, refl, sym, ◌∙◌, ap, subst, ℕ, ℤ, pos, negsuc, suc, zero, ◌*ℤ◌, ◌-ℤ◌, ◌≤ℤ◌, ◌*◌, ◌+◌, ◌/◌, ◌^◌, ◌<◌, ◌≤◌, inl, inr, Bool, true, false}
+use Rattle.std.proofs.Common.{arith, ◌≡◌, refl, sym, subst, ℕ, ℤ, pos, negsuc, ◌*ℤ◌, ◌≤ℤ◌, ◌*◌, ◌/◌, ◌^◌, ◌<◌, ◌≤◌, inl, inr, Bool, true, false}
 use Rattle.std.specs.Prelude.{unsigned_abs, ◌==◌, if◌then◌else◌}
 use Rattle.std.specs.Int.{◌∣◌, int_shr}
 use Rattle.std.proofs.lemmas.Int.{ints}

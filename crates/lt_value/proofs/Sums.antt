@@ -1,6 +1,5 @@
 -- Sums and differences of members are among the row's numbers, and the rows grow with the operands.
-use Rattle.std.proofs.Common.{arith, ℕ, ℤ, ◌+ℤ◌, ◌-ℤ◌, ◌≤ℤ◌}
-use Rattle.std.specs.Int.{◌∣◌, IsGcd}
+use Rattle.std.proofs.Common.{arith, ℤ, ◌+ℤ◌, ◌-ℤ◌}
 use Rattle.std.proofs.lemmas.Int.{ints}
 use Rattle.std.proofs.Math.Nat.{dvd_trans}
 use Rattle.lt_value.specs.Num.{Holds, IsBelow}

@@ -1,5 +1,5 @@
 -- The operands are the only ones, so that the table's numbers of them are what the operator gives.
-use Rattle.std.proofs.Common.{arith, ◌≡◌, refl, sym, ◌∙◌, ap, subst, ℕ, ℤ, pos, negsuc, suc, zero, ◌≤ℤ◌, ◌<ℤ◌, ◌≢◌, ◌⊎◌, inl, inr, ◌↔◌, ◌*ℤ◌, Bool, true, false, ◌&&◌}
+use Rattle.std.proofs.Common.{arith, ◌≡◌, refl, sym, subst, ℤ, pos, ◌≤ℤ◌, ◌<ℤ◌, ◌≢◌, ◌⊎◌, inl, inr, ◌*ℤ◌, Bool, true, false, ◌&&◌}
 use Rattle.std.specs.Prelude.{Option, Some, None, IfSome, IfNone, Result, Ok, Err, if◌then◌else◌, int_lt, int_le}
 use Rattle.std.proofs.lemmas.Int.{ints}
 use Rattle.lt_model.specs.declared.scalar.DataModel.{DataModel}
@@ -7,10 +7,10 @@ use Rattle.lt_model.specs.declared.scalar.Scalar.{Scalar}
 use Rattle.lt_model.specs.declared.operator.Op.{Op}
 use Rattle.lt_model.specs.declared.operator.Op.TheVariants as O
 use Rattle.lt_model.specs.declared.operator.Ub.{Ub}
-use Rattle.lt_model.specs.declared.operator.Ub.TheVariants.{ZeroDivisor, Shift}
+use Rattle.lt_model.specs.declared.operator.Ub.TheVariants.{Shift}
 use Rattle.lt_model.specs.Scalar.{width_of, is_signed, wrapped, IsValue}
 use Rattle.lt_model.specs.Operators.{value_of, exact_or, is_count, IsRightOperand, IsShift}
-use Rattle.lt_value.specs.Num.{Holds, IsBelow, IsLeast, IsExactly, IsEmpty}
+use Rattle.lt_value.specs.Num.{Holds, IsBelow, IsExactly, IsEmpty}
 use Rattle.lt_value.specs.Table.{IsResult, IsAnswer, power}
 use Rattle.lt_value.specs.Forward.{TakesLeft, TakesRight, IsCount, IsTakenFrom, IsOperand, IsLeftTaken, IsRightTaken, AreTaken, IsForward}
 use Rattle.lt_value.specs.declared.num.Num.{Num}

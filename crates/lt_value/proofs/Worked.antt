@@ -1,5 +1,5 @@
 -- Rows of the table, computed.
-use Rattle.std.proofs.Common.{◌≡◌, refl, ℤ, pos, negsuc, ◌-◌, ◌^◌}
+use Rattle.std.proofs.Common.{◌≡◌, refl, pos, negsuc, ◌-◌, ◌^◌}
 use lib.Count.{count_leading_zeros}
 use Rattle.lt_value.specs.Entry.{entry_of, gcd_of}
 use Rattle.lt_value.specs.Table.{sum_row, difference_row, product_row, remainder_row, left_shift_row, right_shift_row, mask_of}

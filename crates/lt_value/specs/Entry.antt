@@ -1,5 +1,5 @@
 -- What a row of the table of operators gives: ends, step and rest, and what is left of them in a type.
-use Rattle.std.specs.Prelude.{◌≡◌, ℕ, zero, suc, ℤ, pos, ◌+ℤ◌, ◌-ℤ◌, ◌≤ℤ◌, ◌<◌, ◌^◌, ◌%◌, ◌==◌, Bool, ◌&&◌, ◌||◌, if◌then◌else◌, unsigned_abs, int_le}
+use Rattle.std.specs.Prelude.{ℕ, zero, suc, ℤ, pos, ◌+ℤ◌, ◌-ℤ◌, ◌≤ℤ◌, ◌<◌, ◌^◌, ◌%◌, ◌==◌, Bool, ◌&&◌, ◌||◌, if◌then◌else◌, unsigned_abs, int_le}
 use Rattle.std.specs.Int.{◌∣◌}
 use Rattle.std.specs.Bool.{MatchBool}
 use Rattle.lt_model.specs.declared.scalar.DataModel.{DataModel}

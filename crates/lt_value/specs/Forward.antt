@@ -1,10 +1,10 @@
 -- What an operator gives on two `Num`s: which of their members it takes, and the table's numbers of these.
-use Rattle.std.specs.Prelude.{◌≡◌, ℤ, pos, ◌≤ℤ◌, ◌<ℤ◌, ◌≢◌}
+use Rattle.std.specs.Prelude.{ℤ, pos, ◌≤ℤ◌, ◌<ℤ◌, ◌≢◌}
 use Rattle.lt_model.specs.declared.operator.Op.{Op}
 use Rattle.lt_model.specs.declared.operator.Op.TheVariants as O
 use Rattle.lt_model.specs.declared.scalar.DataModel.{DataModel}
 use Rattle.lt_model.specs.declared.scalar.Scalar.{Scalar}
-use Rattle.lt_model.specs.Scalar.{width_of, is_signed, IsValue}
+use Rattle.lt_model.specs.Scalar.{width_of, IsValue}
 use Rattle.lt_value.specs.declared.num.Num.{Num}
 use Rattle.lt_value.specs.Num.{Holds, IsLeast}
 use Rattle.lt_value.specs.Table.{IsResult}

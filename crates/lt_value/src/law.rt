@@ -35,7 +35,15 @@ pub fn forward_sound_law(model: DataModel, op: Op, ty: Scalar, a: &Num, b: &Num)
 }
 
 /// A law: greater sets give greater ones. It has no effect, as the one before.
-pub fn forward_monotone_law(model: DataModel, op: Op, ty: Scalar, a: &Num, b: &Num, c: &Num, d: &Num)
+pub fn forward_monotone_law(
+    model: DataModel,
+    op: Op,
+    ty: Scalar,
+    a: &Num,
+    b: &Num,
+    c: &Num,
+    d: &Num,
+)
     requires left { IsBelow a.now c.now }
     requires right { IsBelow b.now d.now }
     ensures { (z : ℤ) → IsForward model op ty a.now b.now z → IsForward model op ty c.now d.now z }

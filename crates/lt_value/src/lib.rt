@@ -15,6 +15,8 @@ mod rows;
 mod tables;
 #[cfg(test)]
 mod tests;
+#[cfg(test)]
+mod worked;
 
 pub use lattice::{join, meet};
 pub use law::{forward_monotone_law, forward_sound_law, one_form_law, relation_law};

@@ -1,6 +1,4 @@
-use Rattle.std.proofs.Common.{arith, ◌^◌, sym, subst, ◌≤◌, ℕ}
 use Rattle.lt_model.proofs.Ranges.{product_fits, product_as_code}
-use Rattle.std.proofs.lemmas.Int.{unsigned_abs-mul}
 use Rattle.lt_value.proofs.Made.{product_size}
 use Rattle.lt_value.proofs.operators.arithmetic.product.Goals as goal
 

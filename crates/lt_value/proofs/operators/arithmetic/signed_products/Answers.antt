@@ -1,9 +1,7 @@
-use Rattle.std.proofs.Common.{arith, ◌^◌, ◌≤◌}
-use Rattle.std.specs.Prelude.{unsigned_abs}
 use Rattle.lt_model.proofs.Ranges.{signed_abs}
 use Rattle.lt_value.specs.Entry.{written}
 use Rattle.lt_value.specs.Table.{product, product_row}
-use Rattle.lt_value.proofs.Made.{IsMade, AreFour, made_some, made_none, product_made, product_step_small, step_narrow, value_size, small_fits, least_span, greatest_span, least_small, same_size}
+use Rattle.lt_value.proofs.Made.{AreFour, made_some, made_none, product_made, product_step_small, step_narrow, value_size, small_fits, least_span, greatest_span, least_small, same_size}
 use Rattle.lt_value.proofs.operators.arithmetic.signed_products.Goals as goal
 
 pub product_step-requires-clause-left_step : goal.product_step-requires-clause-left_step

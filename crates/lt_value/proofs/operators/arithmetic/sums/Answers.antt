@@ -2,7 +2,7 @@ use Rattle.std.proofs.Common.{arith, ◌^◌}
 use Rattle.lt_value.specs.Entry.{written}
 use Rattle.lt_value.specs.Table.{sum_row}
 use Rattle.lt_value.proofs.Members.{step_fits}
-use Rattle.lt_value.proofs.Made.{IsMade, made_some, made_none, gcd_below, sum_made, sum_code, lo_most, hi_least}
+use Rattle.lt_value.proofs.Made.{made_some, made_none, gcd_below, sum_made, sum_code, lo_most, hi_least}
 use Rattle.lt_value.proofs.operators.arithmetic.sums.Goals as goal
 
 pub settle-requires-clause-step : goal.settle-requires-clause-step

@@ -1,5 +1,5 @@
 use Rattle.lt_value.specs.Entry.{written}
-use Rattle.lt_value.specs.Table.{product, product_row}
+use Rattle.lt_value.specs.Table.{product_row}
 use Rattle.std.proofs.Common.{pos, ◌*◌}
 use Rattle.lt_value.proofs.Made.{IsMade, natural, natural_made, sizes_order, lo_size, hi_size, made_some, made_none, step_narrow}
 use Rattle.lt_value.proofs.operators.arithmetic.unsigned_products.Goals as goal

@@ -1,5 +1,4 @@
 use Rattle.std.specs.Int.{w128}
-use mir.Val.{SFits}
 use Rattle.std.proofs.lemmas.Int.{to_z-of_z}
 use Rattle.lt_value.proofs.MadeBits.{exact_is, value_fits}
 use Rattle.lt_value.proofs.operators.bits.exact.Goals as goal

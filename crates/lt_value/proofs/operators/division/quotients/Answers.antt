@@ -1,10 +1,8 @@
-use Rattle.std.proofs.Common.{rules, arith, sym, ◌∙◌, subst, ◌≡◌, ℤ, pos}
-use Rattle.std.specs.Int.{int_max, int_min, w128}
+use Rattle.std.proofs.Common.{rules, arith, ◌∙◌}
+use Rattle.std.specs.Int.{w128}
 use mir.Val.{SFits}
 use Rattle.std.proofs.lemmas.Int.{ints, clamps, to_z-of_z}
-use Rattle.lt_model.specs.Scalar.{least_of, greatest_of}
 use Rattle.lt_model.proofs.Ranges.{bounds_of}
-use Rattle.lt_value.specs.Entry.{entry_of, IsIn}
 use Rattle.lt_value.proofs.Cuts.{if_none_of}
 use Rattle.lt_value.proofs.Settling.{low_code, high_code}
 use Rattle.lt_value.proofs.MadeQuotients.{quotients_some, quotients_none, no_quotients}

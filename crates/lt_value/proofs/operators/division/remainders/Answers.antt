@@ -1,6 +1,5 @@
-use Rattle.std.proofs.Common.{arith, ◌^◌, ap}
-use Rattle.std.specs.Prelude.{unsigned_abs}
-use Rattle.std.specs.Int.{w128, IsGcd}
+use Rattle.std.proofs.Common.{arith, ◌^◌}
+use Rattle.std.specs.Int.{w128}
 use Rattle.std.proofs.lemmas.Int.{to_z-of_z}
 use Rattle.lt_value.specs.Entry.{written}
 use Rattle.lt_value.specs.Table.{greatest_remainder, low_remainder, high_remainder}

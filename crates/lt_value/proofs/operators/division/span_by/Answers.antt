@@ -1,6 +1,4 @@
 use Rattle.std.specs.Prelude.{int_div}
-use Rattle.std.specs.Int.{w128}
-use Rattle.std.proofs.lemmas.Int.{to_z-of_z}
 use Rattle.lt_value.proofs.Made.{least_is, greatest_is}
 use Rattle.lt_value.proofs.operators.division.span_by.Goals as goal
 

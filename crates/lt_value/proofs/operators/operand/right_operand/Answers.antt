@@ -1,4 +1,4 @@
-use Rattle.lt_value.proofs.Operands.{right_by_values, none_right_by_values, right_by_counts, none_right_by_counts, right_by_divisors, none_right_by_divisors}
+use Rattle.lt_value.proofs.Operands.{right_by_values, none_right_by_values, right_by_counts, right_by_divisors, none_right_by_divisors}
 use Rattle.lt_value.proofs.operators.operand.right_operand.Goals as goal
 
 pub returns-in-Div-clause-some : goal.returns-in-Div-clause-some

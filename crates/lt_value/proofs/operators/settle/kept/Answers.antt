@@ -1,7 +1,6 @@
-use Rattle.lt_value.specs.Entry.{entry_of, IsIn, IsKept}
+use Rattle.lt_value.specs.Entry.{entry_of, IsIn}
 use Rattle.lt_value.specs.Num.{IsExactly, IsEmpty}
 use Rattle.std.proofs.Common.{◌≡◌}
-use Rattle.std.specs.Prelude.{IfSome, IfNone}
 use Rattle.lt_model.specs.Scalar.{least_of, greatest_of}
 use Rattle.std.specs.Int.{int_max, int_min}
 use Rattle.std.specs.Int.{w128}

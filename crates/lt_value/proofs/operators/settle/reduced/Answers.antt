@@ -1,8 +1,6 @@
-use Rattle.std.proofs.Common.{arith, ◌≡◌, ◌^◌}
+use Rattle.std.proofs.Common.{◌^◌}
 use Rattle.std.specs.Int.{IsGcd}
-use Rattle.lt_model.specs.Scalar.{width_of, least_of, greatest_of}
-use Rattle.lt_value.specs.Entry.{entry_of, IsIn, IsReduced}
-use Rattle.lt_value.specs.Num.{IsExactly, IsEmpty}
+use Rattle.lt_model.specs.Scalar.{width_of}
 use Rattle.std.specs.Int.{w128}
 use mir.Val.{SFits}
 use Rattle.std.proofs.lemmas.Int.{to_z-of_z}

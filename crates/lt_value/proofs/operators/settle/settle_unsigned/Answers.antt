@@ -1,5 +1,5 @@
 use Rattle.std.proofs.Common.{pos, refl}
-use Rattle.lt_value.specs.Entry.{entry_of, IsSettled, IsReduced}
+use Rattle.lt_value.specs.Entry.{entry_of, IsSettled}
 use Rattle.lt_value.proofs.Operands.{greatest_code}
 use Rattle.lt_value.proofs.Settling.{some_as, none_as, fit_settled, unfit_settled, passed_code, fit_code}
 use Rattle.lt_value.proofs.operators.settle.settle_unsigned.Goals as goal

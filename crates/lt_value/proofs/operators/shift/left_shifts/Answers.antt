@@ -1,10 +1,10 @@
-use Rattle.std.proofs.Common.{arith, refl, pos, ◌*◌, ◌≤◌, ◌^◌}
+use Rattle.std.proofs.Common.{arith, refl, ◌*◌, ◌≤◌, ◌^◌}
 use Rattle.lt_model.proofs.Ranges.{signed_abs}
 use Rattle.std.proofs.Common.{sym, ◌∙◌}
 use Rattle.lt_value.specs.Entry.{written}
 use Rattle.lt_value.specs.Table.{left_shift_row}
-use Rattle.lt_value.proofs.Made.{IsMade, made_some, made_none, step_narrow, lo_size, hi_size}
-use Rattle.lt_value.proofs.MadeShifts.{low_power, high_power, left_made, left_order, left_small, as_signed, signed_fits, signed_size, lo_count, hi_count}
+use Rattle.lt_value.proofs.Made.{made_some, made_none, step_narrow, lo_size, hi_size}
+use Rattle.lt_value.proofs.MadeShifts.{low_power, high_power, left_made, left_order, left_small, as_signed, signed_fits, signed_size}
 use Rattle.lt_value.proofs.operators.shift.left_shifts.Goals as goal
 
 pub left_step-step-requires-clause-step : goal.left_step-step-requires-clause-step

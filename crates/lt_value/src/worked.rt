@@ -1,0 +1,157 @@
+// Worked by hand: the ends of the widest types, nothing left, and what wraps. Each row has an operator, a type, two sets, each
+// the least that holds three numbers, and what is wanted.
+use crate::tables::{Parts, Seed};
+use lt_model::{Op, Scalar};
+
+pub(crate) type Row = (Op, Scalar, Seed, Seed, Option<Parts>);
+
+pub(crate) const WORKED: [Row; 24] = [
+    (
+        Op::Add,
+        Scalar::Int,
+        (0, 2, 10),
+        (3, 3, 3),
+        Some((3, 13, 2, 1)),
+    ),
+    (
+        Op::Mul,
+        Scalar::Int,
+        (-2147483648, -2147483647, 2147483647),
+        (2, 2, 2),
+        Some((-2147483648, 2147483646, 2, 0)),
+    ),
+    (
+        Op::Rem,
+        Scalar::Int,
+        (3, 13, 93),
+        (5, 5, 5),
+        Some((3, 3, 0, 0)),
+    ),
+    (Op::Div, Scalar::Int, (-7, -6, 100), (0, 0, 0), None),
+    (Op::Rem, Scalar::UInt, (0, 1, 100), (0, 0, 0), None),
+    (
+        Op::Div,
+        Scalar::Int,
+        (-2147483648, -2147483648, -2147483648),
+        (-1, -1, -1),
+        None,
+    ),
+    (
+        Op::Div,
+        Scalar::Int,
+        (-2147483648, -2147483647, 2147483647),
+        (-1, 0, 1),
+        Some((-2147483648, 2147483647, 1, 0)),
+    ),
+    (
+        Op::Add,
+        Scalar::Int,
+        (2147483647, 2147483647, 2147483647),
+        (1, 1, 1),
+        None,
+    ),
+    (
+        Op::Add,
+        Scalar::UInt,
+        (4294967295, 4294967295, 4294967295),
+        (1, 1, 1),
+        Some((0, 0, 0, 0)),
+    ),
+    (
+        Op::Sub,
+        Scalar::UInt,
+        (0, 3, 9),
+        (6, 6, 6),
+        Some((0, 4294967295, 1, 0)),
+    ),
+    (
+        Op::Sub,
+        Scalar::UInt,
+        (0, 4, 8),
+        (6, 6, 6),
+        Some((2, 4294967294, 4, 2)),
+    ),
+    (
+        Op::Mul,
+        Scalar::ULLong,
+        (0xffffffffffffffff, 0xffffffffffffffff, 0xffffffffffffffff),
+        (0xffffffffffffffff, 0xffffffffffffffff, 0xffffffffffffffff),
+        Some((1, 1, 0, 0)),
+    ),
+    (
+        Op::Mul,
+        Scalar::ULLong,
+        (0, 1, 0xffffffffffffffff),
+        (0xffffffffffffffff, 0xffffffffffffffff, 0xffffffffffffffff),
+        Some((0, 0xffffffffffffffff, 1, 0)),
+    ),
+    (
+        Op::Mul,
+        Scalar::ULLong,
+        (0, 4294967296, 8589934592),
+        (4294967296, 4294967296, 4294967296),
+        Some((0, 0, 0, 0)),
+    ),
+    (
+        Op::Mul,
+        Scalar::LLong,
+        (-0x8000000000000000, -0x7fffffffffffffff, 0x7fffffffffffffff),
+        (
+            -0x8000000000000000,
+            -0x8000000000000000,
+            -0x8000000000000000,
+        ),
+        Some((-0x8000000000000000, 0, 0x8000000000000000, 0)),
+    ),
+    (
+        Op::Shl,
+        Scalar::ULLong,
+        (0xffffffffffffffff, 0xffffffffffffffff, 0xffffffffffffffff),
+        (63, 63, 63),
+        Some((0x8000000000000000, 0x8000000000000000, 0, 0)),
+    ),
+    (Op::Shl, Scalar::Int, (-5, -5, -5), (1, 1, 1), None),
+    (
+        Op::Shl,
+        Scalar::Int,
+        (-8, -4, 12),
+        (2, 2, 2),
+        Some((0, 48, 16, 0)),
+    ),
+    (Op::Shl, Scalar::Int, (1, 1, 1), (32, 32, 32), None),
+    (
+        Op::Shr,
+        Scalar::Int,
+        (-9, -8, 20),
+        (1, 2, 3),
+        Some((-5, 10, 1, 0)),
+    ),
+    (
+        Op::And,
+        Scalar::Int,
+        (-9, -8, 20),
+        (0, 1, 7),
+        Some((0, 7, 1, 0)),
+    ),
+    (
+        Op::Or,
+        Scalar::Int,
+        (0, 1, 9),
+        (0, 1, 4),
+        Some((0, 15, 1, 0)),
+    ),
+    (
+        Op::Xor,
+        Scalar::Int,
+        (-1, -1, -1),
+        (5, 5, 5),
+        Some((-6, -6, 0, 0)),
+    ),
+    (
+        Op::And,
+        Scalar::Bool,
+        (0, 1, 1),
+        (0, 1, 1),
+        Some((0, 1, 1, 0)),
+    ),
+];
