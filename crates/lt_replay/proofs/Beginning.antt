@@ -8,7 +8,7 @@ use Rattle.std.proofs.lemmas.List.Elements.{All-head, All-tail, All-weaker}
 use Rattle.lt_model.specs.Memory.{Memory}
 use Rattle.lt_model.specs.State.{At, Bound, Answer}
 use Rattle.lt_model.specs.declared.cell.Content.TheVariants as content
-use Rattle.lt_tree.specs.Tree.{Label, Program, labels_in, names_in}
+use Rattle.lt_tree.specs.SmallTree.{Label, Program, labels_in, names_in}
 use Rattle.lt_tree.specs.SmallMeaning as M
 use Rattle.lt_tree.specs.SmallMeaning.{object_of, with_params, with_locals, run, has_true, over}
 use Rattle.lt_replay.specs.declared.code.Code.{Code}

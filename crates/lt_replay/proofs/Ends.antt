@@ -7,7 +7,7 @@ use Rattle.lt_model.specs.declared.scalar.DataModel.TheVariants.{Lp64}
 use Rattle.lt_model.specs.declared.cell.Content.TheVariants as content
 use Rattle.lt_model.specs.Memory.{Memory, store}
 use Rattle.lt_model.specs.State.{At, Answer, Gives, Ends, bind}
-use Rattle.lt_tree.specs.Tree.{Test, Statement, Compound, Assigns, If, IfElse, While, Return, Items, no_items, a_statement, a_mark, Program}
+use Rattle.lt_tree.specs.SmallTree.{Test, Statement, Compound, Assigns, If, IfElse, While, Return, Items, no_items, a_statement, a_mark, Program}
 use Rattle.lt_tree.specs.SmallMeaning.{Flow, Next, Returns, after, answered, spent, tested, choose, stored, turns, exec, exec_items, over, run, marked, marked_all, value, object_of, int}
 
 -- an end of a small function

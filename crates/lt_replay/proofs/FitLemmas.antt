@@ -3,7 +3,7 @@ use Rattle.std.proofs.Common.{◌≡◌, ℕ, Bool, true, false, List, [], ◌�
 use Rattle.std.specs.Prelude.{◌&&◌, All, Contains}
 use Rattle.std.specs.List.{flat_map}
 use Rattle.std.proofs.lemmas.List.Elements.{All-head, All-tail, All-cons, All-nil, All-weaker}
-use Rattle.lt_tree.specs.Tree.{Tree, Named, Number, Unary as unary, Binary as binary, Label, Test, Statement, Compound, Assigns, If as if_only, IfElse, While as while_loop, Return as return_of, Items, no_items, a_statement, a_mark, Program, names_in_tree, names_in_test, names_in_statement, names_in}
+use Rattle.lt_tree.specs.SmallTree.{Tree, Named, Number, Unary as unary, Binary as binary, Label, Test, Statement, Compound, Assigns, If as if_only, IfElse, While as while_loop, Return as return_of, Items, no_items, a_statement, a_mark, Program, names_in_tree, names_in_test, names_in_statement, names_in}
 use Rattle.lt_tree.specs.declared.stop.Stop.{Stop}
 use Rattle.lt_tree.specs.declared.stop.Stop.TheVariants.{NotOfForm, NoMemory}
 use Rattle.lt_replay.specs.Form.{variables, NamesFit, IdsFit}

@@ -3,13 +3,13 @@ use Rattle.std.proofs.Common.{◌≡◌, ℕ, suc, ◌+◌, Bool, true, List, []
 use Rattle.std.specs.Prelude.{◌&&◌}
 use Rattle.std.specs.Global.{Vec}
 use Rattle.std.proofs.lemmas.List.{length-map, map-append}
-use Rattle.lt_tree.specs.declared.statement.Item.{Item}
-use Rattle.lt_tree.specs.declared.statement.Item as item
-use Rattle.lt_tree.specs.declared.statement.Stmt.{Stmt}
-use Rattle.lt_tree.specs.declared.statement.Stmt as stmt
-use Rattle.lt_tree.specs.declared.statement.Stmt.TheVariants as variant
+use Rattle.lt_tree.specs.declared.small.statement.Item.{Item}
+use Rattle.lt_tree.specs.declared.small.statement.Item as item
+use Rattle.lt_tree.specs.declared.small.statement.Stmt.{Stmt}
+use Rattle.lt_tree.specs.declared.small.statement.Stmt as stmt
+use Rattle.lt_tree.specs.declared.small.statement.Stmt.TheVariants as variant
 use mathlib.Core.Former.{Count}
-use Rattle.lt_tree.specs.Tree.{Label, Statement, Items, Compound, Test, If as if_only, IfElse, a_statement, a_mark, labels_in_statement, statement_of, items_of, items_in, label_of}
+use Rattle.lt_tree.specs.SmallTree.{Label, Statement, Items, Compound, Test, If as if_only, IfElse, a_statement, a_mark, labels_in_statement, statement_of, items_of, items_in, label_of}
 use Rattle.lt_replay.specs.declared.code.Command.{Command}
 use Rattle.lt_replay.specs.Code.{Check, Step, Steps, Block, If, Mark, end, then_steps, step_of, steps_in}
 use Rattle.lt_replay.specs.Resolving.{numbered_label, numbered_test, numbered_statement, numbered_items, ids_of}

@@ -18,8 +18,8 @@ use Rattle.lt_model.specs.declared.scalar.Scalar.TheVariants.{Int}
 use Rattle.lt_model.specs.Operators.{truth, value_of}
 use Rattle.lt_model.specs.Memory.{Memory, then_result, load, store}
 use Rattle.lt_model.specs.State.{At, Bound, Made, Answer, Gives, Ends, bind}
-use Rattle.lt_tree.specs.declared.expression.UnaryOp.TheVariants.{Minus, Not}
-use Rattle.lt_tree.specs.Tree.{Tree, Named, Number, Unary as unary, Binary as binary, Label, Test, Statement, Compound, Assigns, If as if_only, IfElse, While as while_loop, Return as return_of, Items, no_items, a_statement, a_mark, labels_in, labels_in_statement, names_in_tree, names_in_test, names_in_statement, names_in}
+use Rattle.lt_tree.specs.declared.small.expression.UnaryOp.TheVariants.{Minus, Not}
+use Rattle.lt_tree.specs.SmallTree.{Tree, Named, Number, Unary as unary, Binary as binary, Label, Test, Statement, Compound, Assigns, If as if_only, IfElse, While as while_loop, Return as return_of, Items, no_items, a_statement, a_mark, labels_in, labels_in_statement, names_in_tree, names_in_test, names_in_statement, names_in}
 use Rattle.lt_tree.specs.SmallMeaning as M
 use Rattle.lt_tree.specs.SmallMeaning.{object_of, number_in, int, holds, has_true, marked, marked_all}
 use Rattle.lt_replay.specs.declared.running.Flow.TheVariants as F

@@ -1,7 +1,7 @@
 -- Code as a value: trees in which variables and labels are numbers.
 use Rattle.std.specs.Prelude.{ℕ, ℤ, List, [], ◌∷◌, map}
 use Rattle.lt_model.specs.declared.operator.Op.{Op}
-use Rattle.lt_tree.specs.declared.expression.UnaryOp.{UnaryOp}
+use Rattle.lt_tree.specs.declared.small.expression.UnaryOp.{UnaryOp}
 use Rattle.lt_replay.specs.declared.code.Term.{Term}
 use Rattle.lt_replay.specs.declared.code.Term.TheVariants as term
 use Rattle.lt_replay.specs.declared.code.Point.{Point}

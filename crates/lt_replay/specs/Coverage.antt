@@ -4,7 +4,7 @@ use Rattle.std.specs.List.Sorted.{IsPermutation, IsSortedByKey}
 use Rattle.std.specs.Ordering.{nat_cmp}
 use Rattle.std.specs.Cmp.Lexicographic.{slice_cmp}
 use Rattle.std.specs.declared.cmp.Ordering.TheVariants.{Greater}
-use Rattle.lt_tree.specs.Tree.{Label, Program, labels_in}
+use Rattle.lt_tree.specs.SmallTree.{Label, Program, labels_in}
 use Rattle.lt_tree.specs.SmallMeaning.{run, covers}
 use Rattle.lt_input.specs.Cases.{TestCase}
 use Rattle.lt_cover.specs.declared.table.TestRow.{TestRow}

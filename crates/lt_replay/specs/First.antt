@@ -1,6 +1,6 @@
 -- What replaying a suite on a small function gives.
 use Rattle.std.specs.Prelude.{◌≡◌, ◌⊎◌, ℕ, List}
-use Rattle.lt_tree.specs.Tree.{Program}
+use Rattle.lt_tree.specs.SmallTree.{Program}
 use Rattle.lt_input.specs.Cases.{TestCase}
 use Rattle.lt_replay.specs.Form.{NamesFit, IdsFit}
 use Rattle.lt_small.specs.Parsed.{IsParsed}

@@ -6,7 +6,7 @@ use Rattle.std.specs.Cmp.Lexicographic.{slice_cmp}
 use Rattle.std.specs.BTreeMap.{BTreeMap, get_by, btree_map_len}
 use Rattle.lt_model.specs.declared.cell.Address.{Address}
 use Rattle.lt_tree.specs.SmallMeaning.{object_of}
-use Rattle.lt_tree.specs.Tree.{Program}
+use Rattle.lt_tree.specs.SmallTree.{Program}
 use Rattle.lt_replay.specs.Form.{variables}
 use Rattle.lt_replay.specs.Resolving.{bound_from}
 

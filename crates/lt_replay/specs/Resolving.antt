@@ -5,7 +5,7 @@ use Rattle.lt_model.specs.declared.cell.Address.{Address}
 use Rattle.lt_model.specs.declared.run.End.{End}
 use Rattle.lt_model.specs.declared.run.End.TheVariants as E
 use Rattle.lt_model.specs.State.{Bound}
-use Rattle.lt_tree.specs.Tree.{Tree, Named, Number, Unary as unary, Binary as binary, Label, Test, Statement, Compound, Assigns, If as if_only, IfElse, While as while_loop, Return as return_of, Items, no_items, a_statement, a_mark, Program, labels_in, labels_in_statement}
+use Rattle.lt_tree.specs.SmallTree.{Tree, Named, Number, Unary as unary, Binary as binary, Label, Test, Statement, Compound, Assigns, If as if_only, IfElse, While as while_loop, Return as return_of, Items, no_items, a_statement, a_mark, Program, labels_in, labels_in_statement}
 use Rattle.lt_tree.specs.SmallMeaning.{object_of, run, has_true}
 use Rattle.lt_replay.specs.declared.code.Code.{Code}
 use Rattle.lt_tree.specs.declared.stop.Stop.{Stop}

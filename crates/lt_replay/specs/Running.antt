@@ -9,7 +9,7 @@ use Rattle.lt_model.specs.declared.operator.Ub.TheVariants as U
 use Rattle.lt_model.specs.Scalar.{convert_of}
 use Rattle.lt_model.specs.Operators.{truth, value_of}
 use Rattle.lt_model.specs.Memory.{then_result}
-use Rattle.lt_tree.specs.declared.expression.UnaryOp.TheVariants.{Minus, Not}
+use Rattle.lt_tree.specs.declared.small.expression.UnaryOp.TheVariants.{Minus, Not}
 use Rattle.lt_tree.specs.SmallMeaning.{holds}
 use Rattle.lt_replay.specs.declared.running.Flow.{Flow}
 use Rattle.lt_replay.specs.declared.running.Flow.TheVariants.{Next, Returned, Undefined, Steps as NoTicks}

@@ -1,5 +1,5 @@
 use lt_model::Op;
-use lt_tree::UnaryOp;
+use lt_tree::small::UnaryOp;
 
 /// An expression over variables by their numbers.
 #[derive(Drop)]

@@ -3,7 +3,7 @@ ghost use Rattle.std.specs.List.Sorted.{IsPermutation, IsSortedByKey};
 ghost use Rattle.std.specs.Ordering.{nat_cmp};
 ghost use Rattle.std.specs.Cmp.Lexicographic.{slice_cmp};
 ghost use Rattle.lt_model.specs.declared.run.End.{End};
-ghost use Rattle.lt_tree.specs.Tree.{Label, Program, program_of, label_of, statement_of, items_in, labels_in, labels_in_statement};
+ghost use Rattle.lt_tree.specs.SmallTree.{Label, Program, program_of, label_of, statement_of, items_in, labels_in, labels_in_statement};
 ghost use Rattle.lt_tree.specs.SmallMeaning.{is_ended};
 ghost use Rattle.lt_input.specs.Cases.{TestCase, case_of, cases_of};
 ghost use Rattle.lt_replay.specs.Coverage.{row_of_test, IsTable};
@@ -16,7 +16,7 @@ use crate::running::run;
 use lt_cover::{Coverage, LabelRow, TestRow};
 use lt_input::Test;
 use lt_model::{End, Name};
-use lt_tree::{Function, Item, Mark, Marked, Stmt};
+use lt_tree::small::{Function, Item, Mark, Marked, Stmt};
 use std::alloc::{AllocError, Global};
 
 // The ticks of a run.

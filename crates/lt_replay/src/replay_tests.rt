@@ -4,7 +4,8 @@ use crate::resolving::resolve;
 use crate::running::run;
 use lt_input::Test;
 use lt_model::{End, Name, Op, Ub};
-use lt_tree::{Assign, Expr, Function, Item, Mark, Marked, Stmt, Stop};
+use lt_tree::Stop;
+use lt_tree::small::{Assign, Expr, Function, Item, Mark, Marked, Stmt};
 use std::alloc::{AllocError, Global};
 use std::test::Fail;
 

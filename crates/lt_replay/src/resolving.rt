@@ -1,12 +1,13 @@
 ghost use Rattle.std.specs.Prelude.{◌≡◌, MatchBool, MatchOption, Contains, ◌↔◌, IsTrue, IfOk, List, ◌++◌, ◌∷◌, [], ℕ, map, length, OnOk};
-ghost use Rattle.lt_tree.specs.Tree.{Assigns, program_of, tree_of, label_of, test_of, statement_of, items_in, labels_in, labels_in_statement};
+ghost use Rattle.lt_tree.specs.SmallTree.{Assigns, program_of, tree_of, label_of, test_of, statement_of, items_in, labels_in, labels_in_statement};
 ghost use Rattle.lt_replay.specs.Code.{formula_of, spot_of, check_of, step_of, steps_in};
 ghost use Rattle.lt_replay.specs.Resolving.{numbered, numbered_label, numbered_labels, numbered_test, numbered_statement, numbered_items, ids_of, fits, fits_labels, fits_test, fits_statement, fits_items, Gives, IsResolved};
 ghost use Rattle.lt_replay.specs.Numbers.{found, number_by, has_name, declared_names, IsScope, AreTwice, AreNumbered, FitIds};
 
 use crate::code::{Code, Command, Guard, Point, Term};
 use lt_model::Name;
-use lt_tree::{Assign, Expr, Function, Item, Mark, Marked, Stmt, Stop};
+use lt_tree::Stop;
+use lt_tree::small::{Assign, Expr, Function, Item, Mark, Marked, Stmt};
 use std::alloc::{AllocError, Global};
 use std::collections::{BTreeMap, BTreeSet};
 

@@ -4,14 +4,14 @@ ghost use Rattle.lt_model.specs.Scalar.{convert_of};
 ghost use Rattle.lt_tree.specs.SmallMeaning.{holds};
 ghost use Rattle.lt_replay.specs.Code.{Assign, Return, While, formula_of, spot_of, check_of, step_of, steps_in};
 ghost use Rattle.lt_replay.specs.Running.{held, formula_value, hits_after, hits_after_all, truth_of, replaced, turns, ends, step, steps};
-ghost use Rattle.lt_tree.specs.Tree.{Program};
+ghost use Rattle.lt_tree.specs.SmallTree.{Program};
 ghost use Rattle.lt_replay.specs.Resolving.{first_values, end_of, IsCodeOf, IsRunOf};
 
 use crate::code::{Code, Command, Guard, Point, Term};
 use crate::hits::Hits;
 use crate::operator::{negated, operated};
 use lt_model::{End, Ub};
-use lt_tree::UnaryOp;
+use lt_tree::small::UnaryOp;
 use std::alloc::{AllocError, Global};
 
 /// How a statement is done: normally, by a return, by undefined behaviour, or for want of a tick.

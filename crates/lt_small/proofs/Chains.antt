@@ -1,7 +1,7 @@
 -- One turn of reading a chain of operators.
 use Rattle.std.proofs.Common.{◌≡◌, ℕ, zero, suc, ◌+◌, ◌-◌, ◌<◌, ◌≤◌, List, drop, Option, Some, None, refl, sym, ◌∙◌, arith}
 use Rattle.lt_model.specs.declared.operator.Op.{Op}
-use Rattle.lt_tree.specs.Tree.{Tree, Binary}
+use Rattle.lt_tree.specs.SmallTree.{Tree, Binary}
 use Rattle.lt_small.specs.declared.read.token.Token.{Token}
 use Rattle.lt_small.specs.Gives.{◌>>=◌}
 use Rattle.lt_small.specs.Grammar.{Level, operator_at}

@@ -3,9 +3,9 @@ use Rattle.std.proofs.Common.{◌≡◌, ℕ, zero, suc, ◌<◌, ◌≤◌, Boo
 use Rattle.std.specs.Prelude.{pos}
 use Rattle.std.proofs.lemmas.Bool.{leb-true, le-leb}
 use Rattle.lt_model.specs.declared.operator.Op.{Op}
-use Rattle.lt_tree.specs.declared.expression.UnaryOp.{UnaryOp}
-use Rattle.lt_tree.specs.Tree as tree
-use Rattle.lt_tree.specs.Tree.{Tree}
+use Rattle.lt_tree.specs.declared.small.expression.UnaryOp.{UnaryOp}
+use Rattle.lt_tree.specs.SmallTree as tree
+use Rattle.lt_tree.specs.SmallTree.{Tree}
 use Rattle.lt_small.specs.declared.read.token.Fixed.TheVariants as f
 use Rattle.lt_small.specs.declared.read.token.Token.{Token}
 use Rattle.lt_small.specs.declared.read.token.Token.TheVariants as token

@@ -1,6 +1,6 @@
 -- A function is read as it is derived.
 use Rattle.std.proofs.Common.{◌≡◌, ℕ, zero, suc, ◌<◌, ◌≤◌, Bool, true, false, cond, List, [], ◌∷◌, length, drop, Option, Some, refl, sym, ap, subst, ◌∙◌, arith}
-use Rattle.lt_tree.specs.Tree.{Items, Program}
+use Rattle.lt_tree.specs.SmallTree.{Items, Program}
 use Rattle.lt_small.specs.declared.read.token.Fixed.TheVariants as f
 use Rattle.lt_small.specs.declared.read.token.Token.{Token}
 use Rattle.lt_small.specs.declared.read.token.Token.TheVariants as token

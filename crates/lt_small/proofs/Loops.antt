@@ -2,9 +2,9 @@
 use Rattle.std.proofs.Common.{◌≡◌, ℕ, suc, ◌+◌, ◌-◌, ◌<◌, ◌≤◌, true, false, List, [], ◌∷◌, ◌++◌, drop, Option, Some, None, refl, sym, ap, ◌∙◌, arith, append_assoc}
 use Rattle.std.specs.Prelude.{option_map, if◌then◌else◌}
 use Rattle.std.proofs.lemmas.List.{append-nil}
-use Rattle.lt_tree.specs.Tree.{Tree, Label, Test, Statement, Items, no_items, items_in}
-use Rattle.lt_tree.specs.declared.statement.Item.{Item}
-use Rattle.lt_tree.specs.declared.statement.Item as item
+use Rattle.lt_tree.specs.SmallTree.{Tree, Label, Test, Statement, Items, no_items, items_in}
+use Rattle.lt_tree.specs.declared.small.statement.Item.{Item}
+use Rattle.lt_tree.specs.declared.small.statement.Item as item
 use Rattle.lt_small.specs.declared.read.token.Fixed.TheVariants as f
 use Rattle.lt_small.specs.declared.read.token.Token.{Token}
 use Rattle.lt_small.specs.Gives.{◌>>=◌}

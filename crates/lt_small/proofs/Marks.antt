@@ -1,6 +1,6 @@
 -- Marks and tests are read as they are derived.
 use Rattle.std.proofs.Common.{◌≡◌, ℕ, zero, suc, ◌<◌, ◌≤◌, Bool, true, false, cond, List, [], ◌∷◌, length, Option, Some, refl, sym, ap, subst, ◌∙◌, arith}
-use Rattle.lt_tree.specs.Tree.{Tree, Label, Test}
+use Rattle.lt_tree.specs.SmallTree.{Tree, Label, Test}
 use Rattle.lt_small.specs.declared.read.token.Fixed.TheVariants as f
 use Rattle.lt_small.specs.declared.read.token.Token.{Token}
 use Rattle.lt_small.specs.declared.read.token.Token.TheVariants as token

@@ -1,6 +1,6 @@
 -- Statements are read as they are derived.
 use Rattle.std.proofs.Common.{◌≡◌, ℕ, zero, suc, ◌<◌, ◌≤◌, Bool, true, false, cond, List, [], ◌∷◌, length, drop, Option, Some, refl, sym, ap, subst, ◌∙◌, arith}
-use Rattle.lt_tree.specs.Tree.{Tree, Label, Test, Statement, Compound, Assigns, If, IfElse, While, Return, Items, no_items, a_statement, a_mark}
+use Rattle.lt_tree.specs.SmallTree.{Tree, Label, Test, Statement, Compound, Assigns, If, IfElse, While, Return, Items, no_items, a_statement, a_mark}
 use Rattle.lt_small.specs.declared.read.token.Fixed.TheVariants as f
 use Rattle.lt_small.specs.declared.read.token.Token.{Token}
 use Rattle.lt_small.specs.declared.read.token.Token.TheVariants as token

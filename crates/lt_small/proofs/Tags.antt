@@ -6,7 +6,7 @@ use Rattle.std.specs.List.{list_all}
 use Rattle.lt_model.specs.Plain.{is_plain_byte, IsPlain}
 use Rattle.lt_small.specs.Lexing.{is_tag_byte}
 use Rattle.std.proofs.Common.{◌≡◌, ℕ, Bool, true, false, List, [], ◌∷◌, ◌++◌, refl, arith}
-use Rattle.lt_tree.specs.Tree.{Tree, Label, Test, Statement, Items, Program, labels_in_statement, labels_in}
+use Rattle.lt_tree.specs.SmallTree.{Tree, Label, Test, Statement, Items, Program, labels_in_statement, labels_in}
 use Rattle.lt_small.specs.declared.read.token.Token.{Token}
 use Rattle.lt_small.specs.declared.read.token.Token.TheVariants as token
 use Rattle.lt_small.specs.Lexing.{is_tag, IsToken, IsCut}

@@ -2,10 +2,10 @@
 use Rattle.std.specs.Prelude.{◌≡◌, ℕ, pos, ◌≤◌, false, List, [], ◌∷◌, Option, Some, None}
 use Rattle.lt_model.specs.declared.operator.Op.{Op}
 use Rattle.lt_model.specs.declared.operator.Op.TheVariants.{Add, Sub, Mul, Div, Rem, Lt, Le, Gt, Ge, Eq, Ne}
-use Rattle.lt_tree.specs.declared.expression.UnaryOp.{UnaryOp}
-use Rattle.lt_tree.specs.declared.expression.UnaryOp.TheVariants as prefix
-use Rattle.lt_tree.specs.Tree.{Tree, Named, Unary, Binary, Label, Test, Statement, Compound, Assigns, If, IfElse, While, Return, Items, no_items, a_statement, a_mark, Program}
-use Rattle.lt_tree.specs.Tree as tree
+use Rattle.lt_tree.specs.declared.small.expression.UnaryOp.{UnaryOp}
+use Rattle.lt_tree.specs.declared.small.expression.UnaryOp.TheVariants as prefix
+use Rattle.lt_tree.specs.SmallTree.{Tree, Named, Unary, Binary, Label, Test, Statement, Compound, Assigns, If, IfElse, While, Return, Items, no_items, a_statement, a_mark, Program}
+use Rattle.lt_tree.specs.SmallTree as tree
 use Rattle.lt_small.specs.declared.read.token.Fixed.{Fixed}
 use Rattle.lt_small.specs.declared.read.token.Fixed.TheVariants as f
 use Rattle.lt_small.specs.declared.read.token.Token.{Token}

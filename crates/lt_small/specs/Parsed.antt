@@ -1,6 +1,6 @@
 -- What a small text stands for.
 use Rattle.std.specs.Prelude.{ℕ, List}
-use Rattle.lt_tree.specs.Tree.{Program}
+use Rattle.lt_tree.specs.SmallTree.{Program}
 use Rattle.lt_small.specs.declared.read.token.Token.{Token}
 use Rattle.lt_small.specs.Lexing.{IsCut}
 use Rattle.lt_small.specs.Nest.{IsShallow}

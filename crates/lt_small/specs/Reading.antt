@@ -3,11 +3,11 @@ use Rattle.std.specs.Prelude.{ℕ, zero, suc, pos, Bool, false, nat_le, if◌the
 use denote.Enum.Bare.{sameb}
 use Rattle.lt_small.specs.contracts.read.token.Fixed.{the_type}
 use Rattle.lt_model.specs.declared.operator.Op.{Op}
-use Rattle.lt_tree.specs.declared.expression.UnaryOp.{UnaryOp}
-use Rattle.lt_tree.specs.declared.statement.Item.{Item}
-use Rattle.lt_tree.specs.declared.statement.Item as item
-use Rattle.lt_tree.specs.Tree.{Tree, Named, Unary, Binary, Label, Test, Statement, Compound, Assigns, If, IfElse, While, Return, Items, no_items, a_statement, a_mark, Program, statement_of, label_of}
-use Rattle.lt_tree.specs.Tree as tree
+use Rattle.lt_tree.specs.declared.small.expression.UnaryOp.{UnaryOp}
+use Rattle.lt_tree.specs.declared.small.statement.Item.{Item}
+use Rattle.lt_tree.specs.declared.small.statement.Item as item
+use Rattle.lt_tree.specs.SmallTree.{Tree, Named, Unary, Binary, Label, Test, Statement, Compound, Assigns, If, IfElse, While, Return, Items, no_items, a_statement, a_mark, Program, statement_of, label_of}
+use Rattle.lt_tree.specs.SmallTree as tree
 use Rattle.lt_small.specs.declared.read.token.Fixed.{Fixed}
 use Rattle.lt_small.specs.declared.read.token.Fixed.TheVariants as f
 use Rattle.lt_small.specs.declared.read.token.Token.{Token}

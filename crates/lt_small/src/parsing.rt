@@ -1,6 +1,6 @@
 ghost use Rattle.std.specs.Prelude.{◌≡◌, ℕ, List, All};
 ghost use Rattle.lt_model.specs.Plain.{IsPlain};
-ghost use Rattle.lt_tree.specs.Tree.{Label, Program, labels_in, program_of};
+ghost use Rattle.lt_tree.specs.SmallTree.{Label, Program, labels_in, program_of};
 ghost use Rattle.lt_small.specs.declared.read.token.Token.{Token};
 ghost use Rattle.lt_tree.specs.Outcome.{Reads};
 ghost use Rattle.lt_small.specs.Lexing.{IsCut};
@@ -9,7 +9,8 @@ ghost use Rattle.lt_small.specs.Parsed.{IsParsed};
 use crate::read::function::function;
 use crate::read::lex::tokens_of;
 use crate::read::nest::is_shallow;
-use lt_tree::{Function, Stop};
+use lt_tree::Stop;
+use lt_tree::small::Function;
 use std::alloc::Global;
 
 /// The function that a small text stands for: its tokens by C11 6.4, their nest and the grammar alone, without its conditions

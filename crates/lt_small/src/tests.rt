@@ -1,6 +1,7 @@
 use crate::parse;
 use lt_model::Op;
-use lt_tree::{Expr, Function, Item, Stmt, Stop};
+use lt_tree::Stop;
+use lt_tree::small::{Expr, Function, Item, Stmt};
 use std::alloc::{AllocError, Global};
 use std::test::Fail;
 

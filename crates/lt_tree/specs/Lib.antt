@@ -1,3 +1,6 @@
 pub mod Tree
+pub mod View
+pub mod Symbols
+pub mod SmallTree
 pub mod SmallMeaning
 pub mod Outcome

@@ -18,8 +18,8 @@ use Rattle.lt_model.specs.declared.run.End.TheVariants.{Returned, Stopped, Undef
 use Rattle.lt_model.specs.Operators.{truth, value_of}
 use Rattle.lt_model.specs.Memory.{Block, then_result, load, store, create}
 use Rattle.lt_model.specs.State.{At, Bound, Made, Answer, Gives, Ends, bind}
-use Rattle.lt_tree.specs.declared.expression.UnaryOp.TheVariants.{Minus, Not}
-use Rattle.lt_tree.specs.Tree.{Tree, Named, Number, Unary, Binary, Label, Test, Statement, Compound, Assigns, If, IfElse, While, Return, Items, no_items, a_statement, a_mark, Program}
+use Rattle.lt_tree.specs.declared.small.expression.UnaryOp.TheVariants.{Minus, Not}
+use Rattle.lt_tree.specs.SmallTree.{Tree, Named, Number, Unary, Binary, Label, Test, Statement, Compound, Assigns, If, IfElse, While, Return, Items, no_items, a_statement, a_mark, Program}
 
 -- every object has one cell of type int
 abbrev pub int : CellType

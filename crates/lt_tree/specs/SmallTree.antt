@@ -2,16 +2,16 @@
 use Rattle.std.specs.Prelude.{ℕ, ℤ, List, [], ◌∷◌, ◌++◌, map}
 use Rattle.std.specs.List.{flat_map}
 use Rattle.lt_model.specs.declared.operator.Op.{Op}
-use Rattle.lt_tree.specs.declared.expression.UnaryOp.{UnaryOp}
-use Rattle.lt_tree.specs.declared.expression.Expr.{Expr}
-use Rattle.lt_tree.specs.declared.expression.Expr.TheVariants as expr
-use Rattle.lt_tree.specs.declared.expression.Mark.{Mark}
-use Rattle.lt_tree.specs.declared.expression.Marked.{Marked}
-use Rattle.lt_tree.specs.declared.statement.Stmt.{Stmt}
-use Rattle.lt_tree.specs.declared.statement.Stmt as stmt
-use Rattle.lt_tree.specs.declared.statement.Item.{Item}
-use Rattle.lt_tree.specs.declared.statement.Item as item
-use Rattle.lt_tree.specs.declared.statement.Function.{Function}
+use Rattle.lt_tree.specs.declared.small.expression.UnaryOp.{UnaryOp}
+use Rattle.lt_tree.specs.declared.small.expression.Expr.{Expr}
+use Rattle.lt_tree.specs.declared.small.expression.Expr.TheVariants as expr
+use Rattle.lt_tree.specs.declared.small.expression.Mark.{Mark}
+use Rattle.lt_tree.specs.declared.small.expression.Marked.{Marked}
+use Rattle.lt_tree.specs.declared.small.statement.Stmt.{Stmt}
+use Rattle.lt_tree.specs.declared.small.statement.Stmt as stmt
+use Rattle.lt_tree.specs.declared.small.statement.Item.{Item}
+use Rattle.lt_tree.specs.declared.small.statement.Item as item
+use Rattle.lt_tree.specs.declared.small.statement.Function.{Function}
 
 -- an expression
 pub data Tree : Type 0 where

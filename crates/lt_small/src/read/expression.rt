@@ -1,6 +1,6 @@
 ghost use Rattle.std.specs.Prelude.{◌≡◌, suc, pos, Some, None, nat_le, option_map, MatchOption, if◌then◌else◌};
-ghost use Rattle.lt_tree.specs.Tree.{tree_of};
-ghost use Rattle.lt_tree.specs.Tree as tree;
+ghost use Rattle.lt_tree.specs.SmallTree.{tree_of};
+ghost use Rattle.lt_tree.specs.SmallTree as tree;
 ghost use Rattle.lt_small.specs.Gives.{Gives};
 ghost use Rattle.lt_small.specs.Grammar as grammar;
 ghost use Rattle.lt_small.specs.Reading as reading;
@@ -8,7 +8,8 @@ ghost use Rattle.lt_small.specs.Reading as reading;
 use crate::read::front::{behind, copy, expect};
 use crate::read::token::{Fixed, Token};
 use lt_model::Op;
-use lt_tree::{Expr, Stop, UnaryOp, makes};
+use lt_tree::Stop;
+use lt_tree::small::{Expr, UnaryOp, makes};
 use std::alloc::Global;
 
 // What is read so far of a chain of operators, and the tokens behind it.

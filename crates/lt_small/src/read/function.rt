@@ -1,5 +1,5 @@
 ghost use Rattle.std.specs.Prelude.{length};
-ghost use Rattle.lt_tree.specs.Tree.{program_of};
+ghost use Rattle.lt_tree.specs.SmallTree.{program_of};
 ghost use Rattle.lt_small.specs.Gives.{Gives};
 ghost use Rattle.lt_small.specs.Reading as reading;
 
@@ -7,7 +7,8 @@ use crate::read::front::{behind, expect, name_at, sees};
 use crate::read::statement::items;
 use crate::read::token::{Fixed, Token};
 use lt_model::Name;
-use lt_tree::{Function, Stop};
+use lt_tree::Stop;
+use lt_tree::small::Function;
 use std::alloc::Global;
 
 // 'int' NAME

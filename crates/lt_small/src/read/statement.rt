@@ -1,5 +1,5 @@
 ghost use Rattle.std.specs.Prelude.{length};
-ghost use Rattle.lt_tree.specs.Tree.{tree_of, label_of, test_of, statement_of, items_in};
+ghost use Rattle.lt_tree.specs.SmallTree.{tree_of, label_of, test_of, statement_of, items_in};
 ghost use Rattle.lt_small.specs.Gives.{Gives};
 ghost use Rattle.lt_small.specs.Reading as reading;
 
@@ -7,7 +7,8 @@ use crate::read::expression::{deeper, expression};
 use crate::read::front::{behind, copy, expect, number_at, sees, tag_at};
 use crate::read::nest::begins_else;
 use crate::read::token::{Fixed, Token};
-use lt_tree::{Assign, Expr, Item, Mark, Marked, Stmt, Stop, makes};
+use lt_tree::Stop;
+use lt_tree::small::{Assign, Expr, Item, Mark, Marked, Stmt, makes};
 use std::alloc::Global;
 
 // mark = 'pc_label' '(' expr ',' NUMBER ',' STRING ')'

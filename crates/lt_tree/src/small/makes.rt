@@ -1,11 +1,11 @@
 // Trees made of their parts.
 
 ghost use Rattle.std.specs.Prelude.{◌≡◌, IfOk};
-ghost use Rattle.lt_tree.specs.Tree.{tree_of, statement_of, items_in, test_of};
-ghost use Rattle.lt_tree.specs.Tree as t;
+ghost use Rattle.lt_tree.specs.SmallTree.{tree_of, statement_of, items_in, test_of};
+ghost use Rattle.lt_tree.specs.SmallTree as t;
 
-use crate::expression::{Expr, Marked, UnaryOp};
-use crate::statement::{Item, Stmt};
+use crate::small::expression::{Expr, Marked, UnaryOp};
+use crate::small::statement::{Item, Stmt};
 use lt_model::Op;
 use std::alloc::{AllocError, Global};
 

@@ -1,9 +1,9 @@
-use crate::expression::{Assign, Expr, Mark, Marked};
+use crate::small::expression::{Assign, Expr, Mark, Marked};
 use lt_model::Name;
 
 /// A statement, C11 6.8.
 #[derive(Drop)]
-#[cycle(statements)]
+#[cycle(small_statements)]
 pub enum Stmt {
     Compound(Vec<Item>),
     Expression(Assign),
@@ -14,7 +14,7 @@ pub enum Stmt {
 
 /// An item of a block: a statement or a mark.
 #[derive(Drop)]
-#[cycle(statements)]
+#[cycle(small_statements)]
 pub enum Item {
     Statement(Stmt),
     Mark(Mark),

@@ -1,5 +1,5 @@
 use Rattle.std.proofs.Common.{◌≡◌, ap, ◌∙◌}
-use Rattle.lt_tree.specs.Tree.{Compound, statement_of, items_in}
+use Rattle.lt_tree.specs.SmallTree.{Compound, statement_of, items_in}
 use Rattle.lt_replay.proofs.ResolveLemmas.{compound_is}
 use Rattle.lt_replay.proofs.measuring.+collecting.Goals as goal
 

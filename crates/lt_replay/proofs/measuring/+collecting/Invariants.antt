@@ -1,7 +1,7 @@
 use Rattle.std.proofs.Common.{◌≡◌, ◌++◌, drop, Bor}
 use Rattle.std.specs.Prelude.{map}
-use Rattle.lt_tree.specs.Tree.{label_of, items_in, labels_in}
-use Rattle.lt_tree.specs.declared.expression.Mark.{Mark}
+use Rattle.lt_tree.specs.SmallTree.{label_of, items_in, labels_in}
+use Rattle.lt_tree.specs.declared.small.expression.Mark.{Mark}
 use Rattle.lt_replay.proofs.measuring.+collecting.Given as goal
 
 abbrev pub invariant-collect_items-items : goal.invariant-collect_items-items

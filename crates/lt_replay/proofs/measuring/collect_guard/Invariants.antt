@@ -1,7 +1,7 @@
 use Rattle.std.proofs.Common.{◌≡◌, ◌++◌, take, Bor}
 use Rattle.std.specs.Prelude.{map}
-use Rattle.lt_tree.specs.Tree.{label_of}
-use Rattle.lt_tree.specs.declared.expression.Mark.{Mark}
+use Rattle.lt_tree.specs.SmallTree.{label_of}
+use Rattle.lt_tree.specs.declared.small.expression.Mark.{Mark}
 use Rattle.lt_replay.proofs.measuring.collect_guard.Given as goal
 
 abbrev pub invariant-marks : goal.invariant-marks

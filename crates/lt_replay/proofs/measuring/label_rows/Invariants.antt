@@ -1,7 +1,7 @@
 use Rattle.std.proofs.Common.{◌≡◌, ◌++◌, drop, length, Bor}
 use Rattle.std.specs.Prelude.{map}
-use Rattle.lt_tree.specs.Tree.{label_of}
-use Rattle.lt_tree.specs.declared.expression.Mark.{Mark}
+use Rattle.lt_tree.specs.SmallTree.{label_of}
+use Rattle.lt_tree.specs.declared.small.expression.Mark.{Mark}
 use Rattle.lt_replay.specs.Measuring.{rows_from}
 use Rattle.lt_replay.proofs.measuring.label_rows.Given as goal
 

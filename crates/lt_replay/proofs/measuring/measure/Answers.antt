@@ -4,8 +4,8 @@ use Rattle.std.specs.Ordering.{nat_cmp, is_lt}
 use Rattle.std.specs.Cmp.Lexicographic.{slice_cmp}
 use Rattle.std.specs.List.Sorted.{IsPermutation, IsSortedByKey}
 use Rattle.std.proofs.lemmas.List.Sorted.{IsPermutation-map, All-permutation}
-use Rattle.lt_tree.specs.Tree.{Label, program_of, label_of, items_in, labels_in}
-use Rattle.lt_tree.specs.declared.expression.Mark.{Mark}
+use Rattle.lt_tree.specs.SmallTree.{Label, program_of, label_of, items_in, labels_in}
+use Rattle.lt_tree.specs.declared.small.expression.Mark.{Mark}
 use Rattle.lt_cover.specs.declared.table.LabelRow.{LabelRow}
 use Rattle.lt_input.specs.Cases.{TestCase, case_of, cases_of}
 use Rattle.lt_replay.specs.Coverage.{IsBy, row_of_test}

@@ -1,5 +1,5 @@
 use Rattle.std.proofs.Common.{◌≡◌, refl, inl, inr, subst}
-use Rattle.lt_tree.specs.Tree.{Program, program_of}
+use Rattle.lt_tree.specs.SmallTree.{Program, program_of}
 use Rattle.lt_input.specs.Cases.{cases_of}
 use Rattle.lt_input.specs.Suite.{IsSuite}
 use Rattle.lt_replay.specs.Form.{NamesFit, IdsFit}

@@ -1,8 +1,8 @@
 use Rattle.std.proofs.Common.{◌≡◌, ◌++◌, ◌∷◌, [], ◌+◌, length, true, drop, rules, sym, ap, ◌∙◌, append_assoc}
 use Rattle.std.proofs.lemmas.List.{drop_all}
 use Rattle.std.specs.Prelude.{◌&&◌}
-use Rattle.lt_tree.specs.declared.statement.Stmt.TheVariants as variant
-use Rattle.lt_tree.specs.Tree.{Compound, If as if_only, IfElse, a_statement, a_mark, label_of, test_of, statement_of, items_in, labels_in, labels_in_statement}
+use Rattle.lt_tree.specs.declared.small.statement.Stmt.TheVariants as variant
+use Rattle.lt_tree.specs.SmallTree.{Compound, If as if_only, IfElse, a_statement, a_mark, label_of, test_of, statement_of, items_in, labels_in, labels_in_statement}
 use Rattle.lt_replay.specs.Code.{Block, Mark, end, check_of, step_of, steps_in}
 use Rattle.lt_replay.specs.Resolving.{numbered_label, numbered_statement, numbered_items, ids_of, fits_statement, fits_items}
 use Rattle.lt_replay.specs.Numbers.{number_by, has_name}

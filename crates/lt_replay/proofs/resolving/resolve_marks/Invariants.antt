@@ -1,6 +1,6 @@
 use Rattle.std.proofs.Common.{◌≡◌, ◌++◌, length, drop}
 use Rattle.std.specs.Prelude.{map}
-use Rattle.lt_tree.specs.Tree.{label_of}
+use Rattle.lt_tree.specs.SmallTree.{label_of}
 use Rattle.lt_replay.specs.Code.{spot_of}
 use Rattle.lt_replay.specs.Resolving.{numbered_labels, ids_of, fits_labels}
 use Rattle.lt_replay.specs.Numbers.{number_by, has_name}

@@ -1,6 +1,6 @@
 use Rattle.std.proofs.Common.{◌≡◌, [], true, false, sym, ap, ◌∙◌}
 use Rattle.std.specs.Prelude.{is_some}
-use Rattle.lt_tree.specs.Tree.{program_of}
+use Rattle.lt_tree.specs.SmallTree.{program_of}
 use Rattle.lt_replay.specs.Numbers.{found, IsScope, AreTwice}
 use Rattle.lt_replay.specs.Form.{variables}
 use Rattle.lt_replay.proofs.NameLemmas.{empty_scope, front_differ, rest_differ, head_differs, all_differ, found_declared, declared_found}

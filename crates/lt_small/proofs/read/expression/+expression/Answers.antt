@@ -1,6 +1,6 @@
 use Rattle.std.proofs.Common.{◌-◌, length, sym, ◌∙◌}
 use Rattle.std.proofs.lemmas.Result.{err_from_is_err_and}
-use Rattle.lt_tree.specs.Tree.{tree_of}
+use Rattle.lt_tree.specs.SmallTree.{tree_of}
 use Rattle.lt_small.specs.Grammar as grammar
 use Rattle.lt_small.specs.Reading.{term_of, operand}
 use Rattle.lt_small.proofs.Scanning.{fails_with}

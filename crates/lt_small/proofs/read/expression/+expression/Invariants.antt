@@ -1,5 +1,5 @@
 use Rattle.std.proofs.Common.{◌≡◌, ◌-◌, ◌*◌, ◌+◌}
-use Rattle.lt_tree.specs.Tree.{tree_of}
+use Rattle.lt_tree.specs.SmallTree.{tree_of}
 use Rattle.lt_small.specs.Grammar as grammar
 use Rattle.lt_small.specs.Reading.{chain, term_of, sum_of, operand}
 use Rattle.lt_small.proofs.read.expression.+expression.Given as goal

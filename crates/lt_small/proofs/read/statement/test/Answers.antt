@@ -1,7 +1,7 @@
 use Rattle.std.proofs.Common.{◌≡◌, length, map, sym, rules, ◌++◌, ◌∷◌, []}
 use Rattle.std.proofs.lemmas.List.{map-append}
 use Rattle.std.proofs.lemmas.Result.{err_from_is_err_and}
-use Rattle.lt_tree.specs.Tree.{tree_of, label_of}
+use Rattle.lt_tree.specs.SmallTree.{tree_of, label_of}
 use Rattle.lt_small.proofs.Scanning.{fails_with}
 use Rattle.lt_small.proofs.Loops.{no_mark, mark_alone, no_value, has_value, more_mark, test_ends}
 use Rattle.lt_small.proofs.read.statement.test.Goals as goal

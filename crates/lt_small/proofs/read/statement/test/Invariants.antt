@@ -1,5 +1,5 @@
 use Rattle.std.proofs.Common.{◌≡◌, ◌-◌, length, map}
-use Rattle.lt_tree.specs.Tree.{label_of}
+use Rattle.lt_tree.specs.SmallTree.{label_of}
 use Rattle.lt_small.specs.Reading.{test_within}
 use Rattle.lt_small.proofs.Loops.{behind_labels}
 use Rattle.lt_small.proofs.read.statement.test.Given as goal
