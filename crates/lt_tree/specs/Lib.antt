@@ -1,5 +1,8 @@
 pub mod Tree
+pub mod Comma
 pub mod View
+pub mod Records
+pub mod UnitView
 pub mod Symbols
 pub mod SmallTree
 pub mod SmallMeaning

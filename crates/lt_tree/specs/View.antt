@@ -1,9 +1,14 @@
 -- The value of a tree that lies in memory.
-use Rattle.std.specs.Prelude.{ℕ, Bool, List, [], ◌∷◌, Option, Some, None, option_map, map}
+use Rattle.std.specs.Prelude.{Bool}
 use Rattle.std.specs.Global.{Vec}
 use Rattle.lt_model.specs.declared.ctype.Quals.{Quals}
 use Rattle.lt_tree.specs.declared.specifier.Storage.{Storage}
 use Rattle.lt_tree.specs.declared.expression.Expr.{Expr}
+use Rattle.lt_tree.specs.declared.mark.Mark.{Mark}
+use Rattle.lt_tree.specs.declared.specifier.Member.{Member}
+use Rattle.lt_tree.specs.declared.specifier.TypeSpecifier.{TypeSpecifier}
+use Rattle.lt_tree.specs.declared.declarator.DeclaratorPart.{DeclaratorPart}
+use Rattle.lt_tree.specs.declared.declarator.Parameters.{Parameters}
 use Rattle.lt_tree.specs.declared.declarator.DeclaratorPart.TheBlock as at
 use Rattle.lt_tree.specs.Tree as t
 
@@ -45,7 +50,10 @@ abbrev mutual
 
   pub marks_of : {m : _} → at.Row_of-Mark m → t.Marks
   marks_of at.end_of-Mark = t.no_marks
-  marks_of (at.more_of-Mark (at.struct-Mark predicate id tag shape bound) rest) = t.a_mark (t.mark (expression_of predicate) id tag (bindings_of bound)) (marks_of rest)
+  marks_of (at.more_of-Mark first rest) = t.a_mark (mark_of first) (marks_of rest)
+
+  pub mark_of : Mark → t.Mark
+  mark_of (at.struct-Mark predicate id tag shape bound) = t.mark (expression_of predicate) id tag (bindings_of bound)
 
   pub bindings_of : {m : _} → at.Row_of-Binding m → t.Bindings
   bindings_of at.end_of-Binding = t.no_bindings
@@ -53,17 +61,23 @@ abbrev mutual
 
   pub types_of : {m : _} → at.Row_of-TypeSpecifier m → t.TypeSpecifiers
   types_of at.end_of-TypeSpecifier = t.no_types
-  types_of (at.more_of-TypeSpecifier (at.Basic basic) rest) = t.a_type (t.Basic basic) (types_of rest)
-  types_of (at.more_of-TypeSpecifier (at.Word word) rest) = t.a_type (t.Word word) (types_of rest)
-  types_of (at.more_of-TypeSpecifier (at.StructTag tag) rest) = t.a_type (t.StructTag tag) (types_of rest)
-  types_of (at.more_of-TypeSpecifier (at.Struct' tag shape members) rest) = t.a_type (t.Struct tag (members_of members)) (types_of rest)
-  types_of (at.more_of-TypeSpecifier (at.EnumTag tag) rest) = t.a_type (t.EnumTag tag) (types_of rest)
-  types_of (at.more_of-TypeSpecifier (at.Enum' tag shape enumerators) rest) = t.a_type (t.Enum tag (enumerators_of enumerators)) (types_of rest)
-  types_of (at.more_of-TypeSpecifier (at.Named name) rest) = t.a_type (t.Named name) (types_of rest)
+  types_of (at.more_of-TypeSpecifier first rest) = t.a_type (type_of first) (types_of rest)
+
+  pub type_of : TypeSpecifier → t.TypeSpecifier
+  type_of (at.Basic basic) = t.Basic basic
+  type_of (at.Word word) = t.Word word
+  type_of (at.StructTag tag) = t.StructTag tag
+  type_of (at.Struct' tag shape members) = t.Struct tag (members_of members)
+  type_of (at.EnumTag tag) = t.EnumTag tag
+  type_of (at.Enum' tag shape enumerators) = t.Enum tag (enumerators_of enumerators)
+  type_of (at.Named name) = t.Named name
 
   pub members_of : {m : _} → at.Row_of-Member m → t.Members
   members_of at.end_of-Member = t.no_members
-  members_of (at.more_of-Member (at.struct-Member storage inline noreturn quals shape types shape' declarators) rest) = t.a_member (t.member (t.specifiers (words_of storage inline noreturn quals) (types_of types)) (member_declarators_of declarators)) (members_of rest)
+  members_of (at.more_of-Member first rest) = t.a_member (member_of first) (members_of rest)
+
+  pub member_of : Member → t.StructMember
+  member_of (at.struct-Member storage inline noreturn quals shape types shape' declarators) = t.member (t.specifiers (words_of storage inline noreturn quals) (types_of types)) (member_declarators_of declarators)
 
   pub member_declarators_of : {m : _} → at.Row_of-MemberDeclarator m → t.MemberDeclarators
   member_declarators_of at.end_of-MemberDeclarator = t.no_declarators
@@ -80,13 +94,19 @@ abbrev mutual
 
   pub parts_of : {m : _} → at.Row_of-DeclaratorPart m → t.Parts
   parts_of at.end_of-DeclaratorPart = t.no_parts
-  parts_of (at.more_of-DeclaratorPart (at.Pointer quals) rest) = t.Pointer (qualifiers_of quals) (parts_of rest)
-  parts_of (at.more_of-DeclaratorPart (at.Array' length) rest) = t.Array (maybe_of length) (parts_of rest)
-  parts_of (at.more_of-DeclaratorPart (at.Function at.Unstated) rest) = t.Function t.Unstated (parts_of rest)
-  parts_of (at.more_of-DeclaratorPart (at.Function at.Void) rest) = t.Function t.Void (parts_of rest)
-  parts_of (at.more_of-DeclaratorPart (at.Function (at.Listed' shape list)) rest) = t.Function (t.Listed (parameters_of list)) (parts_of rest)
-  parts_of (at.more_of-DeclaratorPart (at.Function (at.Open' shape list)) rest) = t.Function (t.Open (parameters_of list)) (parts_of rest)
+  parts_of (at.more_of-DeclaratorPart first rest) = part_before first (parts_of rest)
 
-  pub parameters_of : {m : _} → at.Row_of-Parameter m → t.ParameterList
-  parameters_of at.end_of-Parameter = t.no_parameters
-  parameters_of (at.more_of-Parameter storage inline noreturn quals shape types name shape' parts rest) = t.a_parameter (t.specifiers (words_of storage inline noreturn quals) (types_of types)) (t.declarator name (parts_of parts)) (parameters_of rest)
+  pub part_before : DeclaratorPart → t.Parts → t.Parts
+  part_before (at.Pointer quals) rest = t.Pointer (qualifiers_of quals) rest
+  part_before (at.Array' length) rest = t.Array (maybe_of length) rest
+  part_before (at.Function parameters) rest = t.Function (parameters_of parameters) rest
+
+  pub parameters_of : Parameters → t.Parameters
+  parameters_of at.Unstated = t.Unstated
+  parameters_of at.Void = t.Void
+  parameters_of (at.Listed' shape list) = t.Listed (parameter_list_of list)
+  parameters_of (at.Open' shape list) = t.Open (parameter_list_of list)
+
+  pub parameter_list_of : {m : _} → at.Row_of-Parameter m → t.ParameterList
+  parameter_list_of at.end_of-Parameter = t.no_parameters
+  parameter_list_of (at.more_of-Parameter storage inline noreturn quals shape types name shape' parts rest) = t.a_parameter (t.specifiers (words_of storage inline noreturn quals) (types_of types)) (t.declarator name (parts_of parts)) (parameter_list_of rest)
