@@ -4,7 +4,7 @@ use Rattle.std.specs.Prelude.{option_map}
 use Rattle.std.proofs.lemmas.Bool.{and_parts, eqb-true, not-true}
 use Rattle.std.proofs.lemmas.List.{length-append}
 use Rattle.lt_small.specs.Gives.{◌>>=◌}
-use Rattle.lt_small.specs.Strings.{is_plain, is_octal, hex_value, simple_escape, third_octal, second_octal, with_second_hex, second_hex, hex_escape, escape, Spells, closed, plain, escaped}
+use Rattle.lt_tree.specs.Strings.{is_plain, is_octal, hex_value, simple_escape, third_octal, second_octal, with_second_hex, second_hex, hex_escape, escape, Spells, closed, plain, escaped}
 use Rattle.lt_small.specs.Scan.{unit, with_unit, spelled}
 
 -- ---- an escape looks one byte ahead

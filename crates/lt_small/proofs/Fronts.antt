@@ -5,7 +5,7 @@ use Rattle.std.proofs.lemmas.Bool.{and_parts, or_cases, or_left, or_right, not-t
 use Rattle.std.proofs.lemmas.List.{take_at, drop_at, take-append-drop, length-append, length-take}
 use Rattle.std.proofs.lemmas.List.Sums.{prefix_len-le-length}
 use Rattle.lt_small.specs.Words.{is_sign}
-use Rattle.lt_small.specs.Strings.{Spells}
+use Rattle.lt_tree.specs.Strings.{Spells}
 use Rattle.lt_small.specs.Pieces as piece
 use Rattle.lt_small.specs.Pieces.{is_letter, is_digit, is_word_byte, is_number_byte, IsPiece, IsLongest}
 use Rattle.lt_small.specs.Scan.{spelled, longest_sign}

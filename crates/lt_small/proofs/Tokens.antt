@@ -11,7 +11,7 @@ use Rattle.lt_small.specs.declared.read.token.Fixed.TheVariants as f
 use Rattle.lt_small.specs.declared.read.token.Token.{Token}
 use Rattle.lt_small.specs.declared.read.token.Token.TheVariants as token
 use Rattle.lt_small.specs.Words.{is_no_name, keywords, other_spellings, reserved}
-use Rattle.lt_small.specs.Strings.{Spells}
+use Rattle.lt_tree.specs.Strings.{Spells}
 use Rattle.lt_small.specs.Pieces.{is_letter, is_digit, is_word_byte}
 use Rattle.lt_small.specs.Lexing as lexing
 use Rattle.lt_small.specs.Lexing.{spelling, is_empty, is_word, is_decimal, decimal_value, is_tag, IsToken}

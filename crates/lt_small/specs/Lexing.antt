@@ -6,7 +6,7 @@ use Rattle.lt_small.specs.declared.read.token.Fixed.TheVariants as f
 use Rattle.lt_small.specs.declared.read.token.Token.{Token}
 use Rattle.lt_small.specs.declared.read.token.Token.TheVariants as token
 use Rattle.lt_small.specs.Words.{is_no_name}
-use Rattle.lt_small.specs.Strings.{Spells}
+use Rattle.lt_tree.specs.Strings.{Spells}
 use Rattle.lt_small.specs.Pieces.{is_letter, is_digit, is_word_byte, is_separator, IsLongest}
 
 -- the one spelling of a keyword, of the word of a label, or of a punctuator

@@ -1,5 +1,4 @@
 pub mod Words
-pub mod Strings
 pub mod Pieces
 pub mod Lexing
 pub mod Nest

@@ -2,7 +2,7 @@
 use Rattle.std.specs.Prelude.{◌≡◌, ℕ, ◌≤◌, Bool, true, ◌&&◌, ◌||◌, ◌==◌, nat_le, List, ◌∷◌, ◌++◌, length}
 use Rattle.std.specs.List.{list_all}
 use Rattle.lt_small.specs.Words.{is_sign}
-use Rattle.lt_small.specs.Strings.{Spells}
+use Rattle.lt_tree.specs.Strings.{Spells}
 
 -- a letter or an underscore
 abbrev pub is_letter : ℕ → Bool

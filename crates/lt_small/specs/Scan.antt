@@ -8,7 +8,7 @@ use Rattle.lt_small.specs.declared.read.token.Token.{Token}
 use Rattle.lt_small.specs.declared.read.token.Token.TheVariants as token
 use Rattle.lt_small.specs.Gives.{◌>>=◌}
 use Rattle.lt_small.specs.Words.{is_no_name, punctuators, comment_openings}
-use Rattle.lt_small.specs.Strings.{escape}
+use Rattle.lt_tree.specs.Strings.{escape}
 use Rattle.lt_small.specs.Pieces.{is_letter, is_digit, is_word_byte, is_number_byte, is_separator}
 use Rattle.lt_small.specs.Lexing.{is_empty, is_tag}
 

@@ -1,3 +1,4 @@
+pub mod Strings
 pub mod Tree
 pub mod Comma
 pub mod View
@@ -7,3 +8,15 @@ pub mod Symbols
 pub mod SmallTree
 pub mod SmallMeaning
 pub mod Outcome
+pub mod TypeWords
+pub mod Scope
+pub mod Operators
+pub mod Ahead
+pub mod Grammar
+pub mod Declarations
+pub mod Statements
+pub mod Units
+pub mod Nodes
+pub mod Pieces
+pub mod Canon
+pub mod CanonUnits

@@ -1,5 +1,5 @@
 -- What a reader of text answers, against what it says.
-use Rattle.std.specs.Prelude.{◌≡◌, Result, Ok, Err}
+use Rattle.std.specs.Prelude.{Result, Ok, Err}
 use Rattle.lt_tree.specs.declared.stop.Stop.{Stop}
 use Rattle.lt_tree.specs.declared.stop.Stop.TheVariants.{NotOfForm, NoMemory}
 

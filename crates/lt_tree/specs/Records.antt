@@ -9,7 +9,6 @@ use Rattle.lt_tree.specs.declared.specifier.Specifiers.{Specifiers}
 use Rattle.lt_tree.specs.declared.specifier.Member.{Member}
 use Rattle.lt_tree.specs.declared.specifier.MemberDeclarator.{MemberDeclarator}
 use Rattle.lt_tree.specs.declared.specifier.Enumerator.{Enumerator}
-use Rattle.lt_tree.specs.declared.specifier.TypeName.{TypeName}
 use Rattle.lt_tree.specs.declared.declarator.Declarator.{Declarator}
 use Rattle.lt_tree.specs.declared.declarator.DeclaratorPart.{DeclaratorPart}
 use Rattle.lt_tree.specs.declared.declarator.Parameter.{Parameter}

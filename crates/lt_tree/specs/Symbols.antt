@@ -1,5 +1,5 @@
 -- The terminals of the grammar: what a token is to it, C11 6.4.
-use Rattle.std.specs.Prelude.{ℕ, Bool, if◌then◌else◌, List, [], ◌∷◌, codes, Option, Some, None, map}
+use Rattle.std.specs.Prelude.{ℕ, if◌then◌else◌, List, [], ◌∷◌, codes, map}
 use Rattle.std.specs.Str.{bytes_eq}
 use Rattle.lt_token.specs.declared.kind.Kind.{Kind}
 use Rattle.lt_token.specs.declared.kind.Kind.TheVariants as kind

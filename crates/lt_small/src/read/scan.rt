@@ -1,6 +1,6 @@
 ghost use Rattle.std.specs.Prelude.{◌≡◌, ◌≤◌, length, option_map, IfSome};
 ghost use Rattle.std.specs.List.{prefix_len, list_all};
-ghost use Rattle.lt_small.specs.Strings as strings;
+ghost use Rattle.lt_tree.specs.Strings as strings;
 ghost use Rattle.lt_small.specs.Pieces as pieces;
 ghost use Rattle.lt_small.specs.Lexing as lexing;
 ghost use Rattle.lt_small.specs.Scan as scan;
