@@ -1,5 +1,5 @@
 -- What stands at the front of symbols, where the grammar goes by it.
-use Rattle.std.specs.Prelude.{Bool, true, false, ◌||◌, ◌&&◌, not, List, [], ◌∷◌, is_some}
+use Rattle.std.specs.Prelude.{ℕ, Bool, true, false, ◌||◌, ◌&&◌, not, List, [], ◌∷◌, is_some}
 use denote.Enum.Bare.{sameb}
 use Rattle.lt_tree.specs.contracts.terminal.Terminal.{the_type}
 use Rattle.lt_tree.specs.declared.terminal.Terminal.{Terminal}
@@ -7,6 +7,7 @@ use Rattle.lt_tree.specs.declared.terminal.Terminal.TheVariants as t
 use Rattle.lt_tree.specs.Symbols.{Symbol, name, literal, sign}
 use Rattle.lt_tree.specs.Operators.{infix_of, prefix_of, assignment_of, storage_of, type_word_of}
 use Rattle.lt_tree.specs.Scope.{Scope, is_type}
+use Rattle.lt_tree.specs.Tree.{Specifiers, specifiers, no_types, a_type}
 
 unfoldable pub same_terminal : Terminal → Terminal → Bool
 same_terminal = sameb the_type
@@ -79,22 +80,33 @@ goes_on (_ ∷ ts) = false
 -- whether a declarator has to have a name, has none, or may have one
 pub data Naming : Type 0 where
   named : Naming
+  -- behind specifiers that name no type
+  untyped : Naming
   nameless : Naming
   either : Naming
 
-abbrev pub takes_name : Naming → Bool
-takes_name named = true
-takes_name nameless = false
-takes_name either = true
+-- whether a declarator may have this name; where no type was named before it, it is no typedef name
+abbrev pub takes_name : Naming → Scope → List ℕ → Bool
+takes_name named scope w = true
+takes_name untyped scope w = not (is_type scope w)
+takes_name nameless scope w = false
+takes_name either scope w = true
+
+-- the naming of declarators behind these specifiers
+abbrev pub naming_behind : Specifiers → Naming
+naming_behind (specifiers words no_types) = untyped
+naming_behind (specifiers words (a_type first rest)) = named
 
 abbrev pub takes_none : Naming → Bool
 takes_none named = false
+takes_none untyped = false
 takes_none nameless = true
 takes_none either = true
 
 -- In a declarator that may lack a name, an opening parenthesis may begin a parameter list.
 abbrev pub opens_parameters : Naming → Scope → List Symbol → Bool
 opens_parameters named scope ts = false
+opens_parameters untyped scope ts = false
 opens_parameters nameless scope ts = begins_parameters scope ts
 opens_parameters either scope ts = begins_parameters scope ts
 

@@ -5,7 +5,7 @@ use Rattle.lt_tree.specs.Tree as c
 use Rattle.lt_tree.specs.Symbols as s
 use Rattle.lt_tree.specs.Symbols.{Symbol, start_of}
 use Rattle.lt_tree.specs.Scope.{Scope, after_specifiers, after_declarator, after_initialiser, makes_types}
-use Rattle.lt_tree.specs.Ahead.{named, sees}
+use Rattle.lt_tree.specs.Ahead.{Naming, naming_behind, sees}
 use Rattle.lt_tree.specs.Grammar.{IsExpression, assignment, AreSpecifiers, IsDeclarator}
 
 mutual
@@ -35,16 +35,16 @@ pub data IsOptionalInitialiser : (scope : Scope) → (ts : List Symbol) → (i :
       → IsInitialiser scope ts i rest spots more → IsOptionalInitialiser scope (s.sign t.Equal at ∷ ts) (Some i) rest spots more
 
 -- (declarator ('=' init)?),+ ';' where the names declared are typedef names or not; each is in scope from the end of its declarator
-pub data AreDeclarators : (scope : Scope) → (type : Bool) → (ts : List Symbol) → (ds : List c.InitDeclarator) → (rest : List Symbol) → (spots more : List ℕ) → Type 0 where
-  last_declarator : {scope : Scope} {type : Bool} {at : ℕ} {ts us rest : List Symbol} {d : c.Declarator} {i : Option c.Initialiser} {spots between more : List ℕ}
-      → IsDeclarator scope named ts d us spots between
+pub data AreDeclarators : (scope : Scope) → (naming : Naming) → (type : Bool) → (ts : List Symbol) → (ds : List c.InitDeclarator) → (rest : List Symbol) → (spots more : List ℕ) → Type 0 where
+  last_declarator : {scope : Scope} {naming : Naming} {type : Bool} {at : ℕ} {ts us rest : List Symbol} {d : c.Declarator} {i : Option c.Initialiser} {spots between more : List ℕ}
+      → IsDeclarator scope naming ts d us spots between
       → IsOptionalInitialiser (after_declarator type d scope) us i (s.sign t.Semicolon at ∷ rest) between more
-      → AreDeclarators scope type ts (record { declarator = d; initialiser = i } ∷ []) rest spots more
-  more_declarators : {scope : Scope} {type : Bool} {at : ℕ} {ts us vs rest : List Symbol} {d : c.Declarator} {i : Option c.Initialiser} {ds : List c.InitDeclarator} {spots first second more : List ℕ}
-      → IsDeclarator scope named ts d us spots first
+      → AreDeclarators scope naming type ts (record { declarator = d; initialiser = i } ∷ []) rest spots more
+  more_declarators : {scope : Scope} {naming : Naming} {type : Bool} {at : ℕ} {ts us vs rest : List Symbol} {d : c.Declarator} {i : Option c.Initialiser} {ds : List c.InitDeclarator} {spots first second more : List ℕ}
+      → IsDeclarator scope naming ts d us spots first
       → IsOptionalInitialiser (after_declarator type d scope) us i (s.sign t.Comma at ∷ vs) first second
-      → AreDeclarators (after_initialiser i (after_declarator type d scope)) type vs ds rest second more
-      → AreDeclarators scope type ts (record { declarator = d; initialiser = i } ∷ ds) rest spots more
+      → AreDeclarators (after_initialiser i (after_declarator type d scope)) naming type vs ds rest second more
+      → AreDeclarators scope naming type ts (record { declarator = d; initialiser = i } ∷ ds) rest spots more
 
 -- declaration = specs (declarator ('=' init)?),* ';'
 pub data IsDeclaration : (scope : Scope) → (ts : List Symbol) → (d : c.Declaration) → (rest : List Symbol) → (spots more : List ℕ) → Type 0 where
@@ -53,5 +53,5 @@ pub data IsDeclaration : (scope : Scope) → (ts : List Symbol) → (d : c.Decla
       → IsDeclaration scope ts (record { specifiers = ss; declarators = [] }) rest spots more
   with_declarators : {scope : Scope} {ts us rest : List Symbol} {ss : c.Specifiers} {ds : List c.InitDeclarator} {spots between more : List ℕ}
       → AreSpecifiers scope ts ss us spots between
-      → AreDeclarators (after_specifiers ss scope) (makes_types ss) us ds rest between more
+      → AreDeclarators (after_specifiers ss scope) (naming_behind ss) (makes_types ss) us ds rest between more
       → IsDeclaration scope ts (record { specifiers = ss; declarators = ds }) rest spots more

@@ -14,9 +14,9 @@ use Rattle.lt_tree.specs.Comma.{followed_by, is_comma}
 use Rattle.lt_tree.specs.Symbols as s
 use Rattle.lt_tree.specs.Symbols.{Symbol, start_of}
 use Rattle.lt_tree.specs.TypeWords.{gathered}
-use Rattle.lt_tree.specs.Scope.{Scope, is_type, after_parameter}
+use Rattle.lt_tree.specs.Scope.{Scope, is_type, after_specifiers, after_parameter}
 use Rattle.lt_tree.specs.Operators.{Infix, operation, infix_of, prefix_of, assignment_of, storage_of, type_word_of}
-use Rattle.lt_tree.specs.Ahead.{Naming, named, nameless, either, takes_name, takes_none, opens_parameters, begins_direct, sees, begins_specifier, begins_declarator, begins_suffix, is_void_alone, goes_on}
+use Rattle.lt_tree.specs.Ahead.{Naming, nameless, either, naming_behind, takes_name, takes_none, opens_parameters, begins_direct, sees, begins_specifier, begins_declarator, begins_suffix, is_void_alone, goes_on}
 
 -- The levels of an expression, the loosest first. The binary operators have levels from 0, `||`, to 9, `*`.
 pub data Level : Type 0 where
@@ -288,20 +288,20 @@ mutual
   pub data AreMembers : (scope : Scope) → (ts : List Symbol) → (members : c.Members) → (rest : List Symbol) → (spots more : List ℕ) → Type 0 where
     no_more_members : {scope : Scope} {at : ℕ} {rest : List Symbol} {more : List ℕ} → AreMembers scope (s.sign t.CloseBrace at ∷ rest) c.no_members rest more more
     one_more_member : {scope : Scope} {ts us vs rest : List Symbol} {ss : c.Specifiers} {ds : c.MemberDeclarators} {members : c.Members} {spots first second more : List ℕ}
-        → AreSpecifiers scope ts ss us spots first → AreMemberDeclarators scope us ds vs first second → AreMembers scope vs members rest second more
+        → AreSpecifiers scope ts ss us spots first → AreMemberDeclarators scope (naming_behind ss) us ds vs first second → AreMembers scope vs members rest second more
         → AreMembers scope ts (c.a_member (c.member ss ds) members) rest (start_of ts ∷ spots) more
 
   -- (declarator (':' cond)?),* ';'
-  pub data AreMemberDeclarators : (scope : Scope) → (ts : List Symbol) → (ds : c.MemberDeclarators) → (rest : List Symbol) → (spots more : List ℕ) → Type 0 where
-    no_member_declarators : {scope : Scope} {at : ℕ} {rest : List Symbol} {more : List ℕ}
-        → AreMemberDeclarators scope (s.sign t.Semicolon at ∷ rest) c.no_declarators rest more more
-    last_member_declarator : {scope : Scope} {at : ℕ} {ts us rest : List Symbol} {d : c.Declarator} {width : c.Maybe} {spots between more : List ℕ}
-        → IsDeclarator scope named ts d us spots between → IsAfterSign scope t.Colon us width (s.sign t.Semicolon at ∷ rest) between more
-        → AreMemberDeclarators scope ts (c.a_declarator d width c.no_declarators) rest spots more
-    more_member_declarators : {scope : Scope} {at : ℕ} {ts us vs rest : List Symbol} {d e : c.Declarator} {width wide : c.Maybe} {ds : c.MemberDeclarators} {spots first second more : List ℕ}
-        → IsDeclarator scope named ts d us spots first → IsAfterSign scope t.Colon us width (s.sign t.Comma at ∷ vs) first second
-        → AreMemberDeclarators scope vs (c.a_declarator e wide ds) rest second more
-        → AreMemberDeclarators scope ts (c.a_declarator d width (c.a_declarator e wide ds)) rest spots more
+  pub data AreMemberDeclarators : (scope : Scope) → (naming : Naming) → (ts : List Symbol) → (ds : c.MemberDeclarators) → (rest : List Symbol) → (spots more : List ℕ) → Type 0 where
+    no_member_declarators : {scope : Scope} {naming : Naming} {at : ℕ} {rest : List Symbol} {more : List ℕ}
+        → AreMemberDeclarators scope naming (s.sign t.Semicolon at ∷ rest) c.no_declarators rest more more
+    last_member_declarator : {scope : Scope} {naming : Naming} {at : ℕ} {ts us rest : List Symbol} {d : c.Declarator} {width : c.Maybe} {spots between more : List ℕ}
+        → IsDeclarator scope naming ts d us spots between → IsAfterSign scope t.Colon us width (s.sign t.Semicolon at ∷ rest) between more
+        → AreMemberDeclarators scope naming ts (c.a_declarator d width c.no_declarators) rest spots more
+    more_member_declarators : {scope : Scope} {naming : Naming} {at : ℕ} {ts us vs rest : List Symbol} {d e : c.Declarator} {width wide : c.Maybe} {ds : c.MemberDeclarators} {spots first second more : List ℕ}
+        → IsDeclarator scope naming ts d us spots first → IsAfterSign scope t.Colon us width (s.sign t.Comma at ∷ vs) first second
+        → AreMemberDeclarators scope naming vs (c.a_declarator e wide ds) rest second more
+        → AreMemberDeclarators scope naming ts (c.a_declarator d width (c.a_declarator e wide ds)) rest spots more
 
   -- (SIGN cond)?
   pub data IsAfterSign : (scope : Scope) → (k : Terminal) → (ts : List Symbol) → (e : c.Maybe) → (rest : List Symbol) → (spots more : List ℕ) → Type 0 where
@@ -341,7 +341,7 @@ mutual
   -- direct = NAME | '(' declarator ')' | direct '[' cond? ']' | direct '(' params? ')', and nothing in the place of NAME where it has none
   pub data IsDirect : (scope : Scope) → (naming : Naming) → (ts : List Symbol) → (outer : c.Parts) → (name : Option (List ℕ)) → (parts : c.Parts) → (rest : List Symbol) → (spots more : List ℕ) → Type 0 where
     by_name : {scope : Scope} {naming : Naming} {w : List ℕ} {at : ℕ} {ts rest : List Symbol} {outer parts : c.Parts} {spots more : List ℕ}
-        → takes_name naming ≡ true → AreSuffixes scope ts outer parts rest spots more
+        → takes_name naming scope w ≡ true → AreSuffixes scope ts outer parts rest spots more
         → IsDirect scope naming (s.name w at ∷ ts) outer (Some w) parts rest spots more
     by_nothing : {scope : Scope} {naming : Naming} {ts rest : List Symbol} {outer parts : c.Parts} {spots more : List ℕ}
         → takes_none naming ≡ true → begins_direct scope ts ≡ false → AreSuffixes scope ts outer parts rest spots more
@@ -379,10 +379,10 @@ mutual
   -- param,+, with param = specs (declarator | abstract)?; a parameter's name is in scope for those behind it
   pub data IsParameterList : (scope : Scope) → (ts : List Symbol) → (ps : c.ParameterList) → (rest : List Symbol) → (spots more : List ℕ) → Type 0 where
     last_parameter : {scope : Scope} {ts us rest : List Symbol} {ss : c.Specifiers} {d : c.Declarator} {spots between more : List ℕ}
-        → AreSpecifiers scope ts ss us spots between → IsDeclarator scope either us d rest between more
+        → AreSpecifiers scope ts ss us spots between → IsDeclarator (after_specifiers ss scope) either us d rest between more
         → IsParameterList scope ts (c.a_parameter ss d c.no_parameters) rest spots more
     more_parameters : {scope : Scope} {at : ℕ} {ts us vs rest : List Symbol} {ss : c.Specifiers} {d : c.Declarator} {ps : c.ParameterList} {spots first second more : List ℕ}
-        → AreSpecifiers scope ts ss us spots first → IsDeclarator scope either us d (s.sign t.Comma at ∷ vs) first second
+        → AreSpecifiers scope ts ss us spots first → IsDeclarator (after_specifiers ss scope) either us d (s.sign t.Comma at ∷ vs) first second
         → IsParameterList (after_parameter ss d scope) vs ps rest second more
         → IsParameterList scope ts (c.a_parameter ss d ps) rest spots more
 

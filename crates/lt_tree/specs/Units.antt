@@ -6,7 +6,7 @@ use Rattle.lt_tree.specs.Tree as c
 use Rattle.lt_tree.specs.Symbols as s
 use Rattle.lt_tree.specs.Symbols.{Symbol, start_of, symbols}
 use Rattle.lt_tree.specs.Scope.{Scope, after_specifiers, after_declaration, after_external, in_body}
-use Rattle.lt_tree.specs.Ahead.{named}
+use Rattle.lt_tree.specs.Ahead.{naming_behind}
 use Rattle.lt_tree.specs.Grammar.{AreSpecifiers, IsDeclarator, IsWhole}
 use Rattle.lt_tree.specs.Declarations.{IsDeclaration}
 use Rattle.lt_tree.specs.Statements.{AreItems}
@@ -15,7 +15,7 @@ use Rattle.lt_tree.specs.Statements.{AreItems}
 pub data AreExternals : (scope : Scope) → (ts : List Symbol) → (unit : c.Unit) → (spots more : List ℕ) → Type 0 where
   no_more_externals : {scope : Scope} {more : List ℕ} → AreExternals scope [] [] more more
   definition : {scope : Scope} {at : ℕ} {ts us vs ws : List Symbol} {ss : c.Specifiers} {d : c.Declarator} {body : c.Items} {unit : c.Unit} {spots first second third more : List ℕ}
-      → AreSpecifiers scope ts ss us spots first → IsDeclarator (after_specifiers ss scope) named us d (s.sign t.OpenBrace at ∷ vs) first second
+      → AreSpecifiers scope ts ss us spots first → IsDeclarator (after_specifiers ss scope) (naming_behind ss) us d (s.sign t.OpenBrace at ∷ vs) first second
       → AreItems (in_body ss d scope) vs body ws second third → AreExternals (after_external (c.Defines ss d body) scope) ws unit third more
       → AreExternals scope ts (c.Defines ss d body ∷ unit) (start_of ts ∷ spots) more
   declaration : {scope : Scope} {ts us : List Symbol} {d : c.Declaration} {unit : c.Unit} {spots between more : List ℕ}
