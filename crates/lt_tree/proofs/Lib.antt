@@ -1,1 +1,4 @@
 mod SmallRows
+mod Spots
+mod SpotsOfExpressions
+mod SpotsOfUnits

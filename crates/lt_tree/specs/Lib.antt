@@ -20,3 +20,4 @@ pub mod Nodes
 pub mod Pieces
 pub mod Canon
 pub mod CanonUnits
+pub mod Laws

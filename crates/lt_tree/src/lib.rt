@@ -4,6 +4,7 @@
 mod declaration;
 mod declarator;
 mod expression;
+pub mod laws;
 mod mark;
 pub mod small;
 mod specifier;
@@ -16,7 +17,10 @@ pub use declaration::{Declaration, InitDeclarator, Initialiser};
 pub use declarator::{Declarator, DeclaratorPart, Parameter, Parameters};
 pub use expression::{Expr, LogicalOp, UnaryOp};
 pub use mark::{Binding, Mark};
-pub use specifier::{BasicType, Enumerator, Member, MemberDeclarator, Specifiers, Storage, TypeName, TypeSpecifier, TypeWord};
+pub use specifier::{
+    BasicType, Enumerator, Member, MemberDeclarator, Specifiers, Storage, TypeName, TypeSpecifier,
+    TypeWord,
+};
 pub use statement::{ForStart, Item, Label, Stmt, SwitchCase};
 pub use stop::Stop;
 pub use terminal::Terminal;
