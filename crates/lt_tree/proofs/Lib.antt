@@ -2,3 +2,8 @@ mod SmallRows
 mod Spots
 mod SpotsOfExpressions
 mod SpotsOfUnits
+mod WrittenExpressions
+mod WrittenDeclarations
+mod WrittenStatements
+mod WrittenUnits
+mod SignsBack

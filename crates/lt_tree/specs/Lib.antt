@@ -21,3 +21,8 @@ pub mod Pieces
 pub mod Canon
 pub mod CanonUnits
 pub mod Laws
+pub mod Examples
+pub mod WrittenExpressions
+pub mod WrittenDeclarations
+pub mod WrittenStatements
+pub mod WrittenUnits

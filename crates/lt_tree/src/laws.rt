@@ -1,8 +1,71 @@
-//! Laws of the definitions; the functions do nothing.
+//! Laws and worked examples of the definitions; the functions do nothing.
 
-ghost use Rattle.lt_tree.specs.Laws.{NodesHaveSpots};
+ghost use Rattle.lt_tree.specs.Laws.{NodesHaveSpots, SignsAreReadBack, TerminalsAreTokens};
+ghost use Rattle.lt_tree.specs.WrittenExpressions.{
+  ParenthesesStandWhereNeeded,
+  PrefixesKeepApart,
+  OperandsStandBeforeTheirSuffixes,
+  TypesStandInParentheses,
+  StringsAreEscaped,
+};
+ghost use Rattle.lt_tree.specs.WrittenDeclarations.{
+  DeclaratorsReadFromTheirNames,
+  DeclarationsAreWritten,
+};
+ghost use Rattle.lt_tree.specs.WrittenStatements.{LoopsAreWritten, ChoicesAreWritten};
+ghost use Rattle.lt_tree.specs.WrittenUnits.{
+  DecisionsAreMarked,
+  RelationsAreMarked,
+  BoundNamesAreWritten,
+  DefinitionsAndUsesAreMarked,
+  UnitsAreWritten,
+};
 
 /// Each node of a unit has one spot.
 pub fn nodes_have_spots()
     ensures { NodesHaveSpots }
+{}
+
+/// What a sign is written for is read from it: operators, assignments, storage classes and types.
+pub fn signs_are_read_back()
+    ensures { SignsAreReadBack }
+{}
+
+/// The grammar's terminals are the punctuators and keywords of C, and the names of marks.
+pub fn terminals_are_tokens()
+    ensures { TerminalsAreTokens }
+{}
+
+/// Examples of operators and their parentheses.
+pub fn operators_are_written()
+    ensures parentheses { ParenthesesStandWhereNeeded }
+    ensures prefixes { PrefixesKeepApart }
+    ensures suffixes { OperandsStandBeforeTheirSuffixes }
+{}
+
+/// Examples of casts, `sizeof` and strings.
+pub fn types_and_strings_are_written()
+    ensures types { TypesStandInParentheses }
+    ensures strings { StringsAreEscaped }
+{}
+
+/// Examples of declarators, specifiers, structs, enums and initialisers.
+pub fn declarations_are_written()
+    ensures declarators { DeclaratorsReadFromTheirNames }
+    ensures declarations { DeclarationsAreWritten }
+{}
+
+/// Examples of loops, choices and labels.
+pub fn statements_are_written()
+    ensures loops { LoopsAreWritten }
+    ensures choices { ChoicesAreWritten }
+{}
+
+/// Examples of marks and of whole units.
+pub fn units_are_written()
+    ensures decisions { DecisionsAreMarked }
+    ensures relations { RelationsAreMarked }
+    ensures bound_names { BoundNamesAreWritten }
+    ensures definitions_and_uses { DefinitionsAndUsesAreMarked }
+    ensures units { UnitsAreWritten }
 {}
