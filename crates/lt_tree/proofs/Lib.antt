@@ -7,3 +7,4 @@ mod WrittenDeclarations
 mod WrittenStatements
 mod WrittenUnits
 mod SignsBack
+mod ReadTexts

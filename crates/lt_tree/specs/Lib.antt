@@ -26,3 +26,4 @@ pub mod WrittenExpressions
 pub mod WrittenDeclarations
 pub mod WrittenStatements
 pub mod WrittenUnits
+pub mod ReadTexts

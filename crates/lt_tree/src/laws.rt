@@ -1,6 +1,7 @@
 //! Laws and worked examples of the definitions; the functions do nothing.
 
 ghost use Rattle.lt_tree.specs.Laws.{NodesHaveSpots, SignsAreReadBack, TerminalsAreTokens};
+ghost use Rattle.lt_tree.specs.ReadTexts.{DifferencesGroupLeft, CommasJoin, ElseIsNearest, TypeWordsGather, DeclaratorsTurnInsideOut, InnerNamesHideTypes, TypesInParenthesesAreParameters};
 ghost use Rattle.lt_tree.specs.WrittenExpressions.{
   ParenthesesStandWhereNeeded,
   PrefixesKeepApart,
@@ -68,4 +69,19 @@ pub fn units_are_written()
     ensures bound_names { BoundNamesAreWritten }
     ensures definitions_and_uses { DefinitionsAndUsesAreMarked }
     ensures units { UnitsAreWritten }
+{}
+
+/// Examples of expressions that the grammar reads, with their spots.
+pub fn expressions_are_read()
+    ensures differences { DifferencesGroupLeft }
+    ensures commas { CommasJoin }
+{}
+
+/// Examples of statements and units that the grammar reads, with their spots.
+pub fn units_are_read()
+    ensures nearest_else { ElseIsNearest }
+    ensures gathered_words { TypeWordsGather }
+    ensures inside_out { DeclaratorsTurnInsideOut }
+    ensures inner_names { InnerNamesHideTypes }
+    ensures types_in_parentheses { TypesInParenthesesAreParameters }
 {}

@@ -1,0 +1,17 @@
+use Rattle.lt_tree.proofs.ReadTexts.{nearest_else, gathered_words, inside_out, inner_names, types_in_parentheses}
+use Rattle.lt_tree.proofs.laws.units_are_read.Goals as goal
+
+pub returns-clause-nearest_else : goal.returns-clause-nearest_else
+returns-clause-nearest_else c = nearest_else
+
+pub returns-clause-gathered_words : goal.returns-clause-gathered_words
+returns-clause-gathered_words c = gathered_words
+
+pub returns-clause-inside_out : goal.returns-clause-inside_out
+returns-clause-inside_out c = inside_out
+
+pub returns-clause-inner_names : goal.returns-clause-inner_names
+returns-clause-inner_names c = inner_names
+
+pub returns-clause-types_in_parentheses : goal.returns-clause-types_in_parentheses
+returns-clause-types_in_parentheses c = types_in_parentheses
