@@ -8,3 +8,4 @@ mod WrittenStatements
 mod WrittenUnits
 mod SignsBack
 mod ReadTexts
+mod QuotedStrings

@@ -1,6 +1,6 @@
 -- What follows from the definitions of the grammar and of the canonical text.
-use Rattle.std.specs.Prelude.{◌≡◌, ℕ, true, ◌||◌, List, ◌++◌, length, map, Option, Some}
-use Rattle.std.specs.List.{list_all}
+use Rattle.std.specs.Prelude.{◌≡◌, ℕ, true, ◌||◌, ◌<◌, List, ◌++◌, length, map, Option, Some}
+use Rattle.std.specs.List.{All, list_all}
 use Rattle.lt_model.specs.declared.operator.Op.{Op}
 use Rattle.lt_token.specs.Words.{is_among, skipped, unsupported, keywords as all_keywords, punctuators as all_punctuators}
 use Rattle.lt_tree.specs.declared.expression.UnaryOp.{UnaryOp}
@@ -14,6 +14,8 @@ use Rattle.lt_tree.specs.Symbols.{Symbol, spelling, spelt, keywords, punctuators
 use Rattle.lt_tree.specs.Operators.{arithmetic, connective, infix_of, prefix_of, assignment_of, storage_of, type_word_of}
 use Rattle.lt_tree.specs.TypeWords.{basic_of}
 use Rattle.lt_tree.specs.Scope.{Scope}
+use Rattle.lt_tree.specs.Grammar.{IsLiteral}
+use Rattle.lt_tree.specs.Pieces.{quoted}
 use Rattle.lt_tree.specs.Canon.{sign_of_binary, sign_of_logical, sign_of_unary, sign_of_assignment, sign_of_storage, sign_of_word, words_of, tightness, tightness_of_logical}
 use Rattle.lt_tree.specs.Units.{AreExternals}
 use Rattle.lt_tree.specs.Nodes.{nodes}
@@ -45,3 +47,7 @@ TerminalsAreTokens =
     × (map (λ k. spelt punctuators (spelling k)) punctuators ≡ punctuators)
     × (map (λ k. spelt keywords (spelling k)) keywords ≡ keywords)
     × (map (λ k. spelt reserved (spelling k)) reserved ≡ reserved)
+
+-- A string of bytes that is written is a literal of these bytes.
+abbrev pub StringsAreReadBack : Type 0
+StringsAreReadBack = (bytes : List ℕ) → All (λ b. b < 256) bytes → IsLiteral (quoted bytes) bytes

@@ -1,6 +1,6 @@
 //! Laws and worked examples of the definitions; the functions do nothing.
 
-ghost use Rattle.lt_tree.specs.Laws.{NodesHaveSpots, SignsAreReadBack, TerminalsAreTokens};
+ghost use Rattle.lt_tree.specs.Laws.{NodesHaveSpots, SignsAreReadBack, StringsAreReadBack, TerminalsAreTokens};
 ghost use Rattle.lt_tree.specs.ReadTexts.{DifferencesGroupLeft, CommasJoin, ElseIsNearest, TypeWordsGather, DeclaratorsTurnInsideOut, InnerNamesHideTypes, TypesInParenthesesAreParameters};
 ghost use Rattle.lt_tree.specs.WrittenExpressions.{
   ParenthesesStandWhereNeeded,
@@ -35,6 +35,11 @@ pub fn signs_are_read_back()
 /// The grammar's terminals are the punctuators and keywords of C, and the names of marks.
 pub fn terminals_are_tokens()
     ensures { TerminalsAreTokens }
+{}
+
+/// A string that is written is read as the same bytes.
+pub fn strings_are_read_back()
+    ensures { StringsAreReadBack }
 {}
 
 /// Examples of operators and their parentheses.
