@@ -7,5 +7,7 @@ mod WrittenDeclarations
 mod WrittenStatements
 mod WrittenUnits
 mod SignsBack
+mod ReadSteps
 mod ReadTexts
+mod ReadForms
 mod QuotedStrings

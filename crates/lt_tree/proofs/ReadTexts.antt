@@ -1,5 +1,5 @@
 -- The examples of the grammar, each with its derivation.
-use Rattle.std.proofs.Common.{◌≡◌, ℕ, true, false, List, [], ◌∷◌, Some, None, refl}
+use Rattle.std.proofs.Common.{◌≡◌, ℕ, true, false, List, [], ◌∷◌, None, refl}
 use Rattle.lt_model.specs.declared.operator.Op.TheVariants as op
 use Rattle.lt_token.specs.Words as words
 use Rattle.lt_tree.specs.Tree as c
@@ -23,39 +23,7 @@ use Rattle.lt_tree.specs.WrittenDeclarations.{plain}
 use Rattle.lt_tree.specs.WrittenUnits.{stored}
 use Rattle.lt_tree.specs.declared.specifier.Storage.TheVariants as storage
 use Rattle.lt_tree.specs.ReadTexts as r
-
--- ---- a primary at each level
-
-unary : {scope : Scope} {ts rest : List Symbol} {e : c.Expression} {spots more : List ℕ}
-    → g.IsExpression scope g.primary ts e rest spots more → g.IsExpression scope g.unary ts e rest spots more
-unary p = g.of_postfix (g.of_primary p)
-
-operand : {scope : Scope} {n : ℕ} {ts rest : List Symbol} {e : c.Expression} {spots more : List ℕ}
-    → g.IsExpression scope g.primary ts e rest spots more → g.IsExpression scope (g.binary n) ts e rest spots more
-operand p = g.of_cast (g.of_unary (unary p))
-
-conditional : {scope : Scope} {ts rest : List Symbol} {e : c.Expression} {spots more : List ℕ}
-    → g.IsExpression scope g.primary ts e rest spots more → g.IsExpression scope g.conditional ts e rest spots more
-conditional p = g.of_binary (operand p)
-
-assignment : {scope : Scope} {ts rest : List Symbol} {e : c.Expression} {spots more : List ℕ}
-    → g.IsExpression scope g.primary ts e rest spots more → g.IsExpression scope g.assignment ts e rest spots more
-assignment p = g.of_conditional (conditional p)
-
-part : {scope : Scope} {ts rest : List Symbol} {e : c.Expression} {spots more : List ℕ}
-    → g.IsExpression scope g.primary ts e rest spots more → g.IsExpression scope g.marked ts e rest spots more
-part p = g.of_assignment (assignment p)
-
-whole : {scope : Scope} {ts rest : List Symbol} {e : c.Expression} {spots more : List ℕ}
-    → g.IsExpression scope g.primary ts e rest spots more → g.IsExpression scope g.comma ts e rest spots more
-whole p = g.of_marked (part p)
-
--- a sum as a whole expression
-sum : {scope : Scope} {ts rest : List Symbol} {e : c.Expression} {spots more : List ℕ}
-    → g.IsExpression scope (g.binary 8) ts e rest spots more → g.IsExpression scope g.comma ts e rest spots more
-sum p =
-    let tighter = g.of_tighter (g.of_tighter (g.of_tighter (g.of_tighter (g.of_tighter (g.of_tighter (g.of_tighter (g.of_tighter p)))))))
-    in g.of_marked (g.of_assignment (g.of_conditional (g.of_binary tighter)))
+use Rattle.lt_tree.proofs.ReadSteps.{operand, conditional, part, whole, sum, set, just_name, int_alone}
 
 -- ---- expressions
 
@@ -91,28 +59,11 @@ commas = (
 
 -- ---- statements
 
--- a constant is assigned to a name
-set : {scope : Scope} {v w : List ℕ} {i j k : ℕ} {rest : List Symbol} {more : List ℕ} → is_type scope v ≡ false
-    → g.IsExpression scope g.comma (s.name v i ∷ s.sign t.Equal j ∷ s.constant w k ∷ rest) (c.Assign None (c.Name v) (c.Constant w)) rest (i ∷ i ∷ k ∷ more) more
-set h = g.of_marked (g.of_assignment (g.assigns (unary (g.name h)) refl (assignment g.constant)))
-
 pub nearest_else : r.ElseIsNearest
 unfolding keywords punctuators reserved same_terminal words.word_of words.spells_const words.spells_volatile words.spells_signed
 nearest_else = (refl, st.if_alone (whole (g.name refl)) (st.if_else (whole (g.name refl)) (st.expression (set refl)) (st.expression (set refl))) refl)
 
 -- ---- units
-
--- a declarator that is a name
-just_name : {scope : Scope} {naming : Naming} {w : List ℕ} {at : ℕ} {rest : List Symbol} {more : List ℕ}
-    → takes_name naming scope w ≡ true → begins_suffix rest ≡ false
-    → g.IsDeclarator scope naming (s.name w at ∷ rest) (c.declarator (Some w) c.no_parts) rest (at ∷ more) more
-unfolding same_terminal
-just_name h n = g.written (g.no_pointer refl (g.by_name h (g.no_suffix n))) refl
-
-int_alone : {scope : Scope} {at : ℕ} {rest : List Symbol} {more : List ℕ} → begins_specifier scope true rest ≡ false
-    → g.AreSpecifiers scope (s.sign t.Int at ∷ rest) int rest more more
-unfolding spellings all_words same_word
-int_alone h = g.some_specifiers {types = c.a_type (c.Word w.Int) c.no_types} refl (g.type_word refl (g.no_further h))
 
 pub gathered_words : r.TypeWordsGather
 unfolding keywords punctuators reserved same_terminal words.word_of words.spells_const words.spells_volatile words.spells_signed spellings all_words same_word

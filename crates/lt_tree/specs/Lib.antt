@@ -27,3 +27,4 @@ pub mod WrittenDeclarations
 pub mod WrittenStatements
 pub mod WrittenUnits
 pub mod ReadTexts
+pub mod ReadForms

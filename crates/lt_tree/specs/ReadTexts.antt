@@ -27,6 +27,9 @@ keyword text at = record { kind = kind.Keyword; text = text; at = at }
 abbrev pub integer : List ℕ → ℕ → Token
 integer text at = record { kind = kind.Integer; text = text; at = at }
 
+abbrev pub literal : List ℕ → ℕ → Token
+literal text at = record { kind = kind.Text; text = text; at = at }
+
 abbrev pub punctuator : List ℕ → ℕ → Token
 punctuator text at = record { kind = kind.Punctuator; text = text; at = at }
 

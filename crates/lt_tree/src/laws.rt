@@ -1,6 +1,7 @@
 //! Laws and worked examples of the definitions; the functions do nothing.
 
 ghost use Rattle.lt_tree.specs.Laws.{NodesHaveSpots, SignsAreReadBack, StringsAreReadBack, TerminalsAreTokens};
+ghost use Rattle.lt_tree.specs.ReadForms.{PostfixesAreRead, PrefixesAreRead, ChoicesAndTextsAreRead, MarksAreRead, StatementsAreRead, DeclarationsAreRead};
 ghost use Rattle.lt_tree.specs.ReadTexts.{DifferencesGroupLeft, CommasJoin, ElseIsNearest, TypeWordsGather, DeclaratorsTurnInsideOut, InnerNamesHideTypes, TypesInParenthesesAreParameters};
 ghost use Rattle.lt_tree.specs.WrittenExpressions.{
   ParenthesesStandWhereNeeded,
@@ -76,17 +77,27 @@ pub fn units_are_written()
     ensures units { UnitsAreWritten }
 {}
 
-/// Examples of expressions that the grammar reads, with their spots.
+/// Examples of expressions that the grammar reads, each form of them once, with their spots.
 pub fn expressions_are_read()
     ensures differences { DifferencesGroupLeft }
     ensures commas { CommasJoin }
+    ensures postfixes { PostfixesAreRead }
+    ensures prefixes { PrefixesAreRead }
+    ensures choices_and_texts { ChoicesAndTextsAreRead }
+    ensures marks { MarksAreRead }
 {}
 
-/// Examples of statements and units that the grammar reads, with their spots.
-pub fn units_are_read()
+/// Examples of statements that the grammar reads, each form of them once, with their spots.
+pub fn statements_are_read()
     ensures nearest_else { ElseIsNearest }
+    ensures statements { StatementsAreRead }
+{}
+
+/// Examples of declarations and units that the grammar reads, with their spots.
+pub fn units_are_read()
     ensures gathered_words { TypeWordsGather }
     ensures inside_out { DeclaratorsTurnInsideOut }
     ensures inner_names { InnerNamesHideTypes }
     ensures types_in_parentheses { TypesInParenthesesAreParameters }
+    ensures declarations { DeclarationsAreRead }
 {}

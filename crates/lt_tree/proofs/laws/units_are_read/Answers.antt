@@ -1,8 +1,6 @@
-use Rattle.lt_tree.proofs.ReadTexts.{nearest_else, gathered_words, inside_out, inner_names, types_in_parentheses}
+use Rattle.lt_tree.proofs.ReadTexts.{gathered_words, inside_out, inner_names, types_in_parentheses}
+use Rattle.lt_tree.proofs.ReadForms.{declarations}
 use Rattle.lt_tree.proofs.laws.units_are_read.Goals as goal
-
-pub returns-clause-nearest_else : goal.returns-clause-nearest_else
-returns-clause-nearest_else c = nearest_else
 
 pub returns-clause-gathered_words : goal.returns-clause-gathered_words
 returns-clause-gathered_words c = gathered_words
@@ -15,3 +13,6 @@ returns-clause-inner_names c = inner_names
 
 pub returns-clause-types_in_parentheses : goal.returns-clause-types_in_parentheses
 returns-clause-types_in_parentheses c = types_in_parentheses
+
+pub returns-clause-declarations : goal.returns-clause-declarations
+returns-clause-declarations c = declarations
