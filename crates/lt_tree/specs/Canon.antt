@@ -233,7 +233,7 @@ qualifiers_pieces q = apart (word_if q.constant t.Const) (word_if q.volatile t.V
 abbrev pub words_pieces : c.Words → Pieces
 words_pieces words =
     apart (signs_apart (map sign_of_storage words.storage))
-      (apart (word_if words.inline t.Inline) (apart (word_if words.noreturn t.Noreturn) (qualifiers_pieces words.qualifiers)))
+    (apart (word_if words.inline t.Inline) (apart (word_if words.noreturn t.Noreturn) (qualifiers_pieces words.qualifiers)))
 
 -- the name of a declarator, if it has one
 abbrev pub name_if : Option (List ℕ) → Pieces
@@ -277,7 +277,7 @@ unfoldable mutual
       placed asked (binary (tightness o)) (operand n (binary (tightness o)) left ++ spaced (sign_of_binary o) ++ operand n (binary (suc (tightness o))) right)
   operand n asked (c.Logical o left right) =
       placed asked (binary (tightness_of_logical o))
-        (operand n (binary (tightness_of_logical o)) left ++ spaced (sign_of_logical o) ++ operand n (binary (suc (tightness_of_logical o))) right)
+      (operand n (binary (tightness_of_logical o)) left ++ spaced (sign_of_logical o) ++ operand n (binary (suc (tightness_of_logical o))) right)
   operand n asked (c.Conditional test left right) =
       placed asked conditional (operand n (binary 0) test ++ spaced t.Question ++ operand n comma left ++ spaced t.Colon ++ operand n conditional right)
   operand n asked (c.Assign o target value) = placed asked assignment (operand n unary_level target ++ spaced (sign_of_assignment o) ++ operand n assignment value)
@@ -304,7 +304,7 @@ unfoldable mutual
       sign t.Label ∷ in_parentheses (operand n assignment e ++ comma_gap ++ constant id ∷ comma_gap ++ literal tag ∷ [])
   mark n (c.mark e id tag (c.a_binding w value bound)) =
       sign t.LabelBind ∷ in_parentheses (operand n assignment e ++ comma_gap ++ constant id ∷ comma_gap ++ literal tag
-        ∷ comma_gap ++ name w ∷ comma_gap ++ operand n assignment value ++ bindings n bound)
+      ∷ comma_gap ++ name w ∷ comma_gap ++ operand n assignment value ++ bindings n bound)
 
   -- each with a comma before it
   pub bindings : ℕ → c.Bindings → Pieces

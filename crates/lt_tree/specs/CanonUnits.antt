@@ -58,11 +58,11 @@ unfoldable mutual
   lines n (c.If test x) = sign t.If ∷ gap ∷ in_parentheses (expression n test) ++ body n x (lines n x) (lines (suc n) x)
   lines n (c.IfElse test x y) =
       sign t.If ∷ gap ∷ in_parentheses (expression n test) ++ body n x (lines n x) (lines (suc n) x)
-        ++ indent n ∷ sign t.Else ∷ body n y (lines n y) (lines (suc n) y)
+      ++ indent n ∷ sign t.Else ∷ body n y (lines n y) (lines (suc n) y)
   lines n (c.While test x) = sign t.While ∷ gap ∷ in_parentheses (expression n test) ++ body n x (lines n x) (lines (suc n) x)
   lines n (c.Do x test) =
       sign t.Do ∷ body n x (lines n x) (lines (suc n) x)
-        ++ indent n ∷ sign t.While ∷ gap ∷ in_parentheses (expression n test) ++ sign t.Semicolon ∷ line_end ∷ []
+      ++ indent n ∷ sign t.While ∷ gap ∷ in_parentheses (expression n test) ++ sign t.Semicolon ∷ line_end ∷ []
   lines n (c.For start test step x) =
       sign t.For ∷ gap ∷ in_parentheses (for_start n start ++ optional n test ++ sign t.Semicolon ∷ optional n step) ++ body n x (lines n x) (lines (suc n) x)
   lines n (c.Switch e cases) =

@@ -82,7 +82,7 @@ mutual
     -- | 'pc_decide' '(' assign ',' CONSTANT ',' CONSTANT ',' STRING ')'
     decide : {scope : Scope} {at a b c' d f g h i : ℕ} {ts rest : List Symbol} {e : c.Expression} {yes_id no_id raw tag spots more : List ℕ}
         → IsExpression scope assignment ts e
-            (s.sign t.Comma b ∷ s.constant yes_id c' ∷ s.sign t.Comma d ∷ s.constant no_id f ∷ s.sign t.Comma g ∷ s.literal raw h ∷ s.sign t.CloseParen i ∷ rest) spots more
+        (s.sign t.Comma b ∷ s.constant yes_id c' ∷ s.sign t.Comma d ∷ s.constant no_id f ∷ s.sign t.Comma g ∷ s.literal raw h ∷ s.sign t.CloseParen i ∷ rest) spots more
         → IsLiteral raw tag
         → IsExpression scope primary (s.sign t.Decide at ∷ s.sign t.OpenParen a ∷ ts) (c.Decide e yes_id no_id tag) rest (at ∷ spots) more
     -- | 'pc_after' '(' assign ',' CONSTANT ',' STRING ')'
