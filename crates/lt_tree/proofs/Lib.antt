@@ -11,3 +11,4 @@ mod ReadSteps
 mod ReadTexts
 mod ReadForms
 mod QuotedStrings
+mod SpelledBytes

@@ -51,3 +51,7 @@ TerminalsAreTokens =
 -- A string of bytes that is written is a literal of these bytes.
 abbrev pub StringsAreReadBack : Type 0
 StringsAreReadBack = (bytes : List ℕ) → All (λ b. b < 256) bytes → IsLiteral (quoted bytes) bytes
+
+-- What a literal of bytes spells are bytes.
+abbrev pub LiteralsSpellBytes : Type 0
+LiteralsSpellBytes = (text bytes : List ℕ) → All (λ b. b < 256) text → IsLiteral text bytes → All (λ b. b < 256) bytes

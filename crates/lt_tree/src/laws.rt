@@ -1,6 +1,6 @@
 //! Laws and worked examples of the definitions; the functions do nothing.
 
-ghost use Rattle.lt_tree.specs.Laws.{NodesHaveSpots, SignsAreReadBack, StringsAreReadBack, TerminalsAreTokens};
+ghost use Rattle.lt_tree.specs.Laws.{NodesHaveSpots, SignsAreReadBack, StringsAreReadBack, LiteralsSpellBytes, TerminalsAreTokens};
 ghost use Rattle.lt_tree.specs.ReadForms.{PostfixesAreRead, PrefixesAreRead, ChoicesAndTextsAreRead, MarksAreRead, StatementsAreRead, DeclarationsAreRead};
 ghost use Rattle.lt_tree.specs.ReadTexts.{DifferencesGroupLeft, CommasJoin, ElseIsNearest, TypeWordsGather, DeclaratorsTurnInsideOut, InnerNamesHideTypes, TypesInParenthesesAreParameters};
 ghost use Rattle.lt_tree.specs.WrittenExpressions.{
@@ -41,6 +41,11 @@ pub fn terminals_are_tokens()
 /// A string that is written is read as the same bytes.
 pub fn strings_are_read_back()
     ensures { StringsAreReadBack }
+{}
+
+/// What a string literal spells are bytes.
+pub fn literals_spell_bytes()
+    ensures { LiteralsSpellBytes }
 {}
 
 /// Examples of operators and their parentheses.
