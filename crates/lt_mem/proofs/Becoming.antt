@@ -13,7 +13,8 @@ use Rattle.lt_model.specs.declared.cell.Content.{Content}
 use Rattle.lt_model.specs.declared.cell.StoredCell.{StoredCell}
 use Rattle.lt_model.specs.Memory.{Block, ended_block, then_result, with_held, replaced, object_at, store}
 use Rattle.lt_mem.specs.Image.{Image, Body, living_block, block_of, blocks_of}
-use Rattle.lt_mem.specs.Calls.{Becomes, with_blocks, stored_in}
+use Rattle.lt_mem.specs.Calls.{Becomes, with_blocks}
+use Rattle.lt_mem.specs.Steps.{stored_in}
 use Rattle.lt_mem.proofs.Blocks.{IsChange, changed, used, if_living, get_or-blocks_of}
 
 module _ {A : Type 0} (kind : Ub) (before after : A) where

@@ -14,7 +14,8 @@ use Rattle.lt_model.specs.declared.cell.ShapeCell.{ShapeCell}
 use Rattle.lt_model.specs.declared.cell.StoredCell.{StoredCell}
 use Rattle.lt_model.specs.Memory.{then_result, object_at, replaced, gathered, scattered, copy_struct}
 use Rattle.lt_mem.specs.Image.{Image, Body, living_block, blocks_of}
-use Rattle.lt_mem.specs.Calls.{Becomes, with_blocks, copied_in, waiting, delivered}
+use Rattle.lt_mem.specs.Calls.{Becomes, with_blocks}
+use Rattle.lt_mem.specs.Steps.{copied_in, waiting, delivered}
 use Rattle.lt_mem.proofs.Blocks.{IsChange, used, if_living}
 use Rattle.lt_mem.proofs.Becoming.{by_object, refused_by, done_by}
 use Rattle.lt_mem.proofs.Waiting.{copied}

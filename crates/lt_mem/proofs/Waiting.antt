@@ -14,7 +14,7 @@ use Rattle.lt_model.specs.declared.cell.ShapeCell.{ShapeCell}
 use Rattle.lt_model.specs.declared.cell.StoredCell.{StoredCell}
 use Rattle.lt_model.specs.Memory.{then_result, held_at, with_held, gathered, scattered}
 use Rattle.lt_mem.specs.Cells.{meets, place_of, cells_with}
-use Rattle.lt_mem.specs.Calls.{placed, waiting, delivered, delivered_at}
+use Rattle.lt_mem.specs.Steps.{placed, waiting, delivered, delivered_at}
 use Rattle.lt_mem.proofs.Contents.{length-cells_with}
 use Rattle.lt_mem.proofs.Meeting.{held_none, held_some, with_none, with_some, within_some}
 

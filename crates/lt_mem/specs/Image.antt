@@ -42,7 +42,7 @@ abbrev pub blocks_of : BTreeMap ℕ Body → ℕ → List Block
 blocks_of living n = map (block_at living) (range_with_len 0 n)
 
 -- what always holds of what a memory keeps: no number that is still to be given has an object; the cells that are alive are
--- counted and no more than may be; there is a place in the scratch for each cell of an object
+-- counted and no more than may be; what waits to be copied is fit, and there is a place for each cell of an object
 pub record IsKept (living : BTreeMap ℕ Body) (made alive : ℕ) (scratch : List Content) : Type 0 where
   pub unmade : (k : ℕ) → made ≤ k → get nat_cmp living k ≡ None
   pub counted : alive ≡ cells_alive (blocks_of living made)

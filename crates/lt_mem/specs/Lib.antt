@@ -1,4 +1,5 @@
 pub mod Cells
 pub mod Image
 pub mod Calls
+pub mod Steps
 pub use Rattle.lt_model.specs.Memory

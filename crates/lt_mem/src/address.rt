@@ -2,7 +2,7 @@
 
 ghost use Rattle.std.specs.Prelude.{◌≡◌, pos, ◌+ℤ◌, ◌*ℤ◌};
 ghost use Rattle.lt_model.specs.Memory.{move_by, compare, subtract, checked_address, same_address, related, in_elements};
-ghost use Rattle.lt_mem.specs.Calls.{moved_offset, offsets_in_one};
+ghost use Rattle.lt_mem.specs.Steps.{moved_offset, offsets_in_one};
 
 use crate::memory::Memory;
 use lt_model::{Address, Op, Ub, checked_product, checked_sum};

@@ -3,7 +3,8 @@
 ghost use Rattle.std.specs.Prelude.{◌≡◌, ◌≤◌, All, Ok, Err, MatchResult, length};
 ghost use Rattle.lt_model.specs.Memory.{copy_struct};
 ghost use Rattle.lt_mem.specs.Cells.{IsFit};
-ghost use Rattle.lt_mem.specs.Calls.{Becomes, with_blocks, waiting};
+ghost use Rattle.lt_mem.specs.Calls.{Becomes, with_blocks};
+ghost use Rattle.lt_mem.specs.Steps.{waiting};
 
 use crate::memory::Memory;
 use crate::object::{Object, behind};

@@ -6,7 +6,8 @@ ghost use Rattle.lt_model.specs.Memory.{new_cell, first_content, held_at, as_typ
 ghost use Rattle.lt_model.specs.Scalar.{convert_of};
 ghost use Rattle.lt_mem.specs.Cells.{place_of, cells_with, IsFit, IsInteger, AllFit};
 ghost use Rattle.lt_mem.specs.Image.{new_body};
-ghost use Rattle.lt_mem.specs.Calls.{Becomes, stored_in, delivered};
+ghost use Rattle.lt_mem.specs.Calls.{Becomes};
+ghost use Rattle.lt_mem.specs.Steps.{stored_in, delivered};
 
 use crate::lookup::{ascends, find, walk};
 use lt_model::{CellType, Content, DataModel, Scalar, Shape, ShapeCell, StoredCell, Ub, convert};

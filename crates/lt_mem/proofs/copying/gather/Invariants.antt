@@ -1,7 +1,7 @@
 use Rattle.std.proofs.Common.{◌≡◌, drop}
 use Rattle.std.specs.List.{All}
 use Rattle.lt_mem.specs.Cells.{IsFit}
-use Rattle.lt_mem.specs.Calls.{waiting}
+use Rattle.lt_mem.specs.Steps.{waiting}
 use Rattle.lt_mem.proofs.copying.gather.Given as goal
 
 abbrev pub invariant-loop-cell : goal.invariant-loop-cell

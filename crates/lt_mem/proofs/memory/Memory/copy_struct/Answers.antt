@@ -2,7 +2,7 @@ use Rattle.std.proofs.Common.{arith, ◌≡◌, ◌≤◌, sym, ◌∙◌, ap, s
 use Rattle.std.proofs.lemmas.List.{with_items_is}
 use Rattle.std.proofs.lemmas.Result.{err_from_is_err_and}
 use Rattle.lt_mem.specs.Image.{IsKept}
-use Rattle.lt_mem.specs.Calls.{delivered}
+use Rattle.lt_mem.specs.Steps.{delivered}
 use Rattle.lt_mem.proofs.Blocks.{change_through}
 use Rattle.lt_mem.proofs.Copies.{copy_failed, copy_sealed, copy_done, target_ended, source_ended, no_change}
 use Rattle.lt_mem.proofs.Keeping.{given, kept_with, kept_after_change}

@@ -1,5 +1,5 @@
 use Rattle.std.proofs.Common.{◌≡◌, length, drop}
-use Rattle.lt_mem.specs.Calls.{delivered}
+use Rattle.lt_mem.specs.Steps.{delivered}
 use Rattle.lt_mem.proofs.object.Object.deliver.Given as goal
 
 abbrev pub invariant-loop-cell : goal.invariant-loop-cell
