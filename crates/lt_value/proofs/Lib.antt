@@ -22,6 +22,7 @@ pub mod Quotients
 pub mod Results
 pub mod Operands
 pub mod Settling
+pub mod MadeSettled
 pub mod Made
 pub mod MadeShifts
 pub mod MadeAnswers

@@ -19,7 +19,8 @@ use Rattle.lt_value.proofs.Sums.{sum_holds, difference_holds}
 use Rattle.lt_value.proofs.Products.{product_holds}
 use Rattle.lt_value.proofs.Corners.{at_least_corner, four_least, four_greatest}
 use Rattle.lt_value.proofs.Settled.{settled_wider, test_from_within}
-use Rattle.lt_value.proofs.Settling.{some_as, none_as, settled_kept, unsigned_least}
+use Rattle.lt_value.proofs.Settling.{some_as, none_as, settled_kept}
+use Rattle.lt_value.proofs.MadeSettled.{unsigned_least}
 
 -- a row, written with its least number in place of the rest
 pub record IsMade (row : Entry) (lo hi : ℤ) (step : ℕ) : Type 0 where

@@ -15,7 +15,8 @@ use Rattle.lt_value.specs.Table.{IsResult, IsAnswer, power}
 use Rattle.lt_value.specs.Forward.{TakesLeft, TakesRight, IsCount, IsTakenFrom, IsOperand, IsLeftTaken, IsRightTaken, AreTaken, IsForward}
 use Rattle.lt_value.specs.declared.num.Num.{Num}
 use Rattle.lt_value.proofs.Cuts.{if_some_as, if_none_as}
-use Rattle.lt_value.proofs.Settling.{exactly_as, empty_as, unsigned_least}
+use Rattle.lt_value.proofs.Settling.{exactly_as, empty_as}
+use Rattle.lt_value.proofs.MadeSettled.{unsigned_least}
 use Rattle.lt_value.proofs.Results.{result_holds, result_wider}
 
 pub both_taken : (m : DataModel) (o : Op) (s : Scalar) (a b p q : Num) → IsLeftTaken m o s a p → IsRightTaken m o s b q → AreTaken m o s p q

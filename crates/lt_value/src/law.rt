@@ -1,8 +1,10 @@
 ghost use Rattle.std.specs.Prelude.{◌≡◌, ◌↔◌, ℤ, pos, Ok};
+ghost use Rattle.std.specs.Int.{IsGcd};
 ghost use Rattle.lt_model.specs.Scalar.{IsValue};
 ghost use Rattle.lt_model.specs.Operators.{value_of, IsRightOperand};
 ghost use Rattle.lt_value.specs.Num.{Holds, IsBelow};
 ghost use Rattle.lt_value.specs.Refine.{IsRelation, Relates};
+ghost use Rattle.lt_value.specs.Entry.{gcd_of};
 ghost use Rattle.lt_value.specs.Forward.{IsForward};
 
 use crate::num::Num;
@@ -23,6 +25,11 @@ pub fn one_form_law(a: &Num, b: &Num)
 pub fn relation_law(model: DataModel, op: Op, ty: Scalar, x: i128, y: i128)
     requires { IsRelation op }
     ensures { Relates op x y ↔ (value_of model op ty x y ≡ Ok (pos 1)) }
+{}
+
+/// A law: the table's common divisor is the greatest one. It does nothing.
+pub fn common_divisor_law(a: u128, b: u128)
+    ensures { IsGcd a b (gcd_of a b) }
 {}
 
 /// A law: each defined result of members is among what `forward` gives. It has no effect: that there are operands is shown

@@ -4,7 +4,7 @@ use mir.Val.{SFits}
 use Rattle.std.proofs.lemmas.Int.{ints, clamps, to_z-of_z}
 use Rattle.lt_model.proofs.Ranges.{bounds_of}
 use Rattle.lt_value.proofs.Cuts.{if_none_of}
-use Rattle.lt_value.proofs.Settling.{low_code, high_code}
+use Rattle.lt_value.proofs.MadeSettled.{low_code, high_code}
 use Rattle.lt_value.proofs.MadeQuotients.{quotients_some, quotients_none, no_quotients}
 use Rattle.lt_value.proofs.operators.division.quotients.Goals as goal
 

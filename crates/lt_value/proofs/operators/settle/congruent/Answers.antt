@@ -3,7 +3,8 @@ use Rattle.std.specs.Int.{w128}
 use mir.Val.{SFits}
 use Rattle.std.proofs.lemmas.Int.{ints, to_z-of_z}
 use Rattle.lt_value.specs.Entry.{IsSkip}
-use Rattle.lt_value.proofs.Settling.{from_first, none_from_first, rest_alone, no_rest, first_code}
+use Rattle.lt_value.proofs.Settling.{from_first, none_from_first, rest_alone, no_rest}
+use Rattle.lt_value.proofs.MadeSettled.{first_code}
 use Rattle.lt_value.proofs.operators.settle.congruent.Goals as goal
 use Rattle.lt_value.proofs.operators.settle.congruent.Goals.{else-lo-rest-via-then-lo-rest+else-rest-hi, else-lo-rest-via-else-lo-rest}
 

@@ -7,7 +7,8 @@ use Rattle.std.specs.Int.{w128}
 use mir.Val.{SFits}
 use Rattle.std.proofs.lemmas.Int.{to_z-of_z}
 use Rattle.lt_value.proofs.Cuts.{if_some_as, if_none_as}
-use Rattle.lt_value.proofs.Settling.{kept_is, none_kept, low_code, high_code}
+use Rattle.lt_value.proofs.Settling.{kept_is, none_kept}
+use Rattle.lt_value.proofs.MadeSettled.{low_code, high_code}
 use Rattle.lt_value.proofs.operators.settle.kept.Goals as goal
 
 low : (c : goal.After-congruent) → (c.max-low.result ≡ int_max c.args.lo (least_of c.args.model c.args.ty)) × SFits w128 c.max-low.result

@@ -6,7 +6,8 @@ use mir.Val.{SFits}
 use Rattle.std.proofs.lemmas.Int.{to_z-of_z}
 use Rattle.lt_value.proofs.Cuts.{if_some_as, if_none_as}
 use Rattle.lt_value.proofs.Operands.{least_code, greatest_code}
-use Rattle.lt_value.proofs.Settling.{reduced_is, none_reduced, power_code, gcd_small}
+use Rattle.lt_value.proofs.Settling.{reduced_is, none_reduced}
+use Rattle.lt_value.proofs.MadeSettled.{power_code, gcd_small}
 use Rattle.lt_value.proofs.operators.settle.reduced.Goals as goal
 
 common : (c : goal.After-greatest) → IsGcd c.args.step (2 ^ width_of c.args.model c.args.ty) c.gcd-common.result

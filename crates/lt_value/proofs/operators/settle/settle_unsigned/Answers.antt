@@ -1,7 +1,8 @@
 use Rattle.std.proofs.Common.{pos, refl}
 use Rattle.lt_value.specs.Entry.{entry_of, IsSettled}
 use Rattle.lt_value.proofs.Operands.{greatest_code}
-use Rattle.lt_value.proofs.Settling.{some_as, none_as, fit_settled, unfit_settled, passed_code, fit_code}
+use Rattle.lt_value.proofs.Settling.{some_as, none_as}
+use Rattle.lt_value.proofs.MadeSettled.{fit_settled, unfit_settled, passed_code, fit_code}
 use Rattle.lt_value.proofs.operators.settle.settle_unsigned.Goals as goal
 
 pub returns-then-hi-greatest-clause-some : goal.returns-then-hi-greatest-clause-some

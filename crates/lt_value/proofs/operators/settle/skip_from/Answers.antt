@@ -1,4 +1,4 @@
-use Rattle.lt_value.proofs.Settling.{skip_code}
+use Rattle.lt_value.proofs.MadeSettled.{skip_code}
 use Rattle.lt_value.proofs.operators.settle.skip_from.Goals as goal
 
 pub returns : goal.returns
