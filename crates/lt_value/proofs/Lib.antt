@@ -8,7 +8,7 @@ pub mod Cuts
 pub mod Relations
 pub mod Forms
 pub mod Truths
-mod Worked
+mod ComputedRows
 pub mod Entries
 pub mod Settled
 pub mod Corners

@@ -1,22 +1,19 @@
 -- The least `Num` of an entry, and of what is left of one in a type.
-use Rattle.std.proofs.Common.{arith, ◌≡◌, refl, sym, ◌∙◌, ap, subst, ℕ, ℤ, pos, negsuc, ◌+ℤ◌, ◌-ℤ◌, ◌≤ℤ◌, ◌<ℤ◌, ◌-◌, ◌%◌, ◌<◌, ◌≤◌, ◌⊎◌, inl, inr, ◌^◌, ◌↔◌, Bool, true, false, ◌||◌, ◌*◌, to_z, of_z}
-use Rattle.std.specs.Prelude.{unsigned_abs, neg_ℤ, Option, IfSome, IfNone}
-use Rattle.std.specs.Int.{◌∣◌, int_rem_euclid, int_min, int_max, IsGcd, IsNonNegative, w128}
+use Rattle.std.proofs.Common.{arith, ◌≡◌, sym, ◌∙◌, ap, subst, ℕ, ℤ, pos, negsuc, ◌+ℤ◌, ◌-ℤ◌, ◌≤ℤ◌, ◌<ℤ◌, ◌<◌, ◌≤◌, ◌⊎◌, inl, inr, ◌^◌, ◌↔◌, Bool, true, false, ◌||◌}
+use Rattle.std.specs.Prelude.{unsigned_abs, Option, IfSome, IfNone}
+use Rattle.std.specs.Int.{◌∣◌, int_rem_euclid, int_min, int_max, IsGcd}
 use Rattle.std.specs.Bool.{MatchBool}
-use mir.Val.{SFits}
-use Rattle.std.proofs.lemmas.Int.{ints, clamps, by_lt_z, to_z_pos, to_z-of_z}
-use Rattle.std.proofs.Math.Nat.{dvd-zero, dvd_trans, le_of_dvd, eq-zero-or-pos, eq-zero_of_zero-dvd, mod-eq_of_lt, mod-lt}
+use Rattle.std.proofs.lemmas.Int.{ints, clamps, by_lt_z}
+use Rattle.std.proofs.Math.Nat.{dvd-zero, le_of_dvd, eq-zero-or-pos, eq-zero_of_zero-dvd, mod-eq_of_lt}
 use Rattle.lt_model.specs.declared.scalar.DataModel.{DataModel}
 use Rattle.lt_model.specs.declared.scalar.Scalar.{Scalar}
 use Rattle.lt_model.specs.Scalar.{width_of, is_signed, least_of, greatest_of}
-use Rattle.lt_model.proofs.Ranges.{Bounds, bounds_of}
 use Rattle.lt_value.specs.Num.{Holds, IsExactly, IsEmpty, IsRun}
 use Rattle.lt_value.specs.Entry.{Entry, entry_of, IsIn, IsCongruent, IsSkip, IsKept, IsReduced, IsSettled, is_within, gcd_of}
 use Rattle.lt_value.specs.declared.num.Num.{Num}
 use Rattle.lt_value.proofs.Members.{gap_is}
 use Rattle.lt_value.proofs.Cuts.{if_some_as, if_none_as}
-use Rattle.lt_value.proofs.Settled.{within_from_test, test_from_within}
-use Rattle.lt_value.proofs.Entries.{abs_up, IsGcd-gcd_of, congruent_from_rests, gcd_is, IsCongruent-trans, IsCongruent-sym, IsCongruent-same}
+use Rattle.lt_value.proofs.Entries.{abs_up, congruent_from_rests, gcd_is, IsCongruent-trans, IsCongruent-sym, IsCongruent-same}
 
 -- ---- sets that are the same
 pub exactly_as : (p q : ℤ → Type 0) (n : Num) → ((z : ℤ) → p z → q z) → ((z : ℤ) → q z → p z) → IsExactly p n → IsExactly q n

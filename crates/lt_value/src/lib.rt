@@ -19,7 +19,9 @@ mod tests;
 mod worked;
 
 pub use lattice::{join, meet};
-pub use law::{common_divisor_law, forward_monotone_law, forward_sound_law, one_form_law, relation_law};
+pub use law::{
+    common_divisor_law, forward_monotone_law, forward_sound_law, one_form_law, relation_law,
+};
 pub use num::Num;
 pub use operators::forward;
 pub use progression::{between, single};
