@@ -1,5 +1,5 @@
 -- The grammar of translation units, C11 6.9, and the trees that some text has.
-use Rattle.std.specs.Prelude.{◌≡◌, ℕ, List, [], ◌∷◌, None}
+use Rattle.std.specs.Prelude.{◌≡◌, ℕ, ◌<◌, All, List, [], ◌∷◌, None}
 use Rattle.lt_token.specs.Tokens.{Token, Lexes}
 use Rattle.lt_tree.specs.declared.terminal.Terminal.TheVariants as t
 use Rattle.lt_tree.specs.Tree as c
@@ -31,6 +31,7 @@ Derives tokens unit spots = AreExternals [] (symbols tokens) unit spots []
 -- A tree is well-made if the tokens of some text derive it.
 pub record IsWellMade (unit : c.Unit) : Type 0 where
   pub text : List ℕ
+  pub bytes : All (λ b. b < 256) text
   pub tokens : List Token
   pub lexes : Lexes text tokens None
   pub spots : List ℕ
