@@ -1,3 +1,6 @@
+mod Pure
+mod Rows
+mod UnitRows
 mod SmallRows
 mod Spots
 mod SpotsOfExpressions

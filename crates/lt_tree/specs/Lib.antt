@@ -1,6 +1,11 @@
 pub mod Strings
 pub mod Tree
 pub mod Comma
+pub mod Strings
+pub mod Constants
+pub mod Erasure
+pub mod Ids
+pub mod Purity
 pub mod View
 pub mod Records
 pub mod UnitView

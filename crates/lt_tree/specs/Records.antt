@@ -24,6 +24,11 @@ abbrev pub maybe_in : Option (Box Expr) → t.Maybe
 maybe_in None = t.absent
 maybe_in (Some e) = t.present (expression_of e.value)
 
+-- the same before it is put into a box
+abbrev pub maybe_given : Option Expr → t.Maybe
+maybe_given None = t.absent
+maybe_given (Some e) = t.present (expression_of e)
+
 abbrev pub marks_in : List Mark → t.Marks
 marks_in [] = t.no_marks
 marks_in (first ∷ rest) = t.a_mark (mark_of first) (marks_in rest)

@@ -3,9 +3,12 @@
 
 mod declaration;
 mod declarator;
+mod escapes;
 mod expression;
 pub mod laws;
+pub mod makes;
 mod mark;
+mod purity;
 pub mod small;
 mod specifier;
 mod statement;
@@ -15,8 +18,10 @@ mod unit;
 
 pub use declaration::{Declaration, InitDeclarator, Initialiser};
 pub use declarator::{Declarator, DeclaratorPart, Parameter, Parameters};
+pub use escapes::{escape, hex_value};
 pub use expression::{Expr, LogicalOp, UnaryOp};
 pub use mark::{Binding, Mark};
+pub use purity::is_pure;
 pub use specifier::{
     BasicType, Enumerator, Member, MemberDeclarator, Specifiers, Storage, TypeName, TypeSpecifier,
     TypeWord,

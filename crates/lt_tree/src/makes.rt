@@ -1,0 +1,4 @@
+pub mod declarator;
+pub mod expression;
+pub mod specifier;
+pub mod statement;
