@@ -1,7 +1,6 @@
 pub mod Strings
 pub mod Tree
 pub mod Comma
-pub mod Strings
 pub mod Constants
 pub mod Erasure
 pub mod Ids
