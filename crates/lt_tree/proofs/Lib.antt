@@ -1,3 +1,7 @@
+mod Greatest
+mod GreatestRows
+mod GreatestUnit
+mod Numbers
 mod Pure
 mod Rows
 mod UnitRows

@@ -1,5 +1,5 @@
 -- What expressions hold in rows, as lists.
-use Rattle.std.proofs.Common.{◌≡◌, refl, sym, ap, ◌∙◌}
+use Rattle.std.proofs.Common.{◌≡◌, refl, sym, ap, ◌∙◌, ℕ, List, Option}
 use Rattle.std.specs.Global.{Box, Vec}
 use Rattle.lt_tree.specs.declared.expression.Expr.{Expr}
 use Rattle.lt_tree.specs.declared.mark.Mark.{Mark}
@@ -13,6 +13,8 @@ use Rattle.lt_tree.specs.declared.declarator.DeclaratorPart.{DeclaratorPart}
 use Rattle.lt_tree.specs.declared.declarator.Parameter.{Parameter}
 use Rattle.lt_tree.specs.declared.specifier.TypeName.{TypeName}
 use Rattle.lt_tree.specs.declared.expression.Expr.TheVariants as variant
+use Rattle.lt_tree.specs.declared.specifier.TypeSpecifier.TheVariants as kind
+use Rattle.lt_tree.specs.declared.declarator.DeclaratorPart.TheViews as views
 use Rattle.lt_tree.specs.declared.declarator.Parameters.TheVariants as listing
 use Rattle.lt_tree.specs.declared.declarator.DeclaratorPart.TheBlock as at
 use Rattle.lt_tree.specs.declared.expression.Expr as expr
@@ -126,3 +128,23 @@ listed_is v = ap t.Listed (parameters_are v)
 
 pub open_is : (v : Vec Parameter) → parameters_of (listing.Open v) ≡ t.Open (parameter_list_in v.items)
 open_is v = ap t.Open (parameters_are v)
+
+pub marked_is : (v : Vec Mark) (b : Box Expr) → expression_of (variant.Marked v b) ≡ t.Marked (marks_in v.items) (expression_of b.value)
+marked_is v b = ap (λ m. t.Marked m (expression_of b.value)) (marks_are v)
+
+-- a mark and a declaration among members, of the fields that they show
+pub mark_out : (m : Mark) → mark_of m ≡ t.mark (expression_of (views.out-Mark m).predicate) (views.out-Mark m).id (views.out-Mark m).tag (bindings_in (views.out-Mark m).bound.items)
+mark_out m =
+    ap mark_of (sym (views.roll-out-Mark m)) ∙ ap mark_of (views.rolls-struct-Mark (views.out-Mark m))
+    ∙ ap (t.mark (expression_of (views.out-Mark m).predicate) (views.out-Mark m).id (views.out-Mark m).tag) (bindings_are (views.out-Mark m).bound)
+
+pub member_out : (m : Member) → member_of m ≡ t.member (specifiers_of (views.out-Member m).specifiers) (member_declarators_in (views.out-Member m).declarators.items)
+member_out m =
+    ap member_of (sym (views.roll-out-Member m)) ∙ ap member_of (views.rolls-struct-Member (views.out-Member m))
+    ∙ member_is (views.out-Member m).specifiers (views.out-Member m).declarators
+
+pub struct_is : (tag : Option (List ℕ)) (v : Vec Member) → type_of (kind.Struct tag v) ≡ t.Struct tag (members_in v.items)
+struct_is tag v = ap (t.Struct tag) (members_are v)
+
+pub enum_is : (tag : Option (List ℕ)) (v : Vec Enumerator) → type_of (kind.Enum tag v) ≡ t.Enum tag (enumerators_in v.items)
+enum_is tag v = ap (t.Enum tag) (enumerators_are v)

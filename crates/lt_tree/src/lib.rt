@@ -1,11 +1,13 @@
 // Trees of C; `specs/Tree.antt` has them as values, and `specs/SmallMeaning.antt` says what a function of the small language does.
 #![tactic(auto)]
 
+mod constants;
 mod declaration;
 mod declarator;
 mod escapes;
 mod expression;
 pub mod laws;
+mod ids;
 pub mod makes;
 mod mark;
 mod purity;
@@ -20,6 +22,7 @@ pub use declaration::{Declaration, InitDeclarator, Initialiser};
 pub use declarator::{Declarator, DeclaratorPart, Parameter, Parameters};
 pub use escapes::{escape, hex_value};
 pub use expression::{Expr, LogicalOp, UnaryOp};
+pub use ids::max_id;
 pub use mark::{Binding, Mark};
 pub use purity::is_pure;
 pub use specifier::{

@@ -1,0 +1,4 @@
+mod expression;
+mod unit;
+
+pub use unit::max_id;
