@@ -1,11 +1,9 @@
 -- What stands at the front of the symbols.
-use Rattle.std.proofs.Common.{◌≡◌, ℕ, ◌||◌, Bool, true, false, cond, List, [], ◌∷◌, drop, Option, refl, sym, subst, rules}
-use denote.Enum.Bare.{same_true}
-use Rattle.lt_tree.specs.contracts.terminal.Terminal.{the_type}
+use Rattle.std.proofs.Common.{◌≡◌, ℕ, ◌||◌, Bool, true, false, cond, List, [], ◌∷◌, drop, Option, refl, sym, subst}
 use Rattle.lt_tree.specs.declared.terminal.Terminal.{Terminal}
 use Rattle.lt_tree.specs.declared.terminal.Terminal.TheVariants as t
 use Rattle.lt_tree.specs.Symbols.{Symbol, name, constant, literal, sign, start_of}
-use Rattle.lt_tree.specs.Ahead.{same_terminal, sees}
+use Rattle.lt_tree.specs.Ahead.{sees}
 use Rattle.lt_tree.specs.Grammar.{IsLiteral}
 use Rattle.lt_expr.specs.Front.{Rest, ◌>>=◌, behind, expect, name_at, id_at, tag_at, first_name, first_constant, first_value}
 use Rattle.lt_expr.proofs.CompleteFronts.{same_is}

@@ -1,12 +1,10 @@
 -- The names of types and their specifiers that are read are derived: a step of each reading function.
-use Rattle.std.proofs.Common.{◌≡◌, ℕ, suc, ◌||◌, ◌&&◌, not, Bool, true, false, List, [], ◌∷◌, drop, Option, Some, None, option_map, option_and_then, refl, sym, subst}
+use Rattle.std.proofs.Common.{◌≡◌, ℕ, suc, ◌||◌, ◌&&◌, not, Bool, true, false, List, [], ◌∷◌, drop, Option, Some, option_map, refl, subst}
 use Rattle.std.proofs.Math.Bool.{or-false, or-true}
-use Rattle.lt_tree.specs.declared.specifier.BasicType.{BasicType}
 use Rattle.lt_tree.specs.declared.terminal.Terminal.{Terminal}
 use Rattle.lt_tree.specs.declared.terminal.Terminal.TheVariants as t
 use Rattle.lt_tree.specs.Tree as c
 use Rattle.lt_tree.specs.Symbols.{Symbol, name, constant, literal, sign, start_of}
-use Rattle.lt_tree.specs.TypeWords.{words_alone, basic_of, or_as_they_stand, gathered}
 use Rattle.lt_tree.specs.Scope.{Scope, is_type}
 use Rattle.lt_tree.specs.Operators.{storage_of, type_word_of}
 use Rattle.lt_tree.specs.Grammar as g
@@ -15,7 +13,7 @@ use Rattle.lt_expr.specs.Front.{Rest, ◌>>=◌, if_some, behind, optional_name}
 use Rattle.lt_expr.specs.Specifier.{Specifier, storage_class, inline_word, noreturn_word, const_word, volatile_word, of_type, Found, with_specifier, names_type, word_specifier, one_specifier}
 use Rattle.lt_expr.specs.Walk.{Walked, walk_types}
 use Rattle.lt_expr.specs.Reading as read
-use Rattle.lt_expr.proofs.SoundSteps.{Yields, nothing, given, weaker, both, chosen, found, mapped, followed}
+use Rattle.lt_expr.proofs.SoundSteps.{Yields, nothing, given, weaker, both, chosen, found, mapped}
 use Rattle.lt_expr.proofs.Walks.{gathered_walk}
 use Rattle.lt_expr.proofs.SoundFronts.{Sees, at_front, seeing}
 use Rattle.lt_expr.proofs.SoundSpots.{Spotted, no_spot, by_rule, same_walk, two}

@@ -104,10 +104,10 @@ unfoldable mutual
       climb n scope start 0 first r >>= λ x.
       if sees t.Question x.1.0
       then
-        (expression n scope (behind x.1) >>= λ y.
-        expect t.Colon y.1 >>= λ us.
-        conditional n scope us >>= λ z.
-        Some (c.Conditional x.0 y.0 z.0, ended start z.1))
+      (expression n scope (behind x.1) >>= λ y.
+      expect t.Colon y.1 >>= λ us.
+      conditional n scope us >>= λ z.
+      Some (c.Conditional x.0 y.0 z.0, ended start z.1))
       else Some x
 
   -- operators that bind at least so tightly, and their operands, behind the left operand
@@ -116,9 +116,9 @@ unfoldable mutual
   climb (suc n) scope start least left r =
       if_some (operator_at least r.0)
       (λ o.
-        operand n scope (behind r) >>= λ x.
-        climb n scope (start_of (drop 1 r.0)) (o.1 + 1) x.0 x.1 >>= λ y.
-        climb n scope start least (operation o.0 left y.0) (ended start y.1))
+      operand n scope (behind r) >>= λ x.
+      climb n scope (start_of (drop 1 r.0)) (o.1 + 1) x.0 x.1 >>= λ y.
+      climb n scope start least (operation o.0 left y.0) (ended start y.1))
       (Some (left, r))
 
   -- cast = unary | '(' typename ')' cast
@@ -127,10 +127,10 @@ unfoldable mutual
   operand (suc n) scope r =
       if begins_cast scope r.0
       then
-        (type_name n scope (behind r) >>= λ t'.
-        expect t.CloseParen t'.1 >>= λ us.
-        operand n scope us >>= λ x.
-        Some (c.Cast t'.0.0 t'.0.1 x.0, ended (start_of r.0) x.1))
+      (type_name n scope (behind r) >>= λ t'.
+      expect t.CloseParen t'.1 >>= λ us.
+      operand n scope us >>= λ x.
+      Some (c.Cast t'.0.0 t'.0.1 x.0, ended (start_of r.0) x.1))
       else unary n scope r
 
   -- unary = postfix | ('++' | '--') unary | PREFIX cast | 'sizeof' unary | 'sizeof' '(' typename ')'
@@ -141,8 +141,8 @@ unfoldable mutual
       else (if sees t.Decrement r.0 then (unary n scope (behind r) >>= λ x. Some (c.PreDec x.0, ended (start_of r.0) x.1))
       else (if sees t.Sizeof r.0 then size n scope (start_of r.0) (behind r)
       else if_some (prefix_of (terminal_at r.0))
-        (λ op. operand n scope (behind r) >>= λ x. Some (c.Unary op x.0, ended (start_of r.0) x.1))
-        (primary n scope r >>= λ x. postfix n scope (start_of r.0) x.0 x.1)))
+      (λ op. operand n scope (behind r) >>= λ x. Some (c.Unary op x.0, ended (start_of r.0) x.1))
+      (primary n scope r >>= λ x. postfix n scope (start_of r.0) x.0 x.1)))
 
   -- behind `sizeof`, which begins at the start
   pub size : ℕ → Scope → ℕ → Reader c.Expression
@@ -227,11 +227,11 @@ unfoldable mutual
       if sees t.Label r.0
       then (labelled n scope (behind r) >>= λ l. expect t.CloseParen l.1 >>= λ us. Some (with_bindings l.0 c.no_bindings, ended (start_of r.0) us))
       else
-        (expect t.LabelBind r >>= λ us.
-        labelled n scope us >>= λ l.
-        bindings n scope l.1 >>= λ b.
-        expect t.CloseParen b.1 >>= λ vs.
-        Some (with_bindings l.0 b.0, ended (start_of r.0) vs))
+      (expect t.LabelBind r >>= λ us.
+      labelled n scope us >>= λ l.
+      bindings n scope l.1 >>= λ b.
+      expect t.CloseParen b.1 >>= λ vs.
+      Some (with_bindings l.0 b.0, ended (start_of r.0) vs))
 
   -- (',' NAME ',' assign)+
   pub bindings : ℕ → Scope → Reader c.Bindings
@@ -279,9 +279,9 @@ unfoldable mutual
   further (suc n) scope typed r =
       if begins_specifier scope typed r.0
       then
-        (specifier n scope r >>= λ s.
-        further n scope (typed || names_type s.0) s.1 >>= λ found.
-        Some (with_specifier s.0 found.0, found.1))
+      (specifier n scope r >>= λ s.
+      further n scope (typed || names_type s.0) s.1 >>= λ found.
+      Some (with_specifier s.0 found.0, found.1))
       else Some (none_found, r)
 
   pub specifier : ℕ → Scope → Reader Specifier
@@ -367,8 +367,8 @@ unfoldable mutual
   pointers (suc n) scope naming r =
       if sees t.Star r.0
       then
-        (pointers n scope naming ((qualifiers (drop 1 r.0)).1, r.1) >>= λ x.
-        Some ((x.0.0, joined x.0.1 (c.Pointer (qualifiers (drop 1 r.0)).0 c.no_parts)), x.1))
+      (pointers n scope naming ((qualifiers (drop 1 r.0)).1, r.1) >>= λ x.
+      Some ((x.0.0, joined x.0.1 (c.Pointer (qualifiers (drop 1 r.0)).0 c.no_parts)), x.1))
       else direct n scope naming r
 
   -- direct = (NAME? | '(' declarator ')') suffix*
@@ -377,10 +377,10 @@ unfoldable mutual
   direct (suc n) scope naming r =
       if begins_nested naming scope r.0
       then
-        (pointers n scope naming (behind r) >>= λ x.
-        expect t.CloseParen x.1 >>= λ us.
-        suffixes n scope us >>= λ y.
-        Some ((x.0.0, joined x.0.1 y.0), y.1))
+      (pointers n scope naming (behind r) >>= λ x.
+      expect t.CloseParen x.1 >>= λ us.
+      suffixes n scope us >>= λ y.
+      Some ((x.0.0, joined x.0.1 y.0), y.1))
       else (own_name naming scope r >>= λ w. suffixes n scope w.1 >>= λ y. Some ((w.0, y.0), y.1))
 
   -- suffix*

@@ -1,3 +1,4 @@
+use Rattle.std.proofs.Common.{[]}
 use Rattle.lt_expr.proofs.CompleteWhole.{whole_is_read}
 use Rattle.lt_expr.proofs.laws.derived_is_read.Goals as goal
 
