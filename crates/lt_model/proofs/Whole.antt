@@ -1,6 +1,6 @@
 -- The ring of the whole numbers, and its order.
 use Rattle.std.proofs.Common.{arith, ◌≡◌, refl, sym, ◌∙◌, ap, ℕ, ℤ, pos, negsuc, ◌+ℤ◌, ◌-ℤ◌, ◌*ℤ◌, ◌≤ℤ◌, ◌<ℤ◌, ◌+◌, ◌-◌, ◌*◌, ◌<◌, ◌≤◌}
-use Rattle.std.specs.Prelude.{neg_ℤ}
+use Rattle.std.specs.Prelude.{neg_ℤ, unsigned_abs}
 use Rattle.std.proofs.lemmas.Int.{ints}
 use borrow.Author.Differences.{up, down, same_in, neg_is, product_is, sum_is_lem, at_most_in, le_out}
 
@@ -43,3 +43,12 @@ neg-mul_ℤ a b = same_in (neg_ℤ a *ℤ b) (neg_ℤ (a *ℤ b)) (simp (up_prod
 
     down_neg : (z : ℤ) → down (neg_ℤ z) ≡ up z
     down_neg z = (neg_is z).1
+
+-- ---- sizes
+pub abs_up : (z : ℤ) → pos 0 ≤ℤ z → pos (unsigned_abs z) ≡ z
+abs_up (pos n) h = refl
+abs_up (negsuc n) h = absurd (omega (arith, ints))
+
+pub abs_down : (z : ℤ) → z ≤ℤ pos 0 → pos (unsigned_abs z) ≡ neg_ℤ z
+abs_down (pos n) h = omega (arith, ints)
+abs_down (negsuc n) h = omega (arith, ints)

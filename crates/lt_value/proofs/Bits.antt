@@ -17,7 +17,8 @@ use Rattle.lt_value.specs.Table.{exact_or_row, and_row, or_row, mask_of}
 use Rattle.lt_value.specs.declared.num.Num.{Num}
 use Rattle.lt_value.proofs.Orders.{le_true, le_false, le_test}
 use Rattle.lt_value.proofs.Members.{lo_holds, hi_holds}
-use Rattle.lt_value.proofs.Entries.{one_member, one_congruent, IsCongruent-same, abs_up}
+use Rattle.lt_model.proofs.Whole.{abs_up}
+use Rattle.lt_value.proofs.Entries.{one_member, one_congruent, IsCongruent-same}
 use Rattle.lt_value.proofs.Masks.{greatest_power, mask_is, mask_least, mask_grows}
 use Rattle.lt_value.proofs.Products.{still_single}
 use Rattle.lt_value.proofs.Settled.{IsWider, wrapped_same}

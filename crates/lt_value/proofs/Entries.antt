@@ -1,5 +1,5 @@
 -- Numbers that are congruent, and the greatest common divisor.
-use Rattle.std.proofs.Common.{arith, ◌≡◌, refl, sym, ◌∙◌, ap, subst, ℕ, ℤ, pos, negsuc, suc, zero, ◌+ℤ◌, ◌-ℤ◌, ◌*ℤ◌, ◌≤ℤ◌, ◌+◌, ◌-◌, ◌*◌, ◌%◌, ◌<◌, inl, inr, Bool, true, false}
+use Rattle.std.proofs.Common.{arith, ◌≡◌, refl, sym, ◌∙◌, ap, subst, ℕ, ℤ, pos, negsuc, suc, zero, ◌+ℤ◌, ◌-ℤ◌, ◌*ℤ◌, ◌+◌, ◌-◌, ◌*◌, ◌%◌, ◌<◌, inl, inr, Bool, true, false}
 use Rattle.std.specs.Prelude.{unsigned_abs, neg_ℤ, ◌==◌, if◌then◌else◌}
 use Rattle.std.specs.Int.{◌∣◌, int_rem_euclid, IsGcd}
 use Rattle.std.proofs.lemmas.Int.{ints, by_lt_z, unsigned_abs-mul}
@@ -7,7 +7,7 @@ use Rattle.std.proofs.lemmas.Bool.{eqb-true, eqb-false, eq-eqb}
 use Rattle.std.proofs.lemmas.Nat.Gcd.{IsGcd-from_zero, IsGcd-from_mod, same_from_IsGcd}
 use Rattle.std.proofs.Math.Nat.{dvd-zero, dvd_trans, dvd-add, dvd-sub, one-dvd, mod-lt, mod-eq_of_lt, pos_of_ne-zero, mul-dvd-mul_right, eq-zero-or-pos}
 use Rattle.std.proofs.Math.Dec.{eqb-suc-zero}
-use Rattle.lt_model.proofs.Whole.{add-mul_ℤ, neg-mul_ℤ}
+use Rattle.lt_model.proofs.Whole.{abs_up, abs_down, add-mul_ℤ, neg-mul_ℤ}
 use Rattle.lt_value.specs.Num.{Holds}
 use Rattle.lt_value.specs.Entry.{IsCongruent, gcd_by, gcd_of, rest_of}
 use Rattle.lt_value.specs.declared.num.Num.{Num}
@@ -38,14 +38,6 @@ gcd_divides a b c d p q =
     (IsGcd-gcd_of c d).2 (gcd_of a b) (dvd_trans (gcd_of a b) g.0 p) (dvd_trans (gcd_of a b) g.1 q)
 
 -- ---- congruence
-pub abs_up : (z : ℤ) → pos 0 ≤ℤ z → pos (unsigned_abs z) ≡ z
-abs_up (pos n) h = refl
-abs_up (negsuc n) h = absurd (omega (arith, ints))
-
-pub abs_down : (z : ℤ) → z ≤ℤ pos 0 → pos (unsigned_abs z) ≡ neg_ℤ z
-abs_down (pos n) h = omega (arith, ints)
-abs_down (negsuc n) h = omega (arith, ints)
-
 pub congruent_from_rests : (s : ℕ) (x y : ℤ) → 0 < s → int_rem_euclid x (pos s) ≡ int_rem_euclid y (pos s) → s ∣ unsigned_abs (x -ℤ y)
 congruent_from_rests s x y some e =
     by_lt_z x y

@@ -1,6 +1,5 @@
 -- The join of two `Num`s.
-use Rattle.std.proofs.Common.{arith, ◌≡◌, refl, sym, ◌∙◌, ap, subst, ℕ, ℤ, pos, negsuc, ◌-ℤ◌, ◌≤ℤ◌, ◌<ℤ◌, ◌+◌, ◌-◌, ◌<◌, inl, inr}
-use Rattle.std.specs.Prelude.{neg_ℤ}
+use Rattle.std.proofs.Common.{arith, ◌≡◌, sym, ◌∙◌, ap, subst, ℕ, ℤ, pos, ◌-ℤ◌, ◌≤ℤ◌, ◌<ℤ◌, ◌+◌, ◌-◌, ◌<◌, inl, inr}
 use Rattle.std.specs.Int.{w128}
 use Rattle.std.proofs.Common.{to_z, of_z}
 use Rattle.std.proofs.lemmas.Int.{to_z-of_z}
@@ -10,6 +9,7 @@ use Rattle.std.specs.Prelude.{unsigned_abs}
 use Rattle.std.specs.Int.{◌∣◌, int_min, int_max, IsGcd}
 use Rattle.std.proofs.lemmas.Int.{ints, clamps, by_lt_z}
 use Rattle.std.proofs.Math.Nat.{dvd-zero, dvd_trans, dvd-add, dvd-sub, eq-zero-or-pos, eq-zero_of_zero-dvd}
+use Rattle.lt_model.proofs.Whole.{abs_up, abs_down}
 use Rattle.lt_value.specs.Progression.{AreEnds}
 use Rattle.lt_value.specs.Num.{Holds, IsBelow}
 use Rattle.lt_value.specs.declared.num.Num.{Num}
@@ -25,19 +25,11 @@ pub record IsJoined (a b : Num) (apart : ℕ) (lo hi : ℤ) (step : ℕ) : Type 
   pub divides_apart : step ∣ apart
   pub greatest : (d : ℕ) → d ∣ a.step → d ∣ b.step → d ∣ apart → d ∣ step
 
-abs_below : (z : ℤ) → z ≤ℤ pos 0 → pos (unsigned_abs z) ≡ neg_ℤ z
-abs_below (pos n) h = omega (arith, ints)
-abs_below (negsuc n) h = omega (arith, ints)
-
-abs_above : (z : ℤ) → pos 0 ≤ℤ z → pos (unsigned_abs z) ≡ z
-abs_above (pos n) h = refl
-abs_above (negsuc n) h = absurd (omega (arith, ints))
-
 -- how far the least of a, and that of b, is above the least of the join
 low_apart : (a b : Num) (apart : ℕ) (lo hi : ℤ) (step : ℕ) → IsJoined a b apart lo hi step → (x y : ℕ) × (pos x ≡ a.lo -ℤ lo) × (pos y ≡ b.lo -ℤ lo) × (step ∣ x) × (step ∣ y)
 low_apart a b apart lo hi step j = by_lt_z a.lo b.lo
-    (λ less. (0, apart, omega (arith, ints, clamps, j.lo_is), omega (arith, ints, clamps, j.lo_is, ap pos j.apart_is ∙ abs_below (a.lo -ℤ b.lo) (omega (arith, ints))), dvd-zero step, j.divides_apart))
-    (λ more. (apart, 0, omega (arith, ints, clamps, j.lo_is, ap pos j.apart_is ∙ abs_above (a.lo -ℤ b.lo) (omega (arith, ints))), omega (arith, ints, clamps, j.lo_is), j.divides_apart, dvd-zero step))
+    (λ less. (0, apart, omega (arith, ints, clamps, j.lo_is), omega (arith, ints, clamps, j.lo_is, ap pos j.apart_is ∙ abs_down (a.lo -ℤ b.lo) (omega (arith, ints))), dvd-zero step, j.divides_apart))
+    (λ more. (apart, 0, omega (arith, ints, clamps, j.lo_is, ap pos j.apart_is ∙ abs_up (a.lo -ℤ b.lo) (omega (arith, ints))), omega (arith, ints, clamps, j.lo_is), j.divides_apart, dvd-zero step))
 
 -- a multiple of the step reaches from the least of the join to each member of a
 reaches : (a : Num) (lo z : ℤ) (step x g : ℕ) → step ∣ a.step → step ∣ x → pos x ≡ a.lo -ℤ lo → Holds a z → pos g ≡ z -ℤ lo → step ∣ g
@@ -65,7 +57,7 @@ none_from_ends : (a b : Num) (apart : ℕ) (lo hi : ℤ) (step : ℕ) → IsJoin
 none_from_ends a b apart lo hi step j h =
     let ea : a.step ≡ 0 = none_from_one a (omega (arith, ints, clamps, j.lo_is, j.hi_is)) in
     let eb : b.step ≡ 0 = none_from_one b (omega (arith, ints, clamps, j.lo_is, j.hi_is)) in
-    let ec : apart ≡ 0 = omega (arith, ints, clamps, j.lo_is, j.hi_is, a.canonical.ordered, b.canonical.ordered, ap pos j.apart_is ∙ abs_above (a.lo -ℤ b.lo) (omega (arith, ints, clamps, j.lo_is, j.hi_is, a.canonical.ordered, b.canonical.ordered))) in
+    let ec : apart ≡ 0 = omega (arith, ints, clamps, j.lo_is, j.hi_is, a.canonical.ordered, b.canonical.ordered, ap pos j.apart_is ∙ abs_up (a.lo -ℤ b.lo) (omega (arith, ints, clamps, j.lo_is, j.hi_is, a.canonical.ordered, b.canonical.ordered))) in
     let all : (k : ℕ) → k ≡ 0 → 0 ∣ k = λ k e. subst (λ (m : ℕ). 0 ∣ m) (sym e) (dvd-zero 0) in
     eq-zero_of_zero-dvd (j.greatest 0 (all a.step ea) (all b.step eb) (all apart ec))
 
@@ -107,8 +99,8 @@ join_is_least a b r apart j n left right z h =
     let ha : Holds n a.hi = left a.hi (hi_holds a) in
     let hb : Holds n b.hi = right b.hi (hi_holds b) in
     let apart_in : n.step ∣ apart = by_lt_z a.lo b.lo
-    (λ less. apart_by_step n a.lo b.lo apart la lb (omega (arith, ints, ap pos j.apart_is ∙ abs_below (a.lo -ℤ b.lo) (omega (arith, ints)))))
-    (λ more. apart_by_step n b.lo a.lo apart lb la (omega (arith, ints, ap pos j.apart_is ∙ abs_above (a.lo -ℤ b.lo) (omega (arith, ints))))) in
+    (λ less. apart_by_step n a.lo b.lo apart la lb (omega (arith, ints, ap pos j.apart_is ∙ abs_down (a.lo -ℤ b.lo) (omega (arith, ints)))))
+    (λ more. apart_by_step n b.lo a.lo apart lb la (omega (arith, ints, ap pos j.apart_is ∙ abs_up (a.lo -ℤ b.lo) (omega (arith, ints))))) in
     let finer : n.step ∣ r.step = j.greatest n.step (step_divides a n left) (step_divides b n right) apart_in in
     let (k, kis) = gap_is r.lo z h.above in
     let kd : n.step ∣ k = dvd_trans n.step finer (apart_by_step r r.lo z k (lo_holds r) h kis) in

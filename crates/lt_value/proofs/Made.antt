@@ -14,7 +14,8 @@ use Rattle.lt_value.specs.Entry.{Entry, entry_of, IsIn, IsCongruent, IsSettled, 
 use Rattle.lt_value.specs.Table.{product, sum_row, difference_row, product_row, product_step, least_corner, greatest_corner}
 use Rattle.lt_value.specs.declared.num.Num.{Num}
 use Rattle.lt_value.proofs.Members.{gap_is, lo_holds, hi_holds, apart_by_step, lo_fits, hi_fits}
-use Rattle.lt_value.proofs.Entries.{gcd_is, abs_up, one_congruent, IsCongruent-sym}
+use Rattle.lt_model.proofs.Whole.{abs_up}
+use Rattle.lt_value.proofs.Entries.{gcd_is, one_congruent, IsCongruent-sym}
 use Rattle.lt_value.proofs.Sums.{sum_holds, difference_holds}
 use Rattle.lt_value.proofs.Products.{product_holds}
 use Rattle.lt_value.proofs.Corners.{at_least_corner, four_least, four_greatest}

@@ -17,7 +17,7 @@ use Rattle.lt_value.specs.declared.num.Num.{Num}
 use Rattle.lt_value.proofs.Orders.{le_true}
 use Rattle.lt_value.proofs.Members.{lo_fits, hi_fits}
 use Rattle.lt_value.proofs.Cuts.{if_some_as, if_none_as}
-use Rattle.lt_value.proofs.Entries.{abs_up}
+use Rattle.lt_model.proofs.Whole.{abs_up}
 use Rattle.lt_value.proofs.Settling.{exactly_as, rest_alone}
 use Rattle.lt_value.proofs.MadeAnswers.{plain, same_number}
 use Rattle.lt_value.proofs.Made.{min_fits, max_fits, within_settled, ones_made, ones_settled}

@@ -13,7 +13,8 @@ use Rattle.lt_value.specs.Num.{IsExactly}
 use Rattle.lt_value.specs.Entry.{Entry, entry_of, IsIn, IsCongruent, IsSkip, IsKept, IsReduced, IsSettled, is_within, gcd_of}
 use Rattle.lt_value.specs.declared.num.Num.{Num}
 use Rattle.lt_value.proofs.Settled.{within_from_test, test_from_within}
-use Rattle.lt_value.proofs.Entries.{abs_up, IsGcd-gcd_of, congruent_from_rests, IsCongruent-trans, IsCongruent-sym}
+use Rattle.lt_model.proofs.Whole.{abs_up}
+use Rattle.lt_value.proofs.Entries.{IsGcd-gcd_of, congruent_from_rests, IsCongruent-trans, IsCongruent-sym}
 use Rattle.lt_value.proofs.Settling.{exactly_as, settled_kept, settled_reduced, skip_is}
 
 -- ---- as the code computes them

@@ -15,7 +15,7 @@ use Rattle.lt_value.specs.Table.{power, left_shift_row, right_shift, least_corne
 use Rattle.lt_value.specs.Forward.{AreTaken, IsCount}
 use Rattle.lt_value.specs.declared.num.Num.{Num}
 use Rattle.lt_value.proofs.Members.{lo_holds, lo_fits, hi_fits}
-use Rattle.lt_value.proofs.Entries.{abs_up}
+use Rattle.lt_model.proofs.Whole.{abs_up}
 use Rattle.lt_value.proofs.Corners.{least_corner_above, greatest_corner_below}
 use Rattle.lt_value.proofs.Shifts.{left_shift_holds, power_grows}
 use Rattle.lt_value.proofs.Bits.{AreValues, member_value}

@@ -42,12 +42,3 @@ inverse_step a m u v q x y r next some below is p s e =
     ap (λ k. k % m) (sym (mul-add a next w) ∙ mul_comm a (next + w)) ∙ same_mul m (next + w) u a back ∙ ap (λ k. k % m) (mul_comm u a) ∙ p in
     let moved : (a * w + a * next) % m ≡ (q * y + a * next) % m = same_add m (a * w) (q * y) (a * next) taken in
     same_cancel m (a * next) r (q * y) some (ap (λ k. k % m) (add_comm (a * next) (q * y)) ∙ sym moved ∙ ap (λ k. k % m) (add_comm (a * w) (a * next)) ∙ whole ∙ ap (λ k. k % m) (is ∙ add_comm (q * y) r))
-
-ring_try : (a q v : ℕ) → a * (q * v) ≡ a * v * q
-ring_try a q v = grind arith
-
-ring_try2 : (a q v : ℕ) → a * (q + v) * 2 ≡ a * v * 2 + 2 * (q * a)
-ring_try2 a q v = grind arith
-
-ring_try3 : (a q v : ℕ) → a * (q + v) * 2 ≡ a * v * 2 + 2 * (q * a)
-ring_try3 a q v = omega arith

@@ -13,7 +13,8 @@ use Rattle.lt_value.specs.Entry.{Entry, entry_of, IsIn, IsCongruent, IsSkip, IsK
 use Rattle.lt_value.specs.declared.num.Num.{Num}
 use Rattle.lt_value.proofs.Members.{gap_is}
 use Rattle.lt_value.proofs.Cuts.{if_some_as, if_none_as}
-use Rattle.lt_value.proofs.Entries.{abs_up, congruent_from_rests, gcd_is, IsCongruent-trans, IsCongruent-sym, IsCongruent-same}
+use Rattle.lt_model.proofs.Whole.{abs_up}
+use Rattle.lt_value.proofs.Entries.{congruent_from_rests, gcd_is, IsCongruent-trans, IsCongruent-sym, IsCongruent-same}
 
 -- ---- sets that are the same
 pub exactly_as : (p q : ℤ → Type 0) (n : Num) → ((z : ℤ) → p z → q z) → ((z : ℤ) → q z → p z) → IsExactly p n → IsExactly q n
