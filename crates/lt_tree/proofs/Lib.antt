@@ -3,8 +3,8 @@ mod GreatestRows
 mod GreatestUnit
 mod Numbers
 mod Pure
-mod Rows
-mod UnitRows
+pub mod Rows
+pub mod UnitRows
 mod SmallRows
 mod Spots
 mod SpotsOfExpressions

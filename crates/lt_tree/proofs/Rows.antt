@@ -42,7 +42,7 @@ marks_row (at.more_of-Mark first rest) = ap (t.a_mark (mark_of first)) (marks_ro
 pub marks_are : (v : Vec Mark) → marks_of (at.hidden-the_row-Mark-4 v) ≡ marks_in v.items
 marks_are v = marks_row (at.hidden-the_row-Mark-4 v) ∙ ap marks_in (expr.items_hidden-the_row-Mark-4 v)
 
-bindings_row : {n : _} → (row : at.Row_of-Binding n) → bindings_of row ≡ bindings_in (at.items-the_row-Binding n row)
+pub bindings_row : {n : _} → (row : at.Row_of-Binding n) → bindings_of row ≡ bindings_in (at.items-the_row-Binding n row)
 bindings_row at.end_of-Binding = refl
 bindings_row (at.more_of-Binding name value rest) = ap (t.a_binding name (expression_of value)) (bindings_row rest)
 
@@ -79,7 +79,7 @@ pub enumerators_are : (v : Vec Enumerator) → enumerators_of (at.hidden-the_row
 enumerators_are v = enumerators_row (at.hidden-the_row-Enumerator-6 v) ∙ ap enumerators_in (spec.items_hidden-the_row-Enumerator-6 v)
 
 -- the types that a value shows
-types_shown : (shape : _) (row : at.Row_of-TypeSpecifier _) → types_of row ≡ types_in (at.shown-the_row-TypeSpecifier-0 shape row).items
+pub types_shown : (shape : _) (row : at.Row_of-TypeSpecifier _) → types_of row ≡ types_in (at.shown-the_row-TypeSpecifier-0 shape row).items
 types_shown shape row = types_row row ∙ sym (ap types_in (specs.items_shown-the_row-TypeSpecifier-0 shape row))
 
 parts_shown : (shape : _) (row : at.Row_of-DeclaratorPart _) → parts_of row ≡ parts_in (at.shown-the_row-DeclaratorPart-1 shape row).items
@@ -93,7 +93,7 @@ parameters_row (at.more_of-Parameter storage inline noreturn quals shape types n
 pub parameters_are : (v : Vec Parameter) → parameter_list_of (at.hidden-the_row-Parameter-2 v) ≡ parameter_list_in v.items
 parameters_are v = parameters_row (at.hidden-the_row-Parameter-2 v) ∙ ap parameter_list_in (params.items_hidden-the_row-Parameter-2 v)
 
-member_declarators_row : {n : _} → (row : at.Row_of-MemberDeclarator n) → member_declarators_of row ≡ member_declarators_in (at.items-the_row-MemberDeclarator n row)
+pub member_declarators_row : {n : _} → (row : at.Row_of-MemberDeclarator n) → member_declarators_of row ≡ member_declarators_in (at.items-the_row-MemberDeclarator n row)
 member_declarators_row at.end_of-MemberDeclarator = refl
 member_declarators_row (at.more_of-MemberDeclarator name shape parts at.None' rest) = cc (parts_shown shape parts, member_declarators_row rest)
 member_declarators_row (at.more_of-MemberDeclarator name shape parts (at.Some' p e) rest) = cc (parts_shown shape parts, member_declarators_row rest)

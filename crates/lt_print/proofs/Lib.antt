@@ -1,0 +1,13 @@
+pub mod Texts
+pub mod Lists
+pub mod Words
+pub mod Declarators
+pub mod Places
+pub mod Heads
+pub mod Rows
+pub mod Lines
+pub mod Nodes
+pub mod Types
+pub mod Structs
+pub mod Marks
+pub mod Units

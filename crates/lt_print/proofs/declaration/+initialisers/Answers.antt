@@ -1,0 +1,46 @@
+use Rattle.std.proofs.Common.{◌≡◌, ◌++◌, ◌||◌, ◌&&◌, ◌∷◌, [], ◌+◌, ℕ, suc, List, Bool, true, false, not, eqb, ltb, map, drop, length, if◌then◌else◌, option_map, refl, ap, sym, ◌∙◌, append_assoc, arith}
+use Rattle.std.proofs.lemmas.List.{append-nil}
+use Rattle.std.specs.List.{flat_map}
+use Rattle.lt_tree.specs.declared.terminal.Terminal.TheVariants as k
+use Rattle.lt_tree.specs.declared.expression.Expr.{Expr}
+use Rattle.lt_tree.specs.declared.declaration.InitDeclarator.{InitDeclarator}
+use Rattle.lt_tree.specs.declared.declaration.Initialiser.{Initialiser}
+use Rattle.lt_tree.specs.declared.statement.Stmt.{Stmt}
+use Rattle.lt_tree.specs.declared.statement.Item.{Item}
+use Rattle.lt_tree.specs.declared.statement.Label.{Label}
+use Rattle.lt_tree.specs.declared.statement.SwitchCase.{SwitchCase}
+use Rattle.lt_tree.specs.declared.unit.External.{External}
+use Rattle.lt_tree.specs.Tree as tree
+use Rattle.lt_tree.specs.Pieces.{gap, indent, line_end, text_of}
+use Rattle.lt_tree.specs.View.{expression_of}
+use Rattle.lt_tree.specs.Records.{specifiers_of, declarator_of}
+use Rattle.lt_tree.specs.UnitView.{initialiser_of, initialisers_in, init_declarator_of, declaration_of, label_of, statement_of, item_before, items_in, cases_in, external_of, unit_of}
+use Rattle.lt_tree.specs.Canon.{Pieces, comma_gap, sign, gap_if, apart, specifiers, declarator}
+use Rattle.lt_tree.specs.CanonUnits.{initialiser, initialisers, init_declarators, declaration, label_line, lines, item_lines, case_lines, external, canon}
+use Rattle.lt_print.specs.Lists.{separated, behind, stands}
+use Rattle.lt_print.specs.Statements.{declared_stand, is_compound, body_lines, else_lines, case_block}
+use Rattle.lt_print.proofs.Texts.{on_ok, text_append}
+use Rattle.lt_print.proofs.Words.{joined}
+use Rattle.lt_print.proofs.Lists.{one_more}
+use Rattle.lt_print.proofs.Rows.{next, ended}
+use Rattle.lt_print.proofs.Types.{apart_text}
+use Rattle.lt_print.proofs.Units.{initialiser_at, init_declarator_at, initialisers_are, init_declarators_are, braces_is, one_declared, several_declared, declaration_text, body_behind, body_below, compound_is, switch_is, if_is, block_text, items_step, cases_step}
+use Rattle.lt_print.proofs.declaration.+initialisers.Goals as goal
+
+pub put_initialisers-loop-at-init : goal.put_initialisers-loop-at-init
+put_initialisers-loop-at-init t c = ap (λ (x : Pieces). c.args.out.now.items ++ text_of x) (sym (initialisers_are c.args.line c.args.parts.now))
+
+pub put_initialisers-loop-at-preserved : goal.put_initialisers-loop-at-preserved
+put_initialisers-loop-at-preserved t c =
+    one_more (initialiser_at c.args.line) comma_gap c.args.parts.now c.loop-at.at c.index-parts-at.result c.loop-at.out.items _ _ _ c.loop-at-test.true c.index-parts-at.is c.in_ok-put_comma_unless.ensures c.in_ok-put_initialiser.ensures c.loop-at.invariant
+
+pub put_initialisers-returns : goal.put_initialisers-returns
+put_initialisers-returns t c =
+    ended (λ (l : List Initialiser). separated comma_gap (eqb c.loop-at.at 0) (map (initialiser_at c.args.line) l)) c.args.parts.now c.loop-at.at _ _ (omega arith) refl c.loop-at.invariant
+
+pub put_initialiser-returns-in_ok-put_initialisers-in-List : goal.put_initialiser-returns-in_ok-put_initialisers-in-List
+put_initialiser-returns-in_ok-put_initialisers-in-List t c =
+    on_ok c.put_sign-in-List.result
+      (λ e. joined _ _ _ _ _ (joined _ _ _ _ _ c.in_ok-put_sign-in-List.ensures c.in_ok-put_initialisers-in-List.ensures) e ∙ ap (λ (x : tree.Initialiser). c.args.out.now.items ++ text_of (initialiser c.args.line x))
+        (sym (ap initialiser_of c.in-List.is ∙ braces_is c.in-List.parts ∙ ap (λ (x : List Initialiser). tree.Braces (initialisers_in x)) (sym c.deref.ensures.value))))
+      c.put_sign-in-List.ensures
