@@ -49,10 +49,10 @@ around_is n inner pointer (c.Pointer q rest) =
     step false = ap (λ (x : Pieces). front true rest ++ (x ++ back n true rest)) (pointing_is q inner) ∙ simp append_assoc
 around_is n inner pointer (c.Array length rest) =
     around_is n (grouped pointer inner ++ sign t.OpenIndex ∷ maybe n length ++ sign t.CloseIndex ∷ []) false rest
-      ∙ rw (no_word (is_suffixed rest), stands_more (grouped pointer inner ++ sign t.OpenIndex ∷ maybe n length) (sign t.CloseIndex) [], grouped_is pointer inner) (simp append_assoc)
+    ∙ rw (no_word (is_suffixed rest), stands_more (grouped pointer inner ++ sign t.OpenIndex ∷ maybe n length) (sign t.CloseIndex) [], grouped_is pointer inner) (simp append_assoc)
 around_is n inner pointer (c.Function ps rest) =
     around_is n (grouped pointer inner ++ in_parentheses (parameters n ps)) false rest
-      ∙ rw (no_word (is_suffixed rest), stands_more (grouped pointer inner) (sign t.OpenParen) (parameters n ps ++ sign t.CloseParen ∷ []), grouped_is pointer inner) (simp append_assoc)
+    ∙ rw (no_word (is_suffixed rest), stands_more (grouped pointer inner) (sign t.OpenParen) (parameters n ps ++ sign t.CloseParen ∷ []), grouped_is pointer inner) (simp append_assoc)
 
 pub stands_around : (n : ℕ) (inner : Pieces) (pointer : Bool) (parts : c.Parts) → stands inner ≡ true → stands (around n inner pointer parts) ≡ true
 unfolding around
@@ -100,7 +100,7 @@ pub declarator_text : (n : ℕ) (w : Option (List ℕ)) (parts first second : Li
 unfolding around
 declarator_text n w parts first second named out a b now is one two e f g =
     joined out b now (front named (parts_in first) ++ name_if w) (back n false (parts_in second)) (joined out a b (front named (parts_in first)) (name_if w) e f) g
-      ∙ ap (λ (x : Pieces). out ++ text_of x) (same ∙ sym (around_is n (name_if w) false (parts_in parts)))
+    ∙ ap (λ (x : Pieces). out ++ text_of x) (same ∙ sym (around_is n (name_if w) false (parts_in parts)))
   where
     same : (front named (parts_in first) ++ name_if w) ++ back n false (parts_in second)
         ≡ front (stands (name_if w)) (parts_in parts) ++ (word_if (is_suffixed (parts_in parts) && false) t.OpenParen ++ (name_if w ++ back n false (parts_in parts)))
@@ -119,11 +119,12 @@ pub front_pointer : (named : Bool) (parts : List DeclaratorPart) (i at : ℕ) (x
 front_pointer named parts i at x q suffixed start out a now is lt item this (told, suf) e f =
     let here : drop i parts ≡ variant.Pointer q ∷ drop at parts = drop_more parts i x lt ∙ ap (λ (y : DeclaratorPart). y ∷ drop (i + 1) parts) (sym item ∙ this) ∙ ap (λ (k : ℕ). variant.Pointer q ∷ drop k parts) (sym is) in
     let more : (named || ltb 0 at) ≡ true = later named at (omega arith) in
-    let behind_all = joined _ _ _ _ _ told (joined _ _ _ _ _ e f) in
-    (behind_all ∙ ap (λ (x : Pieces). start ++ text_of x) (ap (λ (b : Bool). front b (parts_in (drop at parts)) ++ (word_if suffixed t.OpenParen ++ star (qualifiers_of q) (named || ltb 0 i))) more
-        ∙ ap (λ (b : Bool). front true (parts_in (drop at parts)) ++ (word_if b t.OpenParen ++ star (qualifiers_of q) (named || ltb 0 i))) suf
-        ∙ ap (λ (l : List DeclaratorPart). front (named || ltb 0 i) (parts_in l)) (sym here)),
-     ap (λ (l : List DeclaratorPart). is_suffixed (parts_in l)) (sym here))
+    let behind_all = joined _ _ _ _ _ told (joined _ _ _ _ _ e f) in (
+      behind_all ∙ ap (λ (x : Pieces). start ++ text_of x) (ap (λ (b : Bool). front b (parts_in (drop at parts)) ++ (word_if suffixed t.OpenParen ++ star (qualifiers_of q) (named || ltb 0 i))) more
+          ∙ ap (λ (b : Bool). front true (parts_in (drop at parts)) ++ (word_if b t.OpenParen ++ star (qualifiers_of q) (named || ltb 0 i))) suf
+          ∙ ap (λ (l : List DeclaratorPart). front (named || ltb 0 i) (parts_in l)) (sym here)),
+      ap (λ (l : List DeclaratorPart). is_suffixed (parts_in l)) (sym here),
+    )
 
 -- it is none
 pub front_suffix : (named : Bool) (parts : List DeclaratorPart) (i at : ℕ) (x : DeclaratorPart) (suffixed : Bool) (start out : List ℕ)
@@ -132,10 +133,11 @@ pub front_suffix : (named : Bool) (parts : List DeclaratorPart) (i at : ℕ) (x 
     → (out ≡ start ++ text_of (front (named || ltb 0 i) (parts_in (drop i parts)))) × (true ≡ is_suffixed (parts_in (drop i parts)))
 front_suffix named parts i at x suffixed start out is lt item none (told, suf) =
     let here : drop i parts ≡ x ∷ drop at parts = drop_more parts i x lt ∙ ap (λ (y : DeclaratorPart). y ∷ drop (i + 1) parts) (sym item) ∙ ap (λ (k : ℕ). x ∷ drop k parts) (sym is) in
-    let more : (named || ltb 0 at) ≡ true = later named at (omega arith) in
-    (told ∙ ap (λ (b : Bool). start ++ text_of (front b (parts_in (drop at parts)))) more ∙ ap (λ (y : Pieces). start ++ text_of y) (passed x (parts_in (drop at parts)) (named || ltb 0 i) none)
-        ∙ ap (λ (l : List DeclaratorPart). start ++ text_of (front (named || ltb 0 i) (parts_in l))) (sym here),
-     opened x (parts_in (drop at parts)) none ∙ ap (λ (l : List DeclaratorPart). is_suffixed (parts_in l)) (sym here))
+    let more : (named || ltb 0 at) ≡ true = later named at (omega arith) in (
+      told ∙ ap (λ (b : Bool). start ++ text_of (front b (parts_in (drop at parts)))) more ∙ ap (λ (y : Pieces). start ++ text_of y) (passed x (parts_in (drop at parts)) (named || ltb 0 i) none)
+          ∙ ap (λ (l : List DeclaratorPart). start ++ text_of (front (named || ltb 0 i) (parts_in l))) (sym here),
+      opened x (parts_in (drop at parts)) none ∙ ap (λ (l : List DeclaratorPart). is_suffixed (parts_in l)) (sym here),
+    )
   where
     passed : (x : DeclaratorPart) (rest : c.Parts) (inside : Bool) → ((q : Quals) → x ≡ variant.Pointer q → ⊥) → front true rest ≡ front inside (part_before x rest)
     passed (block.Pointer q) rest inside none = absurd (none q refl)

@@ -186,7 +186,7 @@ pub prefix_text : (out first second now : List ℕ) (k : Terminal) (operand : Pi
     → first ≡ out ++ text_of (sign k ∷ []) → second ≡ first ++ text_of (gap_if signed) → now ≡ second ++ text_of operand → now ≡ out ++ text_of (prefixed k operand)
 prefix_text out first second now k operand signed is a b d =
     joined out second now (sign k ∷ gap_if signed) operand (joined out first second (sign k ∷ []) (gap_if signed) a b) d
-      ∙ ap (λ (x : Pieces). out ++ text_of x) (parted signed ∙ ap (λ (s : Bool). sign k ∷ (if s then gap ∷ operand else operand)) (sym is))
+    ∙ ap (λ (x : Pieces). out ++ text_of x) (parted signed ∙ ap (λ (s : Bool). sign k ∷ (if s then gap ∷ operand else operand)) (sym is))
   where
     parted : (s : Bool) → (sign k ∷ gap_if s) ++ operand ≡ sign k ∷ (if s then gap ∷ operand else operand)
     parted true = refl

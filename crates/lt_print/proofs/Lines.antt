@@ -96,8 +96,8 @@ pub types_step : (n : ℕ) (before later : Bool) (x : TypeSpecifier) (rest : Lis
 unfolding operand
 types_step n before later x rest is =
     behind_apart before (type_specifier n (type_of x)) (type_specifiers n (types_in rest))
-      ∙ ap (λ (y : Pieces). y ++ behind (before || stands (type_specifier n (type_of x))) (type_specifiers n (types_in rest))) (behind_there before (type_specifier n (type_of x)) (type_stands n (type_of x)))
-      ∙ ap (λ (b : Bool). (gap_if before ++ type_specifier n (type_of x)) ++ behind b (type_specifiers n (types_in rest))) (ap (λ (b : Bool). before || b) (type_stands n (type_of x)) ∙ or_true before ∙ sym is)
+    ∙ ap (λ (y : Pieces). y ++ behind (before || stands (type_specifier n (type_of x))) (type_specifiers n (types_in rest))) (behind_there before (type_specifier n (type_of x)) (type_stands n (type_of x)))
+    ∙ ap (λ (b : Bool). (gap_if before ++ type_specifier n (type_of x)) ++ behind b (type_specifiers n (types_in rest))) (ap (λ (b : Bool). before || b) (type_stands n (type_of x)) ∙ or_true before ∙ sym is)
   where
     or_true : (b : Bool) → (b || true) ≡ true
     or_true true = refl

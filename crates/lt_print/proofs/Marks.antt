@@ -14,13 +14,13 @@ use Rattle.lt_print.proofs.Words.{joined}
 
 bound_shape : (o v bs : Pieces) (id tag w : List ℕ)
     → sign k.LabelBind ∷ in_parentheses (o ++ comma_gap ++ constant id ∷ comma_gap ++ literal tag ∷ comma_gap ++ name w ∷ comma_gap ++ v ++ bs)
-      ≡ (sign k.LabelBind ∷ []) ++ ((sign k.OpenParen ∷ []) ++ (o ++ ((comma_gap ++ constant id ∷ []) ++ ((comma_gap ++ literal tag ∷ []) ++ ((comma_gap ++ name w ∷ comma_gap ++ v ++ bs) ++ sign k.CloseParen ∷ [])))))
+    ≡ (sign k.LabelBind ∷ []) ++ ((sign k.OpenParen ∷ []) ++ (o ++ ((comma_gap ++ constant id ∷ []) ++ ((comma_gap ++ literal tag ∷ []) ++ ((comma_gap ++ name w ∷ comma_gap ++ v ++ bs) ++ sign k.CloseParen ∷ [])))))
 bound_shape o v bs id tag w = simp append_assoc
 
 -- a label has the same form whether it binds names or not
 mark_is : (n : ℕ) (e : t.Expression) (id tag : List ℕ) (bound : List Binding)
     → mark n (t.mark e id tag (bindings_in bound))
-      ≡ (sign (if eqb (length bound) 0 then k.Label else k.LabelBind) ∷ []) ++ ((sign k.OpenParen ∷ []) ++ (operand n assignment e ++ ((comma_gap ++ constant id ∷ []) ++ ((comma_gap ++ literal tag ∷ []) ++ (bindings n (bindings_in bound) ++ sign k.CloseParen ∷ [])))))
+    ≡ (sign (if eqb (length bound) 0 then k.Label else k.LabelBind) ∷ []) ++ ((sign k.OpenParen ∷ []) ++ (operand n assignment e ++ ((comma_gap ++ constant id ∷ []) ++ ((comma_gap ++ literal tag ∷ []) ++ (bindings n (bindings_in bound) ++ sign k.CloseParen ∷ [])))))
 unfolding operand
 mark_is n e id tag [] = simp append_assoc
 mark_is n e id tag (b ∷ bound) = let no : eqb (suc (length bound)) 0 ≡ false = ne_eqb (suc (length bound)) 0 (λ k. omega arith) in rw no (bound_shape (operand n assignment e) (operand n assignment (expression_of b.value)) (bindings n (bindings_in bound)) id tag b.name)
@@ -32,5 +32,5 @@ pub mark_text : (n : ℕ) (e : t.Expression) (id tag : List ℕ) (bound : List B
     → now ≡ out ++ text_of (mark n (t.mark e id tag (bindings_in bound)))
 mark_text n e id tag bound word out a b d f g h now is p q r s u v w =
     joined _ _ _ _ _ p (joined _ _ _ _ _ q (joined _ _ _ _ _ r (joined _ _ _ _ _ s (joined _ _ _ _ _ u (joined _ _ _ _ _ v w)))))
-      ∙ ap (λ (x : Terminal). out ++ text_of ((sign x ∷ []) ++ ((sign k.OpenParen ∷ []) ++ (operand n assignment e ++ ((comma_gap ++ constant id ∷ []) ++ ((comma_gap ++ literal tag ∷ []) ++ (bindings n (bindings_in bound) ++ sign k.CloseParen ∷ []))))))) is
-      ∙ ap (λ (x : Pieces). out ++ text_of x) (sym (mark_is n e id tag bound))
+    ∙ ap (λ (x : Terminal). out ++ text_of ((sign x ∷ []) ++ ((sign k.OpenParen ∷ []) ++ (operand n assignment e ++ ((comma_gap ++ constant id ∷ []) ++ ((comma_gap ++ literal tag ∷ []) ++ (bindings n (bindings_in bound) ++ sign k.CloseParen ∷ []))))))) is
+    ∙ ap (λ (x : Pieces). out ++ text_of x) (sym (mark_is n e id tag bound))

@@ -55,8 +55,8 @@ pub next : {X : Type 0} (g h : List X → Pieces) (head : Pieces) (xs : List X) 
 next {X} g h head xs i x out now whole lt is a step e =
     let here : drop i xs ≡ x ∷ drop (i + 1) xs = drop_more xs i x lt ∙ ap (λ (y : X). y ∷ drop (i + 1) xs) (sym is) in
     ap (λ (y : List ℕ). y ++ text_of (h (drop (i + 1) xs))) a ∙ append_assoc out (text_of head) (text_of (h (drop (i + 1) xs)))
-      ∙ ap (λ (y : List ℕ). out ++ y) (sym (text_append head (h (drop (i + 1) xs))))
-      ∙ ap (λ (y : Pieces). out ++ text_of y) (sym step) ∙ ap (λ (l : List X). out ++ text_of (g l)) (sym here) ∙ e
+    ∙ ap (λ (y : List ℕ). out ++ y) (sym (text_append head (h (drop (i + 1) xs))))
+    ∙ ap (λ (y : Pieces). out ++ text_of y) (sym step) ∙ ap (λ (l : List X). out ++ text_of (g l)) (sym here) ∙ e
 
 -- no element is left
 pub ended : {X : Type 0} (g : List X → Pieces) (xs : List X) (i : ℕ) (out whole : List ℕ) → length xs ≤ i → g [] ≡ [] → out ++ text_of (g (drop i xs)) ≡ whole → out ≡ whole

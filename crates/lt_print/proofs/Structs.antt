@@ -19,5 +19,5 @@ pub member_held : (m : Member) → member_of m ≡ t.member (specifiers_of (out-
 unfolding out-Member denote.Hole.Carrier.out
 member_held (at.struct-Member storage inline noreturn quals shape types shape' declarators) =
     ap (λ (x : t.TypeSpecifiers). t.member (t.specifiers (words_of storage inline noreturn quals) x) (member_declarators_of declarators)) (types_shown shape types)
-      ∙ ap (λ (x : t.MemberDeclarators). t.member (t.specifiers (words_of storage inline noreturn quals) (types_in (at.shown-the_row-TypeSpecifier-0 shape types).items)) x)
-          (member_declarators_row declarators ∙ sym (ap member_declarators_in (members.items_shown-the_row-MemberDeclarator-8 shape' declarators)))
+    ∙ ap (λ (x : t.MemberDeclarators). t.member (t.specifiers (words_of storage inline noreturn quals) (types_in (at.shown-the_row-TypeSpecifier-0 shape types).items)) x)
+    (member_declarators_row declarators ∙ sym (ap member_declarators_in (members.items_shown-the_row-MemberDeclarator-8 shape' declarators)))

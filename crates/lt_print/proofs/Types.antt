@@ -101,6 +101,6 @@ pub member_text : (n : ℕ) (ss : t.Specifiers) (ds : t.MemberDeclarators) (befo
 unfolding member_lines
 member_text n ss ds before out a b d e f now p q is r s u v =
     let all : e ≡ b ++ text_of (behind before (member_declarators n ds)) =
-        joined b d e (gap_if (before && declarators_stand ds)) (member_declarators n ds) r s ∙ ap (λ (x : Bool). b ++ text_of (gap_if (before && x) ++ member_declarators n ds)) (sym (member_stands n ds)) in
+    joined b d e (gap_if (before && declarators_stand ds)) (member_declarators n ds) r s ∙ ap (λ (x : Bool). b ++ text_of (gap_if (before && x) ++ member_declarators n ds)) (sym (member_stands n ds)) in
     let both : e ≡ a ++ text_of (apart (specifiers n ss) (member_declarators n ds)) = apart_text (specifiers n ss) (member_declarators n ds) before a b e is q all in
     joined _ _ _ _ _ p (joined _ _ _ _ _ both (joined _ _ _ _ _ u v)) ∙ ap (λ (x : Pieces). out ++ text_of x) refl

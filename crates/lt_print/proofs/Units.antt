@@ -90,7 +90,7 @@ pub declaration_text : (n : ℕ) (d : t.Declaration) (before : Bool) (out b e f 
     → f ≡ e ++ text_of (init_declarators n d.declarators) → now ≡ f ++ text_of (sign k.Semicolon ∷ []) → now ≡ out ++ text_of (declaration n d)
 declaration_text n d before out b e f now p is q r s =
     let all : f ≡ b ++ text_of (behind before (init_declarators n d.declarators)) =
-        joined b e f (gap_if (before && declared_stand d.declarators)) (init_declarators n d.declarators) q r ∙ ap (λ (x : Bool). b ++ text_of (gap_if (before && x) ++ init_declarators n d.declarators)) (sym (declared_stands n d.declarators)) in
+    joined b e f (gap_if (before && declared_stand d.declarators)) (init_declarators n d.declarators) q r ∙ ap (λ (x : Bool). b ++ text_of (gap_if (before && x) ++ init_declarators n d.declarators)) (sym (declared_stands n d.declarators)) in
     joined out f now _ _ (apart_text (specifiers n d.specifiers) (init_declarators n d.declarators) before out b f is p all) s
 
 -- ---- statements
@@ -118,7 +118,7 @@ pub body_below : (n m : ℕ) (x : t.Statement) (compound : Bool) (out a b now : 
     → a ≡ out ++ text_of (line_end ∷ []) → b ≡ a ++ text_of (indent m ∷ []) → now ≡ b ++ text_of (lines m x) → now ≡ out ++ text_of (body_lines n x)
 body_below n m x compound out a b now is no_is deep e f g =
     joined _ _ _ _ _ e (joined _ _ _ _ _ f g) ∙ ap (λ (j : ℕ). out ++ text_of (line_end ∷ indent j ∷ lines j x)) deep
-      ∙ ap (λ (c : Bool). out ++ text_of (if c then gap ∷ lines n x else line_end ∷ indent (suc n) ∷ lines (suc n) x)) (sym no_is ∙ is) ∙ ap (λ (y : Pieces). out ++ text_of y) (sym (body_is n x))
+    ∙ ap (λ (c : Bool). out ++ text_of (if c then gap ∷ lines n x else line_end ∷ indent (suc n) ∷ lines (suc n) x)) (sym no_is ∙ is) ∙ ap (λ (y : Pieces). out ++ text_of y) (sym (body_is n x))
 
 pub compound_is : (items : Vec Item) → statement_of (stmt.Compound items) ≡ t.Compound (items_in items.items)
 compound_is items = ap t.Compound (rows.items_are items)

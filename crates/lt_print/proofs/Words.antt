@@ -30,7 +30,7 @@ pub behind_two : (out mid now : List ℕ) (before between : Bool) (a b : Pieces)
     → now ≡ out ++ text_of (behind before (apart a b))
 behind_two out mid now before between a b e f g =
     joined out mid now (behind before a) (behind between b) e g
-      ∙ ap (λ (x : Bool). out ++ text_of (behind before a ++ behind x b)) f ∙ ap (λ (x : Pieces). out ++ text_of x) (sym (behind_apart before a b))
+    ∙ ap (λ (x : Bool). out ++ text_of (behind before a ++ behind x b)) f ∙ ap (λ (x : Pieces). out ++ text_of x) (sym (behind_apart before a b))
 
 pub stands_word : (there : Bool) (k : Terminal) → stands (word_if there k) ≡ there
 stands_word true k = refl

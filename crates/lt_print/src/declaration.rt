@@ -22,7 +22,11 @@ use std::alloc::AllocError;
 /// init = assign | '{' init,+ '}'
 #[cycle(initialisers)]
 #[tactic(auto, unfolding(lt_tree::specs::Pieces::text_of), using(crate::proofs::Texts::texts))]
-fn put_initialiser(out: &mut Vec<u8>, line: usize, initialiser: &Initialiser) -> Result<(), AllocError>
+fn put_initialiser(
+    out: &mut Vec<u8>,
+    line: usize,
+    initialiser: &Initialiser,
+) -> Result<(), AllocError>
     ensures { OnOk result (out.new.items ≡ out.old.items ++ text_of (unit.initialiser line (initialiser_of initialiser.now))) }
 {
     match initialiser {
@@ -49,7 +53,11 @@ fn put_initialisers(out: &mut Vec<u8>, line: usize, parts: &[Initialiser]) -> Re
 
 /// declarator ('=' init)?
 #[tactic(auto, unfolding(lt_tree::specs::Pieces::text_of), using(crate::proofs::Texts::texts))]
-fn put_init_declarator(out: &mut Vec<u8>, line: usize, declared: &InitDeclarator) -> Result<(), AllocError>
+fn put_init_declarator(
+    out: &mut Vec<u8>,
+    line: usize,
+    declared: &InitDeclarator,
+) -> Result<(), AllocError>
     ensures { OnOk result (out.new.items ≡ out.old.items ++ text_of (unit.init_declarator line (declarator_of declared.now.declarator) (option_map initialiser_of declared.now.initialiser))) }
 {
     put_declarator(out, line, &declared.declarator)?;
@@ -63,7 +71,11 @@ fn put_init_declarator(out: &mut Vec<u8>, line: usize, declared: &InitDeclarator
 }
 
 /// (declarator ('=' init)?),*
-fn put_init_declarators(out: &mut Vec<u8>, line: usize, declarators: &[InitDeclarator]) -> Result<(), AllocError>
+fn put_init_declarators(
+    out: &mut Vec<u8>,
+    line: usize,
+    declarators: &[InitDeclarator],
+) -> Result<(), AllocError>
     ensures { OnOk result (out.new.items ≡ out.old.items ++ text_of (unit.init_declarators line (map init_declarator_of declarators.now))) }
 {
     for (at, declared) in declarators.iter().enumerate() {
@@ -91,7 +103,11 @@ fn has_text(declared: &InitDeclarator) -> bool
 }
 
 /// specs (declarator ('=' init)?),* ';'
-pub fn put_declaration(out: &mut Vec<u8>, line: usize, declaration: &Declaration) -> Result<(), AllocError>
+pub fn put_declaration(
+    out: &mut Vec<u8>,
+    line: usize,
+    declaration: &Declaration,
+) -> Result<(), AllocError>
     ensures { OnOk result (out.new.items ≡ out.old.items ++ text_of (unit.declaration line (declaration_of declaration.now))) }
 {
     let before = put_specifiers(out, line, &declaration.specifiers)?;

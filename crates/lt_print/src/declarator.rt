@@ -27,7 +27,11 @@ pub fn is_written(declarator: &Declarator) -> bool
 
 /// A declarator, or nothing where it is missing.
 #[cycle(printer)]
-pub fn put_declarator(out: &mut Vec<u8>, line: usize, declarator: &Declarator) -> Result<(), AllocError>
+pub fn put_declarator(
+    out: &mut Vec<u8>,
+    line: usize,
+    declarator: &Declarator,
+) -> Result<(), AllocError>
     ensures { OnOk result (out.new.items ≡ out.old.items ++ text_of (spec.declarator line (declarator_of declarator.now))) }
 {
     put_front(out, declarator.name.is_some(), &declarator.parts)?;
@@ -37,7 +41,12 @@ pub fn put_declarator(out: &mut Vec<u8>, line: usize, declarator: &Declarator) -
 
 /// A declarator behind specifiers, if there are any.
 #[cycle(printer)]
-pub fn put_declared(out: &mut Vec<u8>, line: usize, before: bool, declarator: &Declarator) -> Result<(), AllocError>
+pub fn put_declared(
+    out: &mut Vec<u8>,
+    line: usize,
+    before: bool,
+    declarator: &Declarator,
+) -> Result<(), AllocError>
     ensures { OnOk result (out.new.items ≡ out.old.items ++ text_of (behind before (spec.declarator line (declarator_of declarator.now)))) }
 {
     put_gap_if(out, before & is_written(declarator))?;
@@ -95,7 +104,12 @@ fn put_back(out: &mut Vec<u8>, line: usize, parts: &[DeclaratorPart]) -> Result<
 
 /// '[' cond? ']' or '(' params? ')', and nothing for a `*`. Gives whether the part is a pointer.
 #[cycle(printer)]
-fn put_suffix(out: &mut Vec<u8>, line: usize, pointer: bool, part: &DeclaratorPart) -> Result<bool, AllocError>
+fn put_suffix(
+    out: &mut Vec<u8>,
+    line: usize,
+    pointer: bool,
+    part: &DeclaratorPart,
+) -> Result<bool, AllocError>
     ensures text { OnOk result (out.new.items ≡ out.old.items ++ text_of (side.back line pointer (part_before part.now c.no_parts))) }
     ensures pointer { IfOk result (λ now. now ≡ side.is_pointer (part_before part.now c.no_parts)) }
 {

@@ -70,7 +70,13 @@ pub fn put_expression(out: &mut Vec<u8>, line: usize, e: &Expr) -> Result<(), Al
         }
         Expr::Logical(op, left, right) => {
             put_operand(out, line, Level::Binary(tightness_of_logical(*op)), left)?;
-            put_right(out, line, tightness_of_logical(*op), sign_of_logical(*op), right)
+            put_right(
+                out,
+                line,
+                tightness_of_logical(*op),
+                sign_of_logical(*op),
+                right,
+            )
         }
         Expr::Conditional(test, left, right) => {
             put_operand(out, line, Level::Binary(0), test)?;
@@ -86,7 +92,9 @@ pub fn put_expression(out: &mut Vec<u8>, line: usize, e: &Expr) -> Result<(), Al
             put_marks(out, line, marks)?;
             put_operand(out, line, Level::Assignment, value)
         }
-        Expr::Decide(operand, when_true, when_false, tag) => put_decide(out, line, operand, when_true, when_false, tag),
+        Expr::Decide(operand, when_true, when_false, tag) => put_decide(
+            out, line, operand, when_true, when_false, tag,
+        ),
         Expr::After(operand, id, tag) => put_after(out, line, operand, id, tag),
     }
 }

@@ -20,8 +20,18 @@ fn first_byte(e: &Expr) -> Option<u8>
         Expr::PostInc(target) => or_else(first_byte(target), b'+'),
         Expr::PostDec(target) => or_else(first_byte(target), b'-'),
         Expr::Decide(..) | Expr::After(..) => Some(b'p'),
-        Expr::PreInc(_) | Expr::PreDec(_) | Expr::Unary(..) | Expr::SizeofExpr(_) | Expr::SizeofType(_) | Expr::Cast(..) => Some(b'('),
-        Expr::Binary(..) | Expr::Logical(..) | Expr::Conditional(..) | Expr::Assign(..) | Expr::Comma(_) | Expr::Marked(..) => Some(b'('),
+        Expr::PreInc(_)
+        | Expr::PreDec(_)
+        | Expr::Unary(..)
+        | Expr::SizeofExpr(_)
+        | Expr::SizeofType(_)
+        | Expr::Cast(..) => Some(b'('),
+        Expr::Binary(..)
+        | Expr::Logical(..)
+        | Expr::Conditional(..)
+        | Expr::Assign(..)
+        | Expr::Comma(_)
+        | Expr::Marked(..) => Some(b'('),
     }
 }
 
@@ -60,8 +70,22 @@ pub fn is_signed(e: &Expr) -> bool
         Expr::PreInc(_) | Expr::PreDec(_) => true,
         Expr::Unary(op, _) => is_signed_operator(*op),
         Expr::SizeofExpr(_) | Expr::SizeofType(_) => false,
-        Expr::Name(_) | Expr::Constant(_) | Expr::Text(_) | Expr::Index(..) | Expr::Call(..) | Expr::Member(..) | Expr::Arrow(..) => is_sign(first_byte(e)),
-        Expr::PostInc(_) | Expr::PostDec(_) | Expr::Decide(..) | Expr::After(..) | Expr::Cast(..) | Expr::Binary(..) | Expr::Logical(..) => is_sign(first_byte(e)),
-        Expr::Conditional(..) | Expr::Assign(..) | Expr::Comma(_) | Expr::Marked(..) => is_sign(first_byte(e)),
+        Expr::Name(_)
+        | Expr::Constant(_)
+        | Expr::Text(_)
+        | Expr::Index(..)
+        | Expr::Call(..)
+        | Expr::Member(..)
+        | Expr::Arrow(..) => is_sign(first_byte(e)),
+        Expr::PostInc(_)
+        | Expr::PostDec(_)
+        | Expr::Decide(..)
+        | Expr::After(..)
+        | Expr::Cast(..)
+        | Expr::Binary(..)
+        | Expr::Logical(..) => is_sign(first_byte(e)),
+        Expr::Conditional(..) | Expr::Assign(..) | Expr::Comma(_) | Expr::Marked(..) => is_sign(
+            first_byte(e),
+        ),
     }
 }

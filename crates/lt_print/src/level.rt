@@ -82,9 +82,19 @@ pub fn level_of(e: &Expr) -> Level
     ensures known { IsLevel result }
 {
     match e {
-        Expr::Name(_) | Expr::Constant(_) | Expr::Text(_) | Expr::Decide(..) | Expr::After(..) => Level::Primary,
-        Expr::Index(..) | Expr::Call(..) | Expr::Member(..) | Expr::Arrow(..) | Expr::PostInc(_) | Expr::PostDec(_) => Level::Postfix,
-        Expr::PreInc(_) | Expr::PreDec(_) | Expr::Unary(..) | Expr::SizeofExpr(_) | Expr::SizeofType(_) => Level::Unary,
+        Expr::Name(_) | Expr::Constant(_) | Expr::Text(_) | Expr::Decide(..) | Expr::After(..) =>
+            Level::Primary,
+        Expr::Index(..)
+        | Expr::Call(..)
+        | Expr::Member(..)
+        | Expr::Arrow(..)
+        | Expr::PostInc(_)
+        | Expr::PostDec(_) => Level::Postfix,
+        Expr::PreInc(_)
+        | Expr::PreDec(_)
+        | Expr::Unary(..)
+        | Expr::SizeofExpr(_)
+        | Expr::SizeofType(_) => Level::Unary,
         Expr::Cast(..) => Level::Cast,
         Expr::Binary(op, ..) => Level::Binary(tightness(*op)),
         Expr::Logical(op, ..) => Level::Binary(tightness_of_logical(*op)),

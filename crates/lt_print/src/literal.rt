@@ -22,7 +22,15 @@ fn put_quoted_byte(out: &mut Vec<u8>, byte: u8) -> Result<(), AllocError>
     } else if 32 <= byte && byte <= 126 {
         put(out, &[byte])
     } else {
-        put(out, &[b'\\', b'0' + byte / 64 % 8, b'0' + byte / 8 % 8, b'0' + byte % 8])
+        put(
+            out,
+            &[
+                b'\\',
+                b'0' + byte / 64 % 8,
+                b'0' + byte / 8 % 8,
+                b'0' + byte % 8,
+            ],
+        )
     }
 }
 

@@ -37,7 +37,14 @@ fn put_tag(out: &mut Vec<u8>, tag: &Name) -> Result<(), AllocError>
 /// 'pc_decide' '(' assign ',' CONSTANT ',' CONSTANT ',' STRING ')'
 #[cycle(printer)]
 #[tactic(auto, unfolding(lt_tree::specs::Pieces::text_of), using(crate::proofs::Texts::texts))]
-pub fn put_decide(out: &mut Vec<u8>, line: usize, operand: &Expr, when_true: &Name, when_false: &Name, tag: &Name) -> Result<(), AllocError>
+pub fn put_decide(
+    out: &mut Vec<u8>,
+    line: usize,
+    operand: &Expr,
+    when_true: &Name,
+    when_false: &Name,
+    tag: &Name,
+) -> Result<(), AllocError>
     ensures { OnOk result (out.new.items ≡ out.old.items ++ text_of (spec.sign t.Decide ∷ spec.in_parentheses (spec.operand line g.assignment (expression_of operand.now) ++ spec.comma_gap ++ spec.constant when_true.now ∷ spec.comma_gap ++ spec.constant when_false.now ∷ spec.comma_gap ++ spec.literal tag.now ∷ []))) }
 {
     put_sign(out, Terminal::Decide)?;
@@ -52,7 +59,13 @@ pub fn put_decide(out: &mut Vec<u8>, line: usize, operand: &Expr, when_true: &Na
 /// 'pc_after' '(' assign ',' CONSTANT ',' STRING ')'
 #[cycle(printer)]
 #[tactic(auto, unfolding(lt_tree::specs::Pieces::text_of), using(crate::proofs::Texts::texts))]
-pub fn put_after(out: &mut Vec<u8>, line: usize, operand: &Expr, id: &Name, tag: &Name) -> Result<(), AllocError>
+pub fn put_after(
+    out: &mut Vec<u8>,
+    line: usize,
+    operand: &Expr,
+    id: &Name,
+    tag: &Name,
+) -> Result<(), AllocError>
     ensures { OnOk result (out.new.items ≡ out.old.items ++ text_of (spec.sign t.After ∷ spec.in_parentheses (spec.operand line g.assignment (expression_of operand.now) ++ spec.comma_gap ++ spec.constant id.now ∷ spec.comma_gap ++ spec.literal tag.now ∷ []))) }
 {
     put_sign(out, Terminal::After)?;
@@ -94,7 +107,11 @@ pub fn put_mark(out: &mut Vec<u8>, line: usize, mark: &Mark) -> Result<(), Alloc
 fn label_word(plain: bool) -> Terminal
     ensures { result ≡ (if plain then t.Label else t.LabelBind) }
 {
-    if plain { Terminal::Label } else { Terminal::LabelBind }
+    if plain {
+        Terminal::Label
+    } else {
+        Terminal::LabelBind
+    }
 }
 
 /// (',' NAME ',' assign)*

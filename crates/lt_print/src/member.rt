@@ -14,7 +14,9 @@ use crate::declarator::{is_written, put_declarator};
 use crate::expression::put_operand;
 use crate::level::Level;
 use crate::specifier::put_specifiers;
-use crate::text::{end_line, put_comma_unless, put_gap_if, put_indent, put_name, put_sign, put_sign_if, put_spaced};
+use crate::text::{
+    end_line, put_comma_unless, put_gap_if, put_indent, put_name, put_sign, put_sign_if, put_spaced,
+};
 use lt_tree::{Enumerator, Expr, Member, MemberDeclarator, Terminal};
 use std::alloc::AllocError;
 
@@ -62,7 +64,11 @@ fn has_text(declared: &MemberDeclarator) -> bool
 
 /// (declarator (':' cond)?),*
 #[cycle(printer)]
-fn put_member_declarators(out: &mut Vec<u8>, line: usize, declarators: &[MemberDeclarator]) -> Result<(), AllocError>
+fn put_member_declarators(
+    out: &mut Vec<u8>,
+    line: usize,
+    declarators: &[MemberDeclarator],
+) -> Result<(), AllocError>
     ensures { OnOk result (out.new.items ≡ out.old.items ++ text_of (spec.member_declarators line (member_declarators_in declarators.now))) }
 {
     for (at, declared) in declarators.iter().enumerate() {
@@ -75,7 +81,11 @@ fn put_member_declarators(out: &mut Vec<u8>, line: usize, declarators: &[MemberD
 
 /// (NAME ('=' cond)?),+ each on a line of its own
 #[cycle(printer)]
-pub fn put_enumerators(out: &mut Vec<u8>, line: usize, enumerators: &[Enumerator]) -> Result<(), AllocError>
+pub fn put_enumerators(
+    out: &mut Vec<u8>,
+    line: usize,
+    enumerators: &[Enumerator],
+) -> Result<(), AllocError>
     ensures { OnOk result (out.new.items ≡ out.old.items ++ text_of (spec.enumerator_lines line (enumerators_in enumerators.now))) }
 {
     for (at, enumerator) in enumerators.iter().enumerate() {
@@ -91,7 +101,12 @@ pub fn put_enumerators(out: &mut Vec<u8>, line: usize, enumerators: &[Enumerator
 /// (SIGN cond)?
 #[cycle(printer)]
 #[tactic(auto, unfolding(lt_tree::specs::Pieces::text_of, lt_tree::specs::Canon::operand), using(crate::proofs::Texts::texts))]
-fn put_after_sign(out: &mut Vec<u8>, line: usize, sign: Terminal, e: &Option<Box<Expr>>) -> Result<(), AllocError>
+fn put_after_sign(
+    out: &mut Vec<u8>,
+    line: usize,
+    sign: Terminal,
+    e: &Option<Box<Expr>>,
+) -> Result<(), AllocError>
     ensures { OnOk result (out.new.items ≡ out.old.items ++ text_of (spec.after_sign line sign (maybe_in e.now))) }
 {
     match e {

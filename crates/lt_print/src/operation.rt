@@ -18,7 +18,13 @@ use std::alloc::AllocError;
 /// A binary operator and its right operand, which is tighter.
 #[cycle(printer)]
 #[tactic(auto, unfolding(lt_tree::specs::Pieces::text_of), using(crate::proofs::Texts::texts, crate::proofs::Places::sums))]
-pub fn put_right(out: &mut Vec<u8>, line: usize, tightness: u8, sign: Terminal, right: &Expr) -> Result<(), AllocError>
+pub fn put_right(
+    out: &mut Vec<u8>,
+    line: usize,
+    tightness: u8,
+    sign: Terminal,
+    right: &Expr,
+) -> Result<(), AllocError>
     requires { tightness ≤ 9 }
     ensures { OnOk result (out.new.items ≡ out.old.items ++ text_of (spec.spaced sign ++ spec.operand line (g.binary (suc tightness)) (expression_of right.now))) }
 {
@@ -40,7 +46,12 @@ pub fn put_between(out: &mut Vec<u8>, line: usize, left: &Expr) -> Result<(), Al
 /// ASSIGNOP assign
 #[cycle(printer)]
 #[tactic(auto, unfolding(lt_tree::specs::Pieces::text_of), using(crate::proofs::Texts::texts))]
-pub fn put_value(out: &mut Vec<u8>, line: usize, sign: Terminal, value: &Expr) -> Result<(), AllocError>
+pub fn put_value(
+    out: &mut Vec<u8>,
+    line: usize,
+    sign: Terminal,
+    value: &Expr,
+) -> Result<(), AllocError>
     ensures { OnOk result (out.new.items ≡ out.old.items ++ text_of (spec.spaced sign ++ spec.operand line g.assignment (expression_of value.now))) }
 {
     put_spaced(out, sign)?;
@@ -49,7 +60,12 @@ pub fn put_value(out: &mut Vec<u8>, line: usize, sign: Terminal, value: &Expr) -
 
 /// Expressions with commas between.
 #[cycle(printer)]
-pub fn put_list(out: &mut Vec<u8>, line: usize, asked: Level, list: &[Expr]) -> Result<(), AllocError>
+pub fn put_list(
+    out: &mut Vec<u8>,
+    line: usize,
+    asked: Level,
+    list: &[Expr],
+) -> Result<(), AllocError>
     requires { IsLevel asked }
     ensures { OnOk result (out.new.items ≡ out.old.items ++ text_of (spec.list line (level_meant asked) (expressions_in list.now))) }
 {

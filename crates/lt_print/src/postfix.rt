@@ -42,7 +42,12 @@ pub fn put_arguments(out: &mut Vec<u8>, line: usize, arguments: &[Expr]) -> Resu
 /// postfix '.' NAME, with a space behind an integer constant
 #[cycle(printer)]
 #[tactic(auto, unfolding(lt_tree::specs::Pieces::text_of), using(crate::proofs::Texts::texts))]
-pub fn put_member(out: &mut Vec<u8>, line: usize, whole: &Expr, name: &Name) -> Result<(), AllocError>
+pub fn put_member(
+    out: &mut Vec<u8>,
+    line: usize,
+    whole: &Expr,
+    name: &Name,
+) -> Result<(), AllocError>
     ensures { OnOk result (out.new.items ≡ out.old.items ++ text_of (spec.operand line g.postfix (expression_of whole.now) ++ spec.gap_if (spec.is_integer (expression_of whole.now)) ++ spec.sign t.Dot ∷ spec.name name.now ∷ [])) }
 {
     put_operand(out, line, Level::Postfix, whole)?;
@@ -54,7 +59,12 @@ pub fn put_member(out: &mut Vec<u8>, line: usize, whole: &Expr, name: &Name) -> 
 /// postfix '->' NAME
 #[cycle(printer)]
 #[tactic(auto, unfolding(lt_tree::specs::Pieces::text_of), using(crate::proofs::Texts::texts))]
-pub fn put_arrow(out: &mut Vec<u8>, line: usize, pointer: &Expr, name: &Name) -> Result<(), AllocError>
+pub fn put_arrow(
+    out: &mut Vec<u8>,
+    line: usize,
+    pointer: &Expr,
+    name: &Name,
+) -> Result<(), AllocError>
     ensures { OnOk result (out.new.items ≡ out.old.items ++ text_of (spec.operand line g.postfix (expression_of pointer.now) ++ spec.sign t.Arrow ∷ spec.name name.now ∷ [])) }
 {
     put_operand(out, line, Level::Postfix, pointer)?;
@@ -65,7 +75,12 @@ pub fn put_arrow(out: &mut Vec<u8>, line: usize, pointer: &Expr, name: &Name) ->
 /// postfix '++' | postfix '--'
 #[cycle(printer)]
 #[tactic(auto, unfolding(lt_tree::specs::Pieces::text_of), using(crate::proofs::Texts::texts))]
-pub fn put_step_behind(out: &mut Vec<u8>, line: usize, target: &Expr, sign: Terminal) -> Result<(), AllocError>
+pub fn put_step_behind(
+    out: &mut Vec<u8>,
+    line: usize,
+    target: &Expr,
+    sign: Terminal,
+) -> Result<(), AllocError>
     ensures { OnOk result (out.new.items ≡ out.old.items ++ text_of (spec.operand line g.postfix (expression_of target.now) ++ spec.sign sign ∷ [])) }
 {
     put_operand(out, line, Level::Postfix, target)?;
@@ -78,9 +93,28 @@ fn is_integer(e: &Expr) -> bool
 {
     match e {
         Expr::Constant(text) => begins_with_digit(text.as_slice()),
-        Expr::Name(_) | Expr::Text(_) | Expr::Index(..) | Expr::Call(..) | Expr::Member(..) | Expr::Arrow(..) | Expr::PostInc(_) | Expr::PostDec(_) => false,
-        Expr::PreInc(_) | Expr::PreDec(_) | Expr::Unary(..) | Expr::SizeofExpr(_) | Expr::SizeofType(_) | Expr::Cast(..) | Expr::Binary(..) => false,
-        Expr::Logical(..) | Expr::Conditional(..) | Expr::Assign(..) | Expr::Comma(_) | Expr::Marked(..) | Expr::Decide(..) | Expr::After(..) => false,
+        Expr::Name(_)
+        | Expr::Text(_)
+        | Expr::Index(..)
+        | Expr::Call(..)
+        | Expr::Member(..)
+        | Expr::Arrow(..)
+        | Expr::PostInc(_)
+        | Expr::PostDec(_) => false,
+        Expr::PreInc(_)
+        | Expr::PreDec(_)
+        | Expr::Unary(..)
+        | Expr::SizeofExpr(_)
+        | Expr::SizeofType(_)
+        | Expr::Cast(..)
+        | Expr::Binary(..) => false,
+        Expr::Logical(..)
+        | Expr::Conditional(..)
+        | Expr::Assign(..)
+        | Expr::Comma(_)
+        | Expr::Marked(..)
+        | Expr::Decide(..)
+        | Expr::After(..) => false,
     }
 }
 

@@ -20,7 +20,12 @@ use std::alloc::AllocError;
 /// `++` or `--` and a unary expression
 #[cycle(printer)]
 #[tactic(auto, unfolding(lt_tree::specs::Pieces::text_of), using(crate::proofs::Texts::texts))]
-pub fn put_step(out: &mut Vec<u8>, line: usize, sign: Terminal, target: &Expr) -> Result<(), AllocError>
+pub fn put_step(
+    out: &mut Vec<u8>,
+    line: usize,
+    sign: Terminal,
+    target: &Expr,
+) -> Result<(), AllocError>
     ensures { OnOk result (out.new.items ≡ out.old.items ++ text_of (spec.prefixed sign (spec.operand line g.unary (expression_of target.now)))) }
 {
     put_sign(out, sign)?;
@@ -31,7 +36,12 @@ pub fn put_step(out: &mut Vec<u8>, line: usize, sign: Terminal, target: &Expr) -
 /// PREFIX cast
 #[cycle(printer)]
 #[tactic(auto, unfolding(lt_tree::specs::Pieces::text_of), using(crate::proofs::Texts::texts))]
-pub fn put_prefixed(out: &mut Vec<u8>, line: usize, sign: Terminal, operand: &Expr) -> Result<(), AllocError>
+pub fn put_prefixed(
+    out: &mut Vec<u8>,
+    line: usize,
+    sign: Terminal,
+    operand: &Expr,
+) -> Result<(), AllocError>
     ensures { OnOk result (out.new.items ≡ out.old.items ++ text_of (spec.prefixed sign (spec.operand line g.cast (expression_of operand.now)))) }
 {
     put_sign(out, sign)?;

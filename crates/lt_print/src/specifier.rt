@@ -19,7 +19,11 @@ use std::alloc::AllocError;
 
 /// Specifiers. Gives whether there are any.
 #[cycle(printer)]
-pub fn put_specifiers(out: &mut Vec<u8>, line: usize, specifiers: &Specifiers) -> Result<bool, AllocError>
+pub fn put_specifiers(
+    out: &mut Vec<u8>,
+    line: usize,
+    specifiers: &Specifiers,
+) -> Result<bool, AllocError>
     ensures text { OnOk result (out.new.items ≡ out.old.items ++ text_of (spec.specifiers line (specifiers_of specifiers.now))) }
     ensures stands { IfOk result (λ now. now ≡ stands (spec.specifiers line (specifiers_of specifiers.now))) }
 {
@@ -30,7 +34,12 @@ pub fn put_specifiers(out: &mut Vec<u8>, line: usize, specifiers: &Specifiers) -
 
 /// Type specifiers, with a space before each that isn't the first of the specifiers.
 #[cycle(printer)]
-fn put_types(out: &mut Vec<u8>, line: usize, before: bool, types: &[TypeSpecifier]) -> Result<(), AllocError>
+fn put_types(
+    out: &mut Vec<u8>,
+    line: usize,
+    before: bool,
+    types: &[TypeSpecifier],
+) -> Result<(), AllocError>
     ensures { OnOk result (out.new.items ≡ out.old.items ++ text_of (behind before (spec.type_specifiers line (types_in types.now)))) }
 {
     for (at, specifier) in types.iter().enumerate() {
@@ -83,7 +92,12 @@ fn put_tag_if(out: &mut Vec<u8>, tag: &Option<Name>) -> Result<(), AllocError>
 /// 'struct' NAME? '{' member* '}'
 #[cycle(printer)]
 #[tactic(auto, unfolding(lt_tree::specs::Pieces::text_of, lt_tree::specs::Canon::operand), using(crate::proofs::Texts::texts))]
-fn put_struct(out: &mut Vec<u8>, line: usize, tag: &Option<Name>, members: &[Member]) -> Result<(), AllocError>
+fn put_struct(
+    out: &mut Vec<u8>,
+    line: usize,
+    tag: &Option<Name>,
+    members: &[Member],
+) -> Result<(), AllocError>
     ensures { OnOk result (out.new.items ≡ out.old.items ++ text_of (spec.type_specifier line (c.Struct tag.now (members_in members.now)))) }
 {
     put_sign(out, Terminal::Struct)?;
@@ -97,7 +111,12 @@ fn put_struct(out: &mut Vec<u8>, line: usize, tag: &Option<Name>, members: &[Mem
 /// 'enum' NAME? '{' (NAME ('=' cond)?),+ '}'
 #[cycle(printer)]
 #[tactic(auto, unfolding(lt_tree::specs::Pieces::text_of, lt_tree::specs::Canon::operand), using(crate::proofs::Texts::texts))]
-fn put_enum(out: &mut Vec<u8>, line: usize, tag: &Option<Name>, enumerators: &[Enumerator]) -> Result<(), AllocError>
+fn put_enum(
+    out: &mut Vec<u8>,
+    line: usize,
+    tag: &Option<Name>,
+    enumerators: &[Enumerator],
+) -> Result<(), AllocError>
     ensures { OnOk result (out.new.items ≡ out.old.items ++ text_of (spec.type_specifier line (c.Enum tag.now (enumerators_in enumerators.now)))) }
 {
     put_sign(out, Terminal::Enum)?;

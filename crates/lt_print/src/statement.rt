@@ -95,7 +95,13 @@ fn put_header(out: &mut Vec<u8>, line: usize, word: Terminal, e: &Expr) -> Resul
 
 /// 'for' '(' (declaration | expr? ';') expr? ';' expr? ')'
 #[tactic(auto, unfolding(lt_tree::specs::Pieces::text_of), using(crate::proofs::Texts::texts))]
-fn put_for_header(out: &mut Vec<u8>, line: usize, start: &ForStart, test: &Option<Expr>, step: &Option<Expr>) -> Result<(), AllocError>
+fn put_for_header(
+    out: &mut Vec<u8>,
+    line: usize,
+    start: &ForStart,
+    test: &Option<Expr>,
+    step: &Option<Expr>,
+) -> Result<(), AllocError>
     ensures { OnOk result (out.new.items ≡ out.old.items ++ text_of (spec.sign t.For ∷ gap ∷ spec.in_parentheses (unit.for_start line (start_of start.now) ++ unit.optional line (option_map expression_of test.now) ++ spec.sign t.Semicolon ∷ unit.optional line (option_map expression_of step.now)))) }
 {
     put_sign(out, Terminal::For)?;
@@ -158,7 +164,16 @@ fn is_compound(statement: &Stmt) -> bool
 {
     match statement {
         Stmt::Compound(_) => true,
-        Stmt::Expression(_) | Stmt::Null | Stmt::If(..) | Stmt::While(..) | Stmt::Do(..) | Stmt::For(..) | Stmt::Switch(..) | Stmt::Break | Stmt::Continue | Stmt::Return(_) => false,
+        Stmt::Expression(_)
+        | Stmt::Null
+        | Stmt::If(..)
+        | Stmt::While(..)
+        | Stmt::Do(..)
+        | Stmt::For(..)
+        | Stmt::Switch(..)
+        | Stmt::Break
+        | Stmt::Continue
+        | Stmt::Return(_) => false,
     }
 }
 

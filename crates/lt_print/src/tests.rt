@@ -3,8 +3,10 @@
 use crate::print_unit;
 use lt_model::{Name, Op, Quals};
 use lt_tree::{
-    BasicType, Binding, Declaration, Declarator, DeclaratorPart, Enumerator, Expr, External, ForStart, FunctionDefinition, InitDeclarator, Initialiser, Item, Label, Mark, Member, MemberDeclarator,
-    Parameter, Parameters, Specifiers, Stmt, Storage, SwitchCase, TypeName, TypeSpecifier, UnaryOp, Unit,
+    BasicType, Binding, Declaration, Declarator, DeclaratorPart, Enumerator, Expr, External,
+    ForStart, FunctionDefinition, InitDeclarator, Initialiser, Item, Label, Mark, Member,
+    MemberDeclarator, Parameter, Parameters, Specifiers, Stmt, Storage, SwitchCase, TypeName,
+    TypeSpecifier, UnaryOp, Unit,
 };
 use std::alloc::{AllocError, Global};
 
@@ -64,7 +66,9 @@ fn plain(alloc: Global, text: &str) -> Result<Declarator, AllocError> {
 /// A unit of one function `int f(void)` with this item.
 fn unit_of(alloc: Global, item: Item) -> Result<Unit, AllocError> {
     let mut declarator = plain(alloc, "f")?;
-    declarator.parts.push(DeclaratorPart::Function(Parameters::Void))?;
+    declarator
+        .parts
+        .push(DeclaratorPart::Function(Parameters::Void))?;
     let mut body = Vec::new(alloc);
     body.push(item)?;
     let mut externals = Vec::new(alloc);
@@ -87,7 +91,12 @@ fn text_of(alloc: Global, e: Expr) -> Result<Vec<u8>, AllocError> {
 }
 
 /// The text of a declaration of one declarator outside of functions.
-fn text_of_declarator(alloc: Global, specifiers: Specifiers, declarator: Declarator, initialiser: Option<Initialiser>) -> Result<Vec<u8>, AllocError> {
+fn text_of_declarator(
+    alloc: Global,
+    specifiers: Specifiers,
+    declarator: Declarator,
+    initialiser: Option<Initialiser>,
+) -> Result<Vec<u8>, AllocError> {
     let mut declarators = Vec::new(alloc);
     declarators.push(InitDeclarator {
         declarator,
@@ -227,7 +236,9 @@ fn table(alloc: Global) -> Result<Vec<u8>, AllocError> {
             parts: Vec::new(alloc),
         },
     })?;
-    declarator.parts.push(DeclaratorPart::Function(Parameters::Open(parameters)))?;
+    declarator
+        .parts
+        .push(DeclaratorPart::Function(Parameters::Open(parameters)))?;
     declarator.parts.push(DeclaratorPart::Pointer(Quals {
         constant: true,
         volatile: false,
@@ -239,7 +250,12 @@ fn table(alloc: Global) -> Result<Vec<u8>, AllocError> {
     let mut outer = Vec::new(alloc);
     outer.push(Initialiser::Expression(constant(alloc, "1")?))?;
     outer.push(Initialiser::List(inner))?;
-    text_of_declarator(alloc, specifiers, declarator, Some(Initialiser::List(outer)))
+    text_of_declarator(
+        alloc,
+        specifiers,
+        declarator,
+        Some(Initialiser::List(outer)),
+    )
 }
 
 #[test]
@@ -288,7 +304,10 @@ fn tagged(alloc: Global) -> Result<Vec<u8>, AllocError> {
 #[test]
 fn structs_and_enums(rt: HostRuntime) {
     let text = tagged(rt.alloc()).expect(&rt, "memory");
-    assert!(rt; text.as_slice() == "struct {\n  int x;\n  enum e {\n    A,\n    B = 1\n  } y : 2;\n} s;\n".as_bytes());
+    assert!(rt;
+        text.as_slice()
+            == "struct {\n  int x;\n  enum e {\n    A,\n    B = 1\n  } y : 2;\n} s;\n".as_bytes()
+    );
 }
 
 fn statement(alloc: Global, text: &str) -> Result<Box<Stmt>, AllocError> {
@@ -312,7 +331,8 @@ fn branches(alloc: Global) -> Result<Vec<u8>, AllocError> {
 #[test]
 fn bodies_and_else(rt: HostRuntime) {
     let text = branches(rt.alloc()).expect(&rt, "memory");
-    let wanted = "int f(void) {\n  if (a) {\n    if (b)\n      x;\n    else\n      y;\n  }\n  else\n    for (;;)\n      ;\n}\n";
+    let wanted =
+        "int f(void) {\n  if (a) {\n    if (b)\n      x;\n    else\n      y;\n  }\n  else\n    for (;;)\n      ;\n}\n";
     assert!(rt; text.as_slice() == wanted.as_bytes());
 }
 
@@ -331,7 +351,8 @@ fn cases(alloc: Global) -> Result<Vec<u8>, AllocError> {
 #[test]
 fn labels_stand_inside_the_switch(rt: HostRuntime) {
     let text = cases(rt.alloc()).expect(&rt, "memory");
-    let wanted = "int f(void) {\n  do\n    switch (a) {\n      case 1:\n      default:\n      return b;\n    }\n  while (c);\n}\n";
+    let wanted =
+        "int f(void) {\n  do\n    switch (a) {\n      case 1:\n      default:\n      return b;\n    }\n  while (c);\n}\n";
     assert!(rt; text.as_slice() == wanted.as_bytes());
 }
 

@@ -14,7 +14,12 @@ use lt_tree::{BasicType, Specifiers, Storage, Terminal, TypeWord};
 use std::alloc::AllocError;
 
 /// A word behind others, if it is there. Gives whether any stands now.
-pub fn put_word_if(out: &mut Vec<u8>, before: bool, there: bool, word: Terminal) -> Result<bool, AllocError>
+pub fn put_word_if(
+    out: &mut Vec<u8>,
+    before: bool,
+    there: bool,
+    word: Terminal,
+) -> Result<bool, AllocError>
     ensures text { OnOk result (out.new.items ≡ out.old.items ++ text_of (behind before (spec.word_if there word))) }
     ensures stands { IfOk result (λ now. now ≡ (before || there)) }
 {

@@ -41,6 +41,6 @@ put_initialisers-returns t c =
 pub put_initialiser-returns-in_ok-put_initialisers-in-List : goal.put_initialiser-returns-in_ok-put_initialisers-in-List
 put_initialiser-returns-in_ok-put_initialisers-in-List t c =
     on_ok c.put_sign-in-List.result
-      (λ e. joined _ _ _ _ _ (joined _ _ _ _ _ c.in_ok-put_sign-in-List.ensures c.in_ok-put_initialisers-in-List.ensures) e ∙ ap (λ (x : tree.Initialiser). c.args.out.now.items ++ text_of (initialiser c.args.line x))
-        (sym (ap initialiser_of c.in-List.is ∙ braces_is c.in-List.parts ∙ ap (λ (x : List Initialiser). tree.Braces (initialisers_in x)) (sym c.deref.ensures.value))))
-      c.put_sign-in-List.ensures
+    (λ e. joined _ _ _ _ _ (joined _ _ _ _ _ c.in_ok-put_sign-in-List.ensures c.in_ok-put_initialisers-in-List.ensures) e ∙ ap (λ (x : tree.Initialiser). c.args.out.now.items ++ text_of (initialiser c.args.line x))
+    (sym (ap initialiser_of c.in-List.is ∙ braces_is c.in-List.parts ∙ ap (λ (x : List Initialiser). tree.Braces (initialisers_in x)) (sym c.deref.ensures.value))))
+    c.put_sign-in-List.ensures

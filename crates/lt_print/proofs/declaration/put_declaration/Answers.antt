@@ -30,8 +30,8 @@ use Rattle.lt_print.proofs.declaration.put_declaration.Goals as goal
 pub returns : goal.returns
 returns c =
     on_ok c.put_sign.result
-      (λ e. declaration_text c.args.line (declaration_of c.args.declaration.now) c.in_ok-before.before _ _ _ _ _ c.in_ok-before.ensures.text c.in_ok-before.ensures.stands
-        (c.in_ok-put_gap_if.ensures ∙ ap (λ (b : Bool). c.put_specifiers.new.out.items ++ text_of (gap_if (c.in_ok-before.before && b))) (c.any_stands.ensures ∙ ap (λ (l : List InitDeclarator). declared_stand (map init_declarator_of l)) c.deref.ensures.value))
-        (c.in_ok-put_init_declarators.ensures ∙ ap (λ (l : List InitDeclarator). c.put_gap_if.new.out.items ++ text_of (init_declarators c.args.line (map init_declarator_of l))) c.deref-2.ensures.value)
-        e)
-      c.put_sign.ensures
+    (λ e. declaration_text c.args.line (declaration_of c.args.declaration.now) c.in_ok-before.before _ _ _ _ _ c.in_ok-before.ensures.text c.in_ok-before.ensures.stands
+    (c.in_ok-put_gap_if.ensures ∙ ap (λ (b : Bool). c.put_specifiers.new.out.items ++ text_of (gap_if (c.in_ok-before.before && b))) (c.any_stands.ensures ∙ ap (λ (l : List InitDeclarator). declared_stand (map init_declarator_of l)) c.deref.ensures.value))
+    (c.in_ok-put_init_declarators.ensures ∙ ap (λ (l : List InitDeclarator). c.put_gap_if.new.out.items ++ text_of (init_declarators c.args.line (map init_declarator_of l))) c.deref-2.ensures.value)
+    e)
+    c.put_sign.ensures

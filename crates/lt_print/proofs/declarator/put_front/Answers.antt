@@ -8,7 +8,7 @@ loop-at-init c = front_start c.args.named c.args.parts.now (length c.args.parts.
 pub loop-at-preserved-in-Pointer : goal.loop-at-preserved-in-Pointer
 loop-at-preserved-in-Pointer c =
     front_pointer c.args.named c.args.parts.now (c.loop-at.at - 1) c.loop-at.at c.index-parts-at.result c.in-Pointer.quals c.loop-at.suffixed _ _ _ _ (omega arith) (omega arith) c.index-parts-at.is c.in-Pointer.is
-      c.loop-at.invariant c.in_ok-put_sign_if.ensures c.in_ok-put_star.ensures
+    c.loop-at.invariant c.in_ok-put_sign_if.ensures c.in_ok-put_star.ensures
 
 pub loop-at-preserved : goal.loop-at-preserved
 loop-at-preserved c =

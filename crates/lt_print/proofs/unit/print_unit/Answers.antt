@@ -33,9 +33,9 @@ loop-external-init c = ap (λ (x : List ℕ). x ++ text_of (flat_map external (m
 pub loop-external-preserved : goal.loop-external-preserved
 loop-external-preserved c =
     next (λ (l : List External). flat_map external (map external_of l)) (λ (l : List External). flat_map external (map external_of l)) _ c.deref-external-items.result.now c.loop-external.external-index c.external-item.result c.loop-external.out.items _ _
-      c.loop-external-test.true c.external-item.is c.in_ok-put_external.ensures refl c.loop-external.invariant
+    c.loop-external-test.true c.external-item.is c.in_ok-put_external.ensures refl c.loop-external.invariant
 
 pub returns : goal.returns
 returns c =
     ended (λ (l : List External). flat_map external (map external_of l)) c.deref-external-items.result.now c.loop-external.external-index _ _ (omega arith) refl c.loop-external.invariant
-      ∙ ap (λ (l : List External). text_of (flat_map external (map external_of l))) c.deref-external-items.ensures.value
+    ∙ ap (λ (l : List External). text_of (flat_map external (map external_of l))) c.deref-external-items.ensures.value

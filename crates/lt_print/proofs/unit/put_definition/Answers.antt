@@ -30,9 +30,9 @@ use Rattle.lt_print.proofs.unit.put_definition.Goals as goal
 pub returns : goal.returns
 returns c =
     on_ok c.end_line.result
-      (λ e. joined _ _ _ _ _ (apart_text _ _ c.in_ok-before.before _ _ _ c.in_ok-before.ensures.stands c.in_ok-before.ensures.text c.in_ok-put_declared.ensures)
-          (joined _ _ _ _ _ c.in_ok-open_braces.ensures
-            (joined _ _ _ _ _ (c.in_ok-put_items.ensures ∙ ap (λ (l : List Item). c.open_braces.new.out.items ++ text_of (item_lines 1 (items_in l))) c.deref.ensures.value) (joined _ _ _ _ _ c.in_ok-put_sign.ensures e)))
-        ∙ ap (λ (x : Pieces). c.args.out.now.items ++ text_of x)
-          (definition_shape (apart (specifiers 0 (specifiers_of c.args.definition.now.specifiers)) (declarator 0 (declarator_of c.args.definition.now.declarator))) (item_lines 1 (items_in c.args.definition.now.body.items))))
-      c.end_line.ensures
+    (λ e. joined _ _ _ _ _ (apart_text _ _ c.in_ok-before.before _ _ _ c.in_ok-before.ensures.stands c.in_ok-before.ensures.text c.in_ok-put_declared.ensures)
+    (joined _ _ _ _ _ c.in_ok-open_braces.ensures
+    (joined _ _ _ _ _ (c.in_ok-put_items.ensures ∙ ap (λ (l : List Item). c.open_braces.new.out.items ++ text_of (item_lines 1 (items_in l))) c.deref.ensures.value) (joined _ _ _ _ _ c.in_ok-put_sign.ensures e)))
+    ∙ ap (λ (x : Pieces). c.args.out.now.items ++ text_of x)
+    (definition_shape (apart (specifiers 0 (specifiers_of c.args.definition.now.specifiers)) (declarator 0 (declarator_of c.args.definition.now.declarator))) (item_lines 1 (items_in c.args.definition.now.body.items))))
+    c.end_line.ensures
