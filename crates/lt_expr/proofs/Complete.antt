@@ -31,12 +31,12 @@ parts_filled : {scope : Scope} {ts rest : List Symbol} {es : c.Expressions} {spo
 parts_filled (g.last_part x) = refl
 parts_filled (g.more_parts x xs) = refl
 
-mark_begins : {scope : Scope} {ts rest : List Symbol} {m : c.Mark} {spots more : List ℕ} → IsMark scope ts m rest spots more → begins_mark ts ≡ true
+pub mark_begins : {scope : Scope} {ts rest : List Symbol} {m : c.Mark} {spots more : List ℕ} → IsMark scope ts m rest spots more → begins_mark ts ≡ true
 unfolding same_terminal
 mark_begins (g.label x l) = refl
 mark_begins (g.binding_label x l b) = refl
 
-marks_begin : {scope : Scope} {ts rest : List Symbol} {ms : c.Marks} {spots more : List ℕ} → AreMarks scope ts ms rest spots more → begins_mark ts ≡ true
+pub marks_begin : {scope : Scope} {ts rest : List Symbol} {ms : c.Marks} {spots more : List ℕ} → AreMarks scope ts ms rest spots more → begins_mark ts ≡ true
 marks_begin (g.last_mark x) = mark_begins x
 marks_begin (g.more_marks x xs) = mark_begins x
 
@@ -45,7 +45,7 @@ unfolding same_terminal
 bindings_begin (g.last_binding x) = (refl, refl)
 bindings_begin (g.more_bindings x xs) = (refl, refl)
 
-specifiers_begin : {scope : Scope} {ts rest : List Symbol} {ss : c.Specifiers} {spots more : List ℕ} → AreSpecifiers scope ts ss rest spots more → begins_specifier scope false ts ≡ true
+pub specifiers_begin : {scope : Scope} {ts rest : List Symbol} {ss : c.Specifiers} {spots more : List ℕ} → AreSpecifiers scope ts ss rest spots more → begins_specifier scope false ts ≡ true
 specifiers_begin (g.some_specifiers b x) = b
 
 type_name_begins : {scope : Scope} {ts rest : List Symbol} {ss : c.Specifiers} {d : c.Declarator} {spots more : List ℕ} → IsTypeName scope ts ss d rest spots more → begins_specifier scope false ts ≡ true
@@ -104,12 +104,12 @@ unfolding same_terminal
 named_pointers takes (g.pointer q x) = refl
 named_pointers takes (g.no_pointer a x) = named_direct takes x
 
-named_declarator : {scope : Scope} {naming : Naming} {ts rest : List Symbol} {d : c.Declarator} {spots more : List ℕ}
+pub named_declarator : {scope : Scope} {naming : Naming} {ts rest : List Symbol} {d : c.Declarator} {spots more : List ℕ}
     → takes_none naming ≡ false → IsDeclarator scope naming ts d rest spots more → sees t.Semicolon ts ≡ false
 named_declarator takes (g.written x e) = named_pointers takes x
 named_declarator takes (g.missing a b) = absurd cc
 
-behind_takes_a_name : (ss : c.Specifiers) → takes_none (naming_behind ss) ≡ false
+pub behind_takes_a_name : (ss : c.Specifiers) → takes_none (naming_behind ss) ≡ false
 behind_takes_a_name (c.specifiers words c.no_types) = refl
 behind_takes_a_name (c.specifiers words (c.a_type first rest)) = refl
 
@@ -180,7 +180,7 @@ mutual
   complete (g.sequence x i z) ends = operators.sequence_complete _ _ _ _ _ _ _ _ _ _ ends i (parts_filled z) (omega (arith, shorter x)) (complete x ends) (complete_parts z)
   complete (g.longer_sequence x z) ends = operators.longer_sequence_complete _ _ _ _ _ _ _ _ _ _ _ ends (parts_filled z) (omega (arith, shorter x)) (complete x ends) (complete_parts z)
 
-  complete_parts : {scope : Scope} {ts rest : List Symbol} {es : c.Expressions} {spots more : List ℕ} → AreParts scope ts es rest spots more → (ends : List ℕ) → Parts scope ts es rest spots more ends
+  pub complete_parts : {scope : Scope} {ts rest : List Symbol} {es : c.Expressions} {spots more : List ℕ} → AreParts scope ts es rest spots more → (ends : List ℕ) → Parts scope ts es rest spots more ends
   complete_parts (g.last_part x) ends = operators.last_part_complete _ _ _ _ _ _ ends (complete x ends)
   complete_parts (g.more_parts x z) ends = operators.more_parts_complete _ _ _ _ _ _ _ _ _ _ ends (omega (arith, shorter x)) (complete x ends) (complete_parts z)
 
@@ -197,7 +197,7 @@ mutual
   complete_bindings (g.last_binding x) ends = marks.last_binding_complete _ _ _ _ _ _ _ _ _ _ ends (complete x ends)
   complete_bindings (g.more_bindings x z) ends = marks.more_bindings_complete _ _ _ _ _ _ _ _ _ _ _ _ _ ends (bindings_begin z).0 (bindings_begin z).1 (shorter x) (complete x ends) (complete_bindings z)
 
-  complete_marks : {scope : Scope} {ts rest : List Symbol} {ms : c.Marks} {spots more : List ℕ} → AreMarks scope ts ms rest spots more → (ends : List ℕ) → marks.Marks scope ts ms rest spots more ends
+  pub complete_marks : {scope : Scope} {ts rest : List Symbol} {ms : c.Marks} {spots more : List ℕ} → AreMarks scope ts ms rest spots more → (ends : List ℕ) → marks.Marks scope ts ms rest spots more ends
   complete_marks (g.last_mark x) ends = marks.last_mark_complete _ _ _ _ _ _ _ ends (complete_mark x ends)
   complete_marks (g.more_marks x z) ends = marks.more_marks_complete _ _ _ _ _ _ _ _ _ _ ends (marks_begin z) (omega (arith, mark_shorter x)) (complete_mark x ends) (complete_marks z)
 
