@@ -1,5 +1,5 @@
 -- What is derived of initialisers and declarations is read, C11 6.7.9 and 6.7.
-use Rattle.std.proofs.Common.{◌≡◌, ℕ, suc, ◌+◌, ◌*◌, ◌≤◌, Bool, true, false, List, [], ◌∷◌, length, Option, Some, None, refl, ap, ◌∙◌, arith}
+use Rattle.std.proofs.Common.{◌≡◌, ℕ, suc, ◌≤◌, Bool, false, List, [], ◌∷◌, length, Option, Some, None, refl, ap, ◌∙◌, arith}
 use Rattle.lt_tree.specs.declared.terminal.Terminal.TheVariants as t
 use Rattle.lt_tree.specs.Tree as c
 use Rattle.lt_tree.specs.Symbols.{Symbol, sign, start_of}
@@ -9,15 +9,14 @@ use Rattle.lt_tree.specs.Grammar as g
 use Rattle.lt_tree.specs.Declarations as dc
 use Rattle.lt_tree.specs.Declarations.{IsInitialiser, AreInitialisers, IsOptionalInitialiser, AreDeclarators, IsDeclaration}
 use Rattle.lt_expr.specs.Reading as ex
-use Rattle.lt_expr.specs.Walk.{Walked, node, walk, walk_specifiers, walk_declarator}
+use Rattle.lt_expr.specs.Walk.{Walked, walk, walk_specifiers, walk_declarator}
 use Rattle.lt_expr.proofs.CompleteFronts.{follows}
 use Rattle.lt_expr.proofs.CompleteStarts.{specifiers_shorter, declarator_short}
 use Rattle.lt_expr.proofs.CompleteForms.{Read, once, node_of}
 use Rattle.lt_expr.proofs.Complete.{complete, complete_specifiers, complete_declarator, named_declarator, behind_takes_a_name}
-use Rattle.lt_decl.specs.Items.{initialisers_by}
 use Rattle.lt_decl.specs.Reading as read
 use Rattle.lt_decl.specs.Walk.{walk_initialiser, walk_initialisers, walk_optional_initialiser, walk_declarators, walk_declaration}
-use Rattle.lt_decl.proofs.CompleteStarts.{may_open, expression_opens, unseen, initialiser_shorter, optional_initialiser_short}
+use Rattle.lt_decl.proofs.CompleteStarts.{expression_opens, unseen, initialiser_shorter, optional_initialiser_short}
 
 -- ---- initialisers
 

@@ -1,5 +1,11 @@
+pub mod Walks
 pub mod CompleteStarts
 pub mod CompleteDeclarations
+pub mod CompleteMarked
+pub mod CompleteStatements
+pub mod CompleteItems
+pub mod Complete
+pub mod CompleteUnits
 pub mod SoundForms
 pub mod SoundDeclarations
 pub mod SoundMarked

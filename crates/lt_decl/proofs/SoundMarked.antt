@@ -1,16 +1,16 @@
 -- What stands in statements: tests, optional expressions, starts of loops, labels, and expressions behind their first mark. What is read is derived.
-use Rattle.std.proofs.Common.{◌≡◌, ℕ, zero, suc, false, List, [], ◌∷◌, drop, Option, Some, None, refl}
+use Rattle.std.proofs.Common.{ℕ, zero, suc, false, List, ◌∷◌, drop, Option, Some, None, refl}
 use Rattle.lt_tree.specs.declared.terminal.Terminal.{Terminal}
 use Rattle.lt_tree.specs.declared.terminal.Terminal.TheVariants as t
 use Rattle.lt_tree.specs.Tree as c
 use Rattle.lt_tree.specs.Symbols.{Symbol, start_of}
 use Rattle.lt_tree.specs.Scope.{Scope, after_expression}
-use Rattle.lt_tree.specs.Ahead.{sees, begins_specifier}
+use Rattle.lt_tree.specs.Ahead.{begins_specifier}
 use Rattle.lt_tree.specs.Grammar as g
 use Rattle.lt_tree.specs.Statements as st
 use Rattle.lt_tree.specs.Statements.{IsForStart, AreLabels}
 use Rattle.lt_expr.specs.Front.{Rest, behind, ended, begins_mark}
-use Rattle.lt_expr.specs.Walk.{Walked, walk, walk_marks}
+use Rattle.lt_expr.specs.Walk.{walk, walk_marks}
 use Rattle.lt_expr.specs.Reading as ex
 use Rattle.lt_expr.proofs.Sound.{sound}
 use Rattle.lt_expr.proofs.SoundSteps.{Yields, nothing, given, weaker, both, chosen}
@@ -18,7 +18,7 @@ use Rattle.lt_expr.proofs.SoundFronts.{Sees, seen, seeing, expecting}
 use Rattle.lt_expr.proofs.SoundSpots.{Spotted, no_spot, by_rule, same_walk, two, node_of_two, node_of_three, node_and_others}
 use Rattle.lt_decl.specs.Items.{start_by, marks_by}
 use Rattle.lt_decl.specs.Reading as read
-use Rattle.lt_decl.specs.Walk.{walk_optional, walk_start}
+use Rattle.lt_decl.proofs.Walks.{start_walk}
 use Rattle.lt_decl.proofs.SoundForms.{one_leaf, IsTest, test, TestSound, IsUpTo, up_to, OptionalSound, DeclarationSound, ForStartSound, LabelsSound, IsFirst, first, AreMore, none, some, OnSound}
 use Rattle.lt_decl.proofs.SoundDeclarations.{declaration_sound}
 
@@ -39,10 +39,6 @@ start_rule : {scope : Scope} {ts rest : List Symbol} (x : Option c.Expression) {
     → IsUpTo t.Semicolon scope ts x rest spots more → IsForStart scope ts (start_by x) rest spots more
 start_rule None (up_to st.left_out) = st.nothing
 start_rule (Some e) (up_to (st.given h)) = st.expression h
-
-start_walk : (x : Option c.Expression) (w : Walked) → walk_start (start_by x) w ≡ walk_optional x w
-start_walk None w = refl
-start_walk (Some e) w = refl
 
 case_rule : {scope : Scope} {ts us rest : List Symbol} {e : c.Expression} {labels : List c.Label} {spots middle more : List ℕ}
     → Sees t.Case ts → Sees t.Colon us → g.IsExpression scope g.conditional (drop 1 ts) e us spots middle

@@ -9,16 +9,16 @@ use Rattle.lt_tree.specs.Ahead.{sees, begins_specifier}
 use Rattle.lt_tree.specs.Grammar as g
 use Rattle.lt_tree.specs.Statements as st
 use Rattle.lt_tree.specs.Statements.{IsForStart, AreLabels, IsStatement, AreItems, AreCases}
-use Rattle.lt_expr.specs.Front.{Rest, behind, ended, begins_mark}
-use Rattle.lt_expr.specs.Walk.{Walked}
+use Rattle.lt_expr.specs.Front.{Rest, behind, begins_mark}
 use Rattle.lt_expr.specs.Reading as ex
 use Rattle.lt_expr.proofs.Sound.{sound}
-use Rattle.lt_expr.proofs.SoundSteps.{Yields, nothing, given, weaker, both, chosen}
+use Rattle.lt_expr.proofs.SoundSteps.{Yields, given, weaker, both, chosen}
 use Rattle.lt_expr.proofs.SoundFronts.{Sees, seen, at_front, seeing, expecting}
 use Rattle.lt_expr.proofs.SoundSpots.{Spotted, no_spot, by_rule, same_walk, two, three, one_node, node_of_two, node_of_three}
-use Rattle.lt_decl.specs.Items.{Item, declared, stated, marked, item_before, after_item}
+use Rattle.lt_decl.specs.Items.{marked, after_item}
 use Rattle.lt_decl.specs.Reading as read
-use Rattle.lt_decl.specs.Walk.{walk_start, walk_optional, walk_statement, walk_items, walk_item}
+use Rattle.lt_decl.specs.Walk.{walk_statement}
+use Rattle.lt_decl.proofs.Walks.{item_walk}
 use Rattle.lt_decl.proofs.SoundForms.{one_leaf, node_of_node, IsTest, test, IsUpTo, up_to, IsFirst, first, StatementSound, BehindSound, CasesSound, ItemsSound, IsItem, ItemSound, MarkedItemSound}
 use Rattle.lt_decl.proofs.SoundDeclarations.{declaration_sound}
 use Rattle.lt_decl.proofs.SoundMarked.{test_sound, optional_sound, for_start_sound, labels_sound, expression_on_sound}
@@ -96,12 +96,6 @@ label_rule seen h = record { before = λ items end more k. st.label h k }
 
 first_rule : {scope : Scope} {ts us : List Symbol} {m : c.Mark} {spots more : List ℕ} → Sees t.Comma us → g.IsMark scope ts m us spots more → IsFirst scope ts m (drop 1 us) spots more
 first_rule seen h = first h
-
--- a walk over items, whatever the first one is
-item_walk : (i : Item) (items : c.Items) (w : Walked) → walk_items (item_before i items) w ≡ walk_item i (walk_items items w)
-item_walk (declared d) items w = refl
-item_walk (stated x) items w = refl
-item_walk (marked m) items w = refl
 
 -- ---- a step of each
 

@@ -1,5 +1,5 @@
 -- A unit that is read is derived.
-use Rattle.std.proofs.Common.{◌≡◌, ℕ, zero, suc, true, List, [], ◌∷◌, drop, Option, Some}
+use Rattle.std.proofs.Common.{◌≡◌, ℕ, zero, suc, true, List, [], ◌∷◌, drop}
 use Rattle.lt_tree.specs.declared.terminal.Terminal.TheVariants as t
 use Rattle.lt_tree.specs.Tree as c
 use Rattle.lt_tree.specs.Symbols.{Symbol, start_of}
@@ -12,12 +12,12 @@ use Rattle.lt_tree.specs.Statements.{AreItems}
 use Rattle.lt_tree.specs.Units as un
 use Rattle.lt_tree.specs.Units.{AreExternals}
 use Rattle.lt_expr.specs.Front.{Rest, behind}
-use Rattle.lt_expr.specs.Walk.{Walked, walk_specifiers, walk_declarator}
+use Rattle.lt_expr.specs.Walk.{walk_specifiers, walk_declarator}
 use Rattle.lt_expr.specs.Reading as ex
 use Rattle.lt_expr.specs.Reading.{enough}
 use Rattle.lt_expr.proofs.Sound.{sound}
 use Rattle.lt_expr.proofs.SoundSteps.{Yields, nothing, given, weaker, both, chosen}
-use Rattle.lt_expr.proofs.SoundFronts.{Sees, seen, seeing, expecting}
+use Rattle.lt_expr.proofs.SoundFronts.{Sees, seen, seeing}
 use Rattle.lt_expr.proofs.SoundSpots.{Spotted, spotted, no_spot, by_rule, two, one_node, node_of_two, node_of_three}
 use Rattle.lt_decl.specs.Items.{at_end}
 use Rattle.lt_decl.specs.Reading as read

@@ -13,7 +13,7 @@ use Rattle.lt_tree.specs.Tree as c
 use Rattle.lt_tree.specs.Symbols.{Symbol, start_of}
 use Rattle.lt_tree.specs.Scope.{Scope, after_expression, after_optional, after_specifiers, after_declarator, after_initialiser, after_start, after_labels, after_statement, after_external, in_body, makes_types}
 use Rattle.lt_tree.specs.Ahead.{Naming, naming_behind, sees, begins_specifier}
-use Rattle.lt_expr.specs.Front.{Rest, Reader, ◌>>=◌, behind, ended, expect, begins_mark}
+use Rattle.lt_expr.specs.Front.{Reader, ◌>>=◌, behind, ended, expect, begins_mark}
 use Rattle.lt_expr.specs.Reading.{enough, expression, parts, assignment, conditional, mark, marks, specifiers, declarator}
 use Rattle.lt_decl.specs.Items.{Item, declared, stated, marked, item_before, after_item, start_by, initialisers_by, marks_by, at_end}
 
