@@ -1,3 +1,4 @@
 pub mod Types
 pub mod Extents
 pub mod Constants
+pub mod Rules
