@@ -2,3 +2,4 @@ pub mod Types
 pub mod Extents
 pub mod Constants
 pub mod Rules
+pub mod TypedTree
