@@ -3,3 +3,5 @@ pub mod Extents
 pub mod Constants
 pub mod Rules
 pub mod TypedTree
+pub mod Entities
+pub mod Steps
