@@ -5,3 +5,7 @@ pub mod Rules
 pub mod TypedTree
 pub mod Entities
 pub mod Steps
+pub mod Operands
+pub mod Expressions
+pub mod Operations
+pub mod BinaryOperations
