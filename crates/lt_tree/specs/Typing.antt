@@ -9,3 +9,4 @@ pub mod Operands
 pub mod Expressions
 pub mod Operations
 pub mod BinaryOperations
+pub mod MarkRules
