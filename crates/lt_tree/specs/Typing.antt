@@ -10,3 +10,5 @@ pub mod Expressions
 pub mod Operations
 pub mod BinaryOperations
 pub mod MarkRules
+pub mod Specifying
+pub mod ExpressionTyping
