@@ -12,3 +12,5 @@ pub mod BinaryOperations
 pub mod MarkRules
 pub mod Specifying
 pub mod ExpressionTyping
+pub mod Filling
+pub mod InitialiserTyping
