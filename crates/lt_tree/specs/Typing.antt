@@ -14,3 +14,5 @@ pub mod Specifying
 pub mod ExpressionTyping
 pub mod Filling
 pub mod InitialiserTyping
+pub mod Declaring
+pub mod DeclarationTyping
