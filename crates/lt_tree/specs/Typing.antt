@@ -16,3 +16,6 @@ pub mod Filling
 pub mod InitialiserTyping
 pub mod Declaring
 pub mod DeclarationTyping
+pub mod StatementTyping
+pub mod Programs
+pub mod UnitTyping
