@@ -11,6 +11,8 @@ pub mod Operations
 pub mod BinaryOperations
 pub mod MarkRules
 pub mod Specifying
+pub mod Declarators
+pub mod NodeEnds
 pub mod ExpressionTyping
 pub mod Filling
 pub mod InitialiserTyping
@@ -19,3 +21,9 @@ pub mod DeclarationTyping
 pub mod StatementTyping
 pub mod Programs
 pub mod UnitTyping
+pub mod Shapes
+pub mod TypeView
+pub mod ExampleTexts
+pub mod ExpressionExamples
+pub mod UnitExamples
+pub mod ProgramExamples

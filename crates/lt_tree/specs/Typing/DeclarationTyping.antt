@@ -4,11 +4,12 @@ use Rattle.lt_tree.specs.Tree as c
 use Rattle.lt_tree.specs.Typing.Types.{CType}
 use Rattle.lt_tree.specs.Typing.Rules.{Rule}
 use Rattle.lt_tree.specs.Typing.TypedTree.{Local, Start}
-use Rattle.lt_tree.specs.Typing.Entities.{Known, a_typedef, Life, is_static}
-use Rattle.lt_tree.specs.Typing.Steps.{Walk, ◌>>=◌, ◌>>◌, gives, here, changes, settle, binds}
-use Rattle.lt_tree.specs.Typing.Specifying.{Specified, Declares}
+use Rattle.lt_tree.specs.Typing.Entities.{a_typedef, Life, is_static}
+use Rattle.lt_tree.specs.Typing.Steps.{Walk, ◌>>=◌, ◌>>◌, gives, here, changes, binds}
+use Rattle.lt_tree.specs.Typing.Specifying.{Specified}
+use Rattle.lt_tree.specs.Typing.Declarators.{Declares}
 use Rattle.lt_tree.specs.Typing.ExpressionTyping.{specifiers, declarator}
-use Rattle.lt_tree.specs.Typing.InitialiserTyping.{Started, object_initialiser, initialiser_of_none}
+use Rattle.lt_tree.specs.Typing.InitialiserTyping.{object_initialiser, initialiser_of_none}
 use Rattle.lt_tree.specs.Typing.Declaring.{Kind, a_type_name, a_function_name, an_object_of, kind_of, declaration_faults, declare_function, declare_object, with_start, length_faults}
 
 -- the initialiser of what is no object, if there is one
@@ -29,14 +30,14 @@ started_object life n t (Some i) = do
   gives (created (is_static life) n (Some it.start))
 
 -- A name is in scope from the end of its declarator, in its own initialiser too.
-abbrev pub declare : Kind → List ℕ → CType → Option c.Initialiser → Walk (List Local)
-declare a_type_name name t i = binds name (a_typedef t) >> no_object i
-declare a_function_name name t i = declare_function name t >> no_object i
-declare (an_object_of life is_register) name t i = declare_object life is_register name t >>= (λ n. started_object life n t i)
+abbrev pub declare : Kind → ℕ → List ℕ → CType → Option c.Initialiser → Walk (List Local)
+declare a_type_name node name t i = binds name (a_typedef t) >> no_object i
+declare a_function_name node name t i = declare_function name t >> no_object i
+declare (an_object_of life is_register) node name t i = declare_object life is_register node name t >>= (λ n. started_object life n t i)
 
 abbrev pub declare_named : Specified → Declares → Option c.Initialiser → Walk (List Local)
 declare_named it declared i =
-    here >>= (λ known. elim (declared.name) [ None ↦ no_object i | Some name ↦ declare (kind_of known it.storage declared.type) name declared.type i ])
+    here >>= (λ known. elim (declared.name) [ None ↦ no_object i | Some name ↦ declare (kind_of known it.storage declared.type) declared.node name declared.type i ])
 
 abbrev pub init_declarator : Specified → c.InitDeclarator → Walk (List Local)
 init_declarator it d = do

@@ -1,22 +1,20 @@
 -- What declarations declare, and which rules they break: C11 6.2.2, 6.7, 6.7.9 and 6.9.
-use Rattle.std.specs.Prelude.{ℕ, ◌==◌, Bool, true, false, not, ◌&&◌, ◌||◌, if◌then◌else◌, List, [], ◌∷◌, ◌++◌, slice_get, slice_set, Option, Some, None, is_some, unwrap_or}
+use Rattle.std.specs.Prelude.{ℕ, ◌==◌, Bool, true, false, not, ◌&&◌, ◌||◌, if◌then◌else◌, List, [], ◌∷◌, ◌++◌, slice_get, slice_set, Option, Some, None, is_some}
 use denote.Enum.Bare.{sameb}
 use Rattle.std.specs.List.{list_any}
 use Rattle.std.specs.Str.{bytes_eq}
 use Rattle.lt_tree.specs.contracts.specifier.Storage.{the_type}
 use Rattle.lt_tree.specs.declared.specifier.Storage.{Storage}
 use Rattle.lt_tree.specs.declared.specifier.Storage.TheVariants as storage
-use Rattle.lt_tree.specs.Tree as c
-use Rattle.lt_tree.specs.Typing.Types.{CType, CTypes, no_types, a_type, Void, Num, Array, Function, same, is_void, is_integer, is_pointer, is_array, is_function}
+use Rattle.lt_tree.specs.Typing.Types.{CType, CTypes, no_types, a_type, Array, Function, same, is_void, is_integer, is_pointer, is_function}
 use Rattle.lt_tree.specs.Typing.Extents.{has_too_many_cells}
 use Rattle.lt_tree.specs.Typing.Rules.{Rule, broken_if, declared_twice, incomplete_type, floating_type, bad_length, function_as_value, bad_definition, function_disagrees}
 use Rattle.lt_tree.specs.Typing.TypedTree.{Start}
-use Rattle.lt_tree.specs.Typing.Entities.{Known, Entity, an_object, a_function, a_typedef, an_enumerator, Life, linked, local_static, automatic, Object, Declared, is_linked, is_static, declared_among, declared_here, is_file_scope, linked_object, type_of_object}
+use Rattle.lt_tree.specs.Typing.Entities.{Known, Entity, an_object, a_function, a_typedef, Life, linked, local_static, automatic, is_linked, declared_among, declared_here, is_file_scope, linked_object, type_of_object}
 use Rattle.lt_tree.specs.Typing.Steps.{Walk, ◌>>=◌, ◌>>◌, gives, here, changes, binds, add_object}
 use Rattle.lt_tree.specs.Typing.Operands.{holds}
 use Rattle.lt_tree.specs.Typing.Expressions.{has_floating, has_pointer_to_function}
-use Rattle.lt_tree.specs.Typing.Operations.{unless, is_among}
-use Rattle.lt_tree.specs.Typing.Specifying.{Specified, Parameters, Built, is_incomplete, lacks_length}
+use Rattle.lt_tree.specs.Typing.Declarators.{Parameters, Built, is_incomplete, lacks_length}
 
 -- ---- what a declarator declares
 
@@ -74,9 +72,9 @@ is_initialised known name = holds (λ n. holds (λ object. is_some object.start)
 abbrev pub is_object_declared_twice : Known → Life → List ℕ → CType → Bool → Bool
 is_object_declared_twice known life name t has_initialiser =
     if is_linked life then
-      not (agrees_with_object known name t)
-      || holds (λ entity. not (is_linked_object known entity)) (declared_here name known)
-      || (has_initialiser && is_initialised known name)
+    not (agrees_with_object known name t)
+    || holds (λ entity. not (is_linked_object known entity)) (declared_here name known)
+    || (has_initialiser && is_initialised known name)
     else is_some (declared_here name known)
 
 abbrev pub is_declared_twice : Known → Kind → List ℕ → CType → Bool → Bool
@@ -117,32 +115,34 @@ declaration_faults class has_initialiser name known it = named_faults known name
 -- a function is in the list of those that are declared, once
 abbrev pub with_declared : List ℕ → CType → Known → Known
 with_declared name t known = elim (declared_among name known.declared) [
-    None ↦ record known { declared = known.declared ++ record { name = name; type = t } ∷ [] }
-  | Some u ↦ known ]
+  | None ↦ record known { declared = known.declared ++ record { name = name; type = t } ∷ [] }
+  | Some u ↦ known
+]
 
 abbrev pub declare_function : List ℕ → CType → Walk (Unit {0})
 declare_function name t = changes (with_declared name t) >> binds name a_function
 
-abbrev pub new_object : Life → List ℕ → CType → Walk ℕ
-new_object life name t = add_object (record { name = name; type = t; life = life; start = None })
+abbrev pub new_object : Life → ℕ → List ℕ → CType → Walk ℕ
+new_object life node name t = add_object (record { node = node; name = name; type = t; life = life; start = None })
 
 -- a linked object is the one that is there already
-abbrev pub object_for : Life → List ℕ → CType → Option ℕ → Walk ℕ
-object_for life name t None = new_object life name t
-object_for life name t (Some n) = if is_linked life then gives n else new_object life name t
+abbrev pub object_for : Life → ℕ → List ℕ → CType → Option ℕ → Walk ℕ
+object_for life node name t None = new_object life node name t
+object_for life node name t (Some n) = if is_linked life then gives n else new_object life node name t
 
-abbrev pub declare_object : Life → Bool → List ℕ → CType → Walk ℕ
-declare_object life is_register name t = do
+abbrev pub declare_object : Life → Bool → ℕ → List ℕ → CType → Walk ℕ
+declare_object life is_register node name t = do
   known ← here
-  n ← object_for life name t (linked_object name known)
+  n ← object_for life node name t (linked_object name known)
   binds name (an_object n is_register)
   gives n
 
 -- an object, where it is known how it starts and how long it is
 abbrev pub with_start : ℕ → Option Start → CType → Known → Known
 with_start n start t known = elim (slice_get known.objects n) [
-    None ↦ known
-  | Some object ↦ record known { objects = slice_set known.objects n (record object { type = t; start = start }) } ]
+  | None ↦ known
+  | Some object ↦ record known { objects = slice_set known.objects n (record object { type = t; start = start }) }
+]
 
 -- the type that an initialiser gives the object: it still has few enough cells, and is compatible with that of another declaration
 abbrev pub length_faults : ℕ → Known → CType → List Rule

@@ -1,10 +1,9 @@
 -- What names and tags stand for, C11 6.2.1 to 6.2.4, and the program as far as it is known at a place of the text.
-use Rattle.std.specs.Prelude.{ℕ, ℤ, zero, suc, ◌+◌, ◌==◌, ◌&&◌, Bool, true, false, not, if◌then◌else◌, List, [], ◌∷◌, ◌++◌, length, map, slice_get, Option, Some, None, is_some, unwrap_or, option_map}
+use Rattle.std.specs.Prelude.{ℕ, ℤ, ◌+◌, ◌==◌, ◌&&◌, ◌||◌, Bool, true, false, if◌then◌else◌, List, [], ◌∷◌, length, slice_get, Option, Some, None, unwrap_or}
 use Rattle.std.specs.Str.{bytes_eq}
-use Rattle.std.specs.List.{list_any}
 use Rattle.lt_model.specs.declared.scalar.DataModel.{DataModel}
 use Rattle.lt_model.specs.Layout.{then_some}
-use Rattle.lt_tree.specs.Typing.Types.{CType, Void}
+use Rattle.lt_tree.specs.Typing.Types.{CType, Void, qualifiers_of}
 use Rattle.lt_tree.specs.Typing.Extents.{Structs}
 use Rattle.lt_tree.specs.Typing.Constants.{Constancy}
 use Rattle.lt_tree.specs.Typing.TypedTree.{Start, Items}
@@ -27,6 +26,8 @@ pub data Life : Type 0 where
 
 -- An object, with its declared type. One that is there from the start has what it holds then; where that is left out it is zero.
 pub record Object : Type 0 where
+  -- its first declarator, or the string literal
+  pub node : ℕ
   pub name : List ℕ
   pub type : CType
   pub life : Life
@@ -36,12 +37,20 @@ abbrev pub is_linked : Life → Bool
 is_linked linked = true
 is_linked _ = false
 
+abbrev pub is_literal : Life → Bool
+is_literal literal = true
+is_literal _ = false
+
 -- whether it is created before the run
 abbrev pub is_static : Life → Bool
 is_static linked = true
 is_static local_static = true
 is_static literal = true
 is_static _ = false
+
+-- An object that is declared `const` can't be written once it has its first value, an array by its elements; nor can a string literal.
+abbrev pub is_sealed : Object → Bool
+is_sealed object = is_literal object.life || (qualifiers_of object.type).constant
 
 -- the place of the object of this name that all its declarations share
 abbrev pub linked_from : ℕ → List ℕ → List Object → Option ℕ
@@ -62,6 +71,8 @@ declared_among name (f ∷ fs) = if bytes_eq f.name name then Some f.type else d
 
 -- a function with its body: its parameters are objects
 pub record Function : Type 0 where
+  -- the definition
+  pub node : ℕ
   pub name : List ℕ
   pub type : CType
   pub parameters : List ℕ

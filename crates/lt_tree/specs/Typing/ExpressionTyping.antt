@@ -1,100 +1,23 @@
 -- The typing of expressions, C11 6.5, and of all that stands inside them: specifiers, declarators, structs and enums, C11 6.7. Each clause goes over
 -- a node's parts in the order of the text and then judges the node itself.
-use Rattle.std.specs.Prelude.{ℕ, ℤ, pos, ◌+ℤ◌, Bool, true, false, not, ◌&&◌, if◌then◌else◌, List, [], ◌∷◌, ◌++◌, length, Option, Some, None, unwrap_or}
-use Rattle.lt_model.specs.declared.scalar.Scalar.TheVariants as S
+use Rattle.std.specs.Prelude.{ℕ, ℤ, pos, Bool, true, false, List, [], ◌∷◌, ◌++◌, Option, Some, None}
 use Rattle.lt_model.specs.declared.operator.Op.TheVariants as O
-use Rattle.lt_tree.specs.declared.expression.UnaryOp.{UnaryOp}
-use Rattle.lt_tree.specs.declared.expression.UnaryOp.TheVariants as unary
 use Rattle.lt_tree.specs.Tree as c
-use Rattle.lt_tree.specs.Typing.Types.{CType, CTypes, adjusted}
+use Rattle.lt_tree.specs.Typing.Types.{CType, adjusted}
 use Rattle.lt_tree.specs.Typing.Extents.{Member}
-use Rattle.lt_tree.specs.Typing.Constants.{constant_of, address}
-use Rattle.lt_tree.specs.Typing.Rules.{Rule, broken_if, incomplete_type, bit_field, bad_mark}
+use Rattle.lt_tree.specs.Typing.Constants.{constant_of}
+use Rattle.lt_tree.specs.Typing.Rules.{Rule, broken_if, incomplete_type}
 use Rattle.lt_tree.specs.Typing.TypedTree as e
-use Rattle.lt_tree.specs.Typing.TypedTree.{before, after, letters, Start}
-use Rattle.lt_tree.specs.Typing.Entities.{Known, Life, literal, unmade, Object, an_enumerator, innermost, meaning_of, type_of_object}
-use Rattle.lt_tree.specs.Typing.Steps.{Walk, ◌>>=◌, ◌>>◌, gives, here, enter, settle, in_block, without_marks, add_object, binds, adds_label}
-use Rattle.lt_tree.specs.Typing.Expressions.{Typed, Use, as_value, as_truth, as_place, as_callee, placed, own_type, value_in, Judged, judgement, finish}
-use Rattle.lt_tree.specs.Typing.Operations.{unless, judge_name, judge_constant, text_type, judge_plus, judge_minus, judge_complement, judge_not, judge_address_of, judge_dereference, judge_step, judge_size, judge_member, judge_arrow, judge_index, judge_call, judge_cast}
+use Rattle.lt_tree.specs.Typing.TypedTree.{before, after}
+use Rattle.lt_tree.specs.Typing.Entities.{Known, meaning_of, tagged_in}
+use Rattle.lt_tree.specs.Typing.Steps.{Walk, ◌>>=◌, ◌>>◌, gives, here, enter, settle, in_block, without_marks, add_object, adds_label}
+use Rattle.lt_tree.specs.Typing.Expressions.{Typed, Use, as_value, as_truth, as_place, as_callee, own_type, finish}
+use Rattle.lt_tree.specs.Typing.Operations.{judge_name, judge_constant, judge_step, judge_size, judge_member, judge_arrow, judge_index, judge_call, judge_cast}
 use Rattle.lt_tree.specs.Typing.BinaryOperations.{judge_binary, judge_logical, judge_conditional, judge_assignment, judge_comma}
-use Rattle.lt_tree.specs.Typing.MarkRules.{TypedBinding, names_of, bindings_of, number_of_id, is_good_mark, label_of, judge_decide, inside_mark, inside_after, judge_after, judge_marked}
-use Rattle.lt_tree.specs.Typing.Specifying.{Naming, names, no_naming, basic_type, enum_type, typedef_named, Specified, specified, struct_by_tag, enum_tagged, open_struct, close_struct, open_enum, value_given, enumerator_faults, length_or_none, Parameters, Built, built, array_of, function_of, pointer_to, Declares, declares, all_faults, is_written, type_name_faults, parameter_faults, no_parameters_yet, binds_parameter, parameter_before, member_faults, with_member, Membered, has_width}
-use Rattle.lt_tree.specs.Typing.Entities.{meaning_of as meaning, tagged_in}
-
--- ---- the ends of some nodes
-
--- A string literal is an object of its own, which is made unless it stands in `sizeof`.
-abbrev pub text_object : Known → List ℕ → Object
-text_object known bytes = record {
-  name = [];
-  type = text_type bytes;
-  life = if known.is_unmarked then unmade else literal;
-  start = Some (record { zeroed = true; parts = letters 0 S.Char bytes ∷ [] });
-}
-
-abbrev pub text_at : Known → List ℕ → ℕ → Judged
-text_at known bytes n = judgement [] (placed (e.Object (text_type bytes) n) (address n 0))
-
-abbrev pub judge_unary : UnaryOp → Typed → Known → Judged
-judge_unary unary.AddressOf x known = judge_address_of x
-judge_unary unary.Dereference x known = judge_dereference x known
-judge_unary unary.Plus x known = judge_plus x known
-judge_unary unary.Minus x known = judge_minus x known
-judge_unary unary.Complement x known = judge_complement x known
-judge_unary unary.Not x known = judge_not x
-
--- how an operator uses its operand
-abbrev pub operand_of : UnaryOp → Use
-operand_of unary.AddressOf = as_place
-operand_of unary.Not = as_truth
-operand_of _ = as_value
-
--- an expression with a type name in it, which may break rules too
-abbrev pub also : List Rule → Judged → Judged
-also faults judged = record judged { faults = faults ++ judged.faults }
-
--- the two labels of a `pc_decide`
-abbrev pub decision_labels : List ℕ → List ℕ → List ℕ → Walk (Unit {0})
-decision_labels when_true when_false tag = adds_label (label_of when_true tag []) >> adds_label (label_of when_false tag [])
-
-abbrev pub end_of_mark : ℕ → c.Expression → Typed → List ℕ → List ℕ → List TypedBinding → Walk e.Mark
-end_of_mark node written predicate id tag bound = do
-  known ← here
-  settle node (unless (is_good_mark known written predicate id tag bound) bad_mark)
-  adds_label (label_of id tag (names_of bound))
-  gives (e.mark (value_in predicate) (number_of_id id) (bindings_of bound))
-
--- an enumerator's name is in scope behind it; gives what the next one counts on
-abbrev pub end_of_enumerator : ℕ → List ℕ → Option ℤ → Walk ℤ
-end_of_enumerator node name z = do
-  known ← here
-  settle node (enumerator_faults known name z)
-  binds name (an_enumerator (unwrap_or z (pos 0)))
-  gives (unwrap_or z (pos 0) +ℤ pos 1)
-
--- what a declarator declares, judged at its node where it is one
-abbrev pub end_of_declarator : Option ℕ → Option (List ℕ) → Built → List Rule → Walk Declares
-end_of_declarator None name it faults = gives (declares name it faults)
-end_of_declarator (Some node) name it faults = settle node faults >> gives (declares name it [])
-
-abbrev pub enter_if : Bool → Walk (Option ℕ)
-enter_if written = if written then enter >>= (λ node. gives (Some node)) else gives None
-
--- A declaration of members has a declarator.
-abbrev pub is_no_declarator : c.MemberDeclarators → Bool
-is_no_declarator c.no_declarators = true
-is_no_declarator (c.a_declarator d width rest) = false
-
--- what specifiers break that no declarator follows
-abbrev pub alone_faults : Bool → Specified → List Rule
-alone_faults is_alone it = if is_alone then it.faults else []
-
--- `()` and `(void)`
-abbrev pub without_parameters : Walk Parameters
-without_parameters = here >>= (λ known. gives (no_parameters_yet (innermost known.frames)))
-
-abbrev pub with_dots : Parameters → Parameters
-with_dots it = record it { dots = true }
+use Rattle.lt_tree.specs.Typing.MarkRules.{TypedBinding, label_of, judge_decide, inside_mark, inside_after, judge_after, judge_marked}
+use Rattle.lt_tree.specs.Typing.Specifying.{Naming, names, no_naming, basic_type, enum_type, typedef_named, Specified, specified, struct_by_tag, enum_tagged, open_struct, close_struct, open_enum, value_given}
+use Rattle.lt_tree.specs.Typing.Declarators.{Parameters, Built, built, length_or_none, array_of, function_of, pointer_to, Declares, all_faults, is_written, type_name_faults, parameter_faults, binds_parameter, parameter_before, member_faults, with_member, Membered, has_width}
+use Rattle.lt_tree.specs.Typing.NodeEnds.{text_object, text_at, judge_unary, operand_of, also, decision_labels, end_of_mark, end_of_enumerator, end_of_declarator, enter_if, is_no_declarator, alone_faults, without_parameters, with_dots}
 
 abbrev mutual
   pub expression : c.Expression → Use → Walk Typed
@@ -109,7 +32,7 @@ abbrev mutual
   expression (c.Text bytes) role = do
     node ← enter
     known ← here
-    object ← add_object (text_object known bytes)
+    object ← add_object (text_object node known bytes)
     finish node role (text_at known bytes object)
   expression (c.Index whole index) role = do
     node ← enter
@@ -282,7 +205,7 @@ abbrev mutual
     faults ← open_enum tag
     enumerators es (pos 0)
     gives (record { type = Some enum_type; faults = faults })
-  type_specifier (c.Named name) is_alone = here >>= (λ known. gives (typedef_named (meaning name known)))
+  type_specifier (c.Named name) is_alone = here >>= (λ known. gives (typedef_named (meaning_of name known)))
 
   -- C11 6.7.2.1; with the members before
   pub members : c.Members → List Member → Walk (List Member)
@@ -348,6 +271,6 @@ abbrev mutual
   parameter_list (c.a_parameter s d rest) is_definition = do
     it ← specifiers s false
     declared ← declarator d it false (parameter_faults is_definition)
-    objects ← binds_parameter is_definition declared.name (adjusted declared.type)
+    objects ← binds_parameter is_definition declared.node declared.name (adjusted declared.type)
     others ← parameter_list rest is_definition
     gives (parameter_before declared objects others)

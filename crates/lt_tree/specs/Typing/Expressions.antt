@@ -1,16 +1,16 @@
 -- A typed expression, and what is judged at the end of each expression, whatever its operator: C11 6.3.2.1.
-use Rattle.std.specs.Prelude.{ℕ, ℤ, pos, Bool, true, false, not, ◌&&◌, if◌then◌else◌, List, [], ◌++◌, Option, Some, None, unwrap_or}
+use Rattle.std.specs.Prelude.{ℕ, ℤ, pos, Bool, true, false, not, ◌&&◌, ◌||◌, if◌then◌else◌, List, ◌++◌, Option, Some, None, unwrap_or}
 use Rattle.lt_model.specs.declared.scalar.DataModel.{DataModel}
 use Rattle.lt_model.specs.declared.scalar.Scalar.{Scalar}
 use Rattle.lt_model.specs.declared.scalar.Scalar.TheVariants as S
 use Rattle.lt_model.specs.Scalar.{convert_of}
-use Rattle.lt_tree.specs.Typing.Types.{CType, Void, Num, Pointer, Array, scalar_of, unqualified, qualifiers_of, value_type, same, is_void, is_integer, is_struct, is_array, is_floating, is_pointer_to_function, element}
+use Rattle.lt_tree.specs.Typing.Types.{CType, Void, Num, Pointer, Array, scalar_of, unqualified, qualifiers_of, same, is_void, is_integer, is_struct, is_array, is_floating, is_pointer_to_function, element}
 use Rattle.lt_tree.specs.Typing.Extents.{Structs, has_too_many_cells}
 use Rattle.lt_tree.specs.Typing.Constants.{Constancy, varying, faulty, number, null_constant, null_address, address, is_zero}
 use Rattle.lt_tree.specs.Typing.Rules.{Rule, broken_if, floating_type, bad_length, function_as_value, volatile_access}
 use Rattle.lt_tree.specs.Typing.TypedTree as e
 use Rattle.lt_tree.specs.Typing.TypedTree.{Value, Place, Conversion, type_of, type_at}
-use Rattle.lt_tree.specs.Typing.Entities.{Known, Fact}
+use Rattle.lt_tree.specs.Typing.Entities.{Fact}
 use Rattle.lt_tree.specs.Typing.Steps.{Walk, ◌>>=◌, ◌>>◌, gives, here, settle, notes}
 
 -- what an expression is: a value, a place, or the name of a function, which can only be called
@@ -23,6 +23,8 @@ pub data Form : Type 0 where
 pub record Typed : Type 0 where
   pub form : Form
   pub is_register : Bool
+  -- whether it is a `pc_after` itself
+  pub is_after : Bool
   pub constancy : Constancy
   pub erased : Constancy
 
@@ -37,14 +39,14 @@ pub data Use : Type 0 where
 
 -- a value as a typed expression
 abbrev pub valued : Value → Constancy → Constancy → Typed
-valued v constancy erased = record { form = a_value v; is_register = false; constancy = constancy; erased = erased }
+valued v constancy erased = record { form = a_value v; is_register = false; is_after = false; constancy = constancy; erased = erased }
 
 -- a value that is no constant
 abbrev pub varies : Value → Typed
 varies v = valued v varying varying
 
 abbrev pub placed : Place → Constancy → Typed
-placed place constancy = record { form = a_place place; is_register = false; constancy = constancy; erased = constancy }
+placed place constancy = record { form = a_place place; is_register = false; is_after = false; constancy = constancy; erased = constancy }
 
 abbrev pub constant : Scalar → ℤ → Typed
 constant s z = valued (e.Constant (Num s) z) (number z) (number z)
@@ -156,9 +158,13 @@ how_to t u =
     else (if is_integer t then (if is_integer u then e.to_integer else e.to_truth)
     else (if is_integer u then e.to_null else e.to_pointer))
 
--- a value as one of this type
+-- a value that the text casts to this type
+abbrev pub cast_to : CType → Value → Value
+cast_to t v = e.Convert (how_to t (type_of v)) t v
+
+-- a value as one of this type, of which nothing is seen where it has it already
 abbrev pub converted_to : CType → Value → Value
-converted_to t v = if is_struct t then v else (if same t (type_of v) then v else e.Convert (how_to t (type_of v)) t v)
+converted_to t v = if is_struct t || same t (type_of v) then v else cast_to t v
 
 -- zero as a pointer
 abbrev pub null_of : CType → Constancy

@@ -1,5 +1,5 @@
 -- Structs, and the sizes, offsets and cells of types, C11 6.2.8, 6.5.3.4 and 6.7.2.1; sizes are those that `lt_model` has.
-use Rattle.std.specs.Prelude.{ℕ, zero, suc, ◌*◌, nat_lt, Bool, true, false, not, ◌&&◌, ◌||◌, if◌then◌else◌, List, [], ◌∷◌, length, sum_by, slice_get, Option, Some, None, is_some, unwrap_or, option_and_then}
+use Rattle.std.specs.Prelude.{ℕ, zero, suc, ◌*◌, nat_lt, Bool, true, false, not, ◌&&◌, ◌||◌, if◌then◌else◌, List, [], ◌∷◌, length, sum_by, slice_get, Option, Some, None, is_some, unwrap_or}
 use Rattle.std.specs.Str.{bytes_eq}
 use Rattle.std.specs.List.{list_any}
 use Rattle.lt_model.specs.declared.scalar.DataModel.{DataModel}
@@ -8,7 +8,7 @@ use Rattle.lt_model.specs.declared.scalar.Scalar.{Scalar}
 use Rattle.lt_model.specs.declared.scalar.Scalar.TheVariants as S
 use Rattle.lt_model.specs.declared.sizes.Extent.{Extent}
 use Rattle.lt_model.specs.Layout.{then_some, within, rounded, scalar_extent, resized, member_offset, with_member, no_members}
-use Rattle.lt_tree.specs.Typing.Types.{CType, Void, Num, Pointer, Array, Struct, Function, Floating, Qualified, element, is_floating, qualifiers_of}
+use Rattle.lt_tree.specs.Typing.Types.{CType, Void, Num, Pointer, Array, Struct, Function, Floating, Qualified, element, is_floating}
 
 -- a member of a struct
 pub record Member : Type 0 where

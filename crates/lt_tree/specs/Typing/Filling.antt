@@ -1,18 +1,17 @@
 -- Which part of an object each initialiser of a list is for, C11 6.7.9p17 to p21: the parts that are left to be filled stand in a list, and a part
 -- that has parts itself gives way to these where the next initialiser is for one of them.
-use Rattle.std.specs.Prelude.{ℕ, zero, suc, ◌+◌, ◌*◌, ◌-◌, ◌/◌, ◌==◌, nat_lt, nat_le, Bool, true, false, not, ◌&&◌, ◌||◌, if◌then◌else◌, List, [], ◌∷◌, ◌++◌, length, map, take, Option, Some, None, unwrap_or}
-use Rattle.lt_model.specs.declared.scalar.DataModel.{DataModel}
+use Rattle.std.specs.Prelude.{ℕ, zero, suc, ◌+◌, ◌-◌, ◌/◌, ◌==◌, nat_lt, nat_le, Bool, true, false, not, ◌&&◌, ◌||◌, if◌then◌else◌, List, [], ◌∷◌, ◌++◌, length, map, take, Option, Some, None, unwrap_or}
 use Rattle.lt_model.specs.declared.scalar.Scalar.{Scalar}
 use Rattle.lt_model.specs.declared.scalar.Scalar.TheVariants as S
 use Rattle.lt_tree.specs.Tree as c
-use Rattle.lt_tree.specs.Typing.Types.{CType, Void, Num, Pointer, Array, Struct, Function, Floating, Qualified, scalar_of, struct_of, unqualified, same_scalar, is_array, is_struct, is_scalar}
-use Rattle.lt_tree.specs.Typing.Extents.{Structs, size_of, Placed, placed_members}
+use Rattle.lt_tree.specs.Typing.Types.{CType, Array, Struct, Qualified, scalar_of, struct_of, unqualified, is_scalar}
+use Rattle.lt_tree.specs.Typing.Extents.{size_of, Placed, placed_members}
 use Rattle.lt_tree.specs.Typing.Constants.{Constancy, varying, faulty, number, null_constant, null_address, address}
 use Rattle.lt_tree.specs.Typing.Rules.{Rule, broken_if, bad_assignment, bad_initialiser}
 use Rattle.lt_tree.specs.Typing.TypedTree.{StartPart, stored, fixed, letters}
 use Rattle.lt_tree.specs.Typing.Entities.{Known}
 use Rattle.lt_tree.specs.Typing.Operands.{holds}
-use Rattle.lt_tree.specs.Typing.Expressions.{Typed, own_type, value_in, converted_to, constancy_to}
+use Rattle.lt_tree.specs.Typing.Expressions.{Typed, value_in, converted_to, constancy_to}
 use Rattle.lt_tree.specs.Typing.Operations.{unless, fits}
 
 -- objects of one type, one behind the other: so many, or without an end

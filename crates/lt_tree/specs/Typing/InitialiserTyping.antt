@@ -1,12 +1,12 @@
 -- The typing of initialisers, C11 6.7.9: each is spread over its object.
-use Rattle.std.specs.Prelude.{ℕ, suc, ◌==◌, Bool, true, false, not, ◌&&◌, ◌||◌, if◌then◌else◌, List, [], ◌∷◌, ◌++◌, length, Option, Some, None}
+use Rattle.std.specs.Prelude.{ℕ, suc, ◌==◌, Bool, true, false, if◌then◌else◌, List, [], ◌∷◌, ◌++◌, length, Option, Some, None}
 use Rattle.lt_tree.specs.Tree as c
 use Rattle.lt_tree.specs.Typing.Types.{CType, Array, struct_of, is_array}
 use Rattle.lt_tree.specs.Typing.Extents.{has_too_many_cells}
 use Rattle.lt_tree.specs.Typing.Constants.{varying}
 use Rattle.lt_tree.specs.Typing.Rules.{Rule, broken_if, bad_length, bad_initialiser}
 use Rattle.lt_tree.specs.Typing.TypedTree.{StartPart, Start}
-use Rattle.lt_tree.specs.Typing.Entities.{Known, Fact}
+use Rattle.lt_tree.specs.Typing.Entities.{Known}
 use Rattle.lt_tree.specs.Typing.Steps.{Walk, ◌>>=◌, ◌>>◌, gives, here, enter, settle, notes}
 use Rattle.lt_tree.specs.Typing.Expressions.{Typed, as_value, own_type}
 use Rattle.lt_tree.specs.Typing.Operations.{text_type}

@@ -1,7 +1,6 @@
 -- What marks ask: ids and bound names stand once in a unit, predicates are pure scalars, and each form has its places.
-use Rattle.std.specs.Prelude.{ℕ, ℤ, pos, negsuc, nat_le, Bool, true, false, not, ◌&&◌, ◌||◌, ◌==◌, if◌then◌else◌, List, [], ◌∷◌, ◌++◌, length, map, Option, Some, None, unwrap_or}
+use Rattle.std.specs.Prelude.{ℕ, ℤ, pos, negsuc, nat_le, Bool, true, false, not, ◌&&◌, ◌==◌, if◌then◌else◌, List, [], ◌∷◌, length, map, Option, Some, None, unwrap_or}
 use Rattle.std.specs.List.{list_any, list_all}
-use Rattle.std.specs.Str.{bytes_eq}
 use Rattle.lt_model.specs.declared.scalar.Scalar.TheVariants as S
 use Rattle.lt_model.specs.Plain.{is_plain_byte}
 use Rattle.lt_tree.specs.Constants.{value_of}
@@ -9,7 +8,7 @@ use Rattle.lt_tree.specs.Tree as c
 use Rattle.lt_tree.specs.Purity.{is_pure}
 use Rattle.lt_tree.specs.Typing.Types.{Num, is_scalar, is_integer}
 use Rattle.lt_tree.specs.Typing.Constants.{varying}
-use Rattle.lt_tree.specs.Typing.Rules.{Rule, bad_mark}
+use Rattle.lt_tree.specs.Typing.Rules.{bad_mark}
 use Rattle.lt_tree.specs.Typing.TypedTree as e
 use Rattle.lt_tree.specs.Typing.TypedTree.{Bindings}
 use Rattle.lt_tree.specs.Typing.Entities.{Known, Label}
@@ -121,7 +120,7 @@ is_lvalue_in_use as_place x = is_lvalue x
 is_lvalue_in_use _ x = false
 
 abbrev pub after_of : Typed → ℕ → Typed
-after_of x id = valued (e.After (own_type x) (value_in x) id) varying x.erased
+after_of x id = record (valued (e.After (own_type x) (value_in x) id) varying x.erased) { is_after = true }
 
 abbrev pub judge_after : Use → Typed → List ℕ → List ℕ → Known → Judged
 judge_after role x id tag known =

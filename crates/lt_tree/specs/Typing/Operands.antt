@@ -1,10 +1,10 @@
 -- What the operators ask of their operands, C11 6.5, each condition by a name. Types are those of values: arrays are pointers here, and
 -- nothing has qualifiers of its own.
-use Rattle.std.specs.Prelude.{ℕ, Bool, true, false, not, ◌&&◌, ◌||◌, Option, Some, None}
+use Rattle.std.specs.Prelude.{Bool, true, false, not, ◌&&◌, ◌||◌, Option, Some, None}
 use Rattle.lt_model.specs.declared.scalar.Scalar.TheVariants as S
 use Rattle.lt_model.specs.declared.operator.Op.{Op}
 use Rattle.lt_model.specs.declared.operator.Op.TheVariants as O
-use Rattle.lt_tree.specs.Typing.Types.{CType, Void, Num, Struct, scalar_of, target_of, struct_of, unqualified, qualifiers_of, include, alike, same, same_scalar, is_void, is_integer, is_pointer, is_scalar, is_struct, is_array, is_function, is_floating, element}
+use Rattle.lt_tree.specs.Typing.Types.{CType, scalar_of, target_of, qualifiers_of, include, alike, same_scalar, is_void, is_integer, is_pointer, is_struct, is_array, is_function}
 use Rattle.lt_tree.specs.Typing.Extents.{Structs, is_complete, has_size, has_constant_part}
 use Rattle.lt_tree.specs.Typing.Constants.{Constancy, is_null_constant, is_zero}
 

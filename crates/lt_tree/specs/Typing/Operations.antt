@@ -1,5 +1,5 @@
 -- What each operator makes of its operands, and which rules it breaks: C11 6.5.2 to 6.5.4.
-use Rattle.std.specs.Prelude.{ℕ, suc, ◌+◌, ℤ, pos, ◌-ℤ◌, ◌==◌, nat_le, Bool, true, false, not, ◌&&◌, ◌||◌, if◌then◌else◌, List, [], ◌∷◌, ◌++◌, length, codes, Option, Some, None, unwrap_or, option_and_then}
+use Rattle.std.specs.Prelude.{ℕ, suc, ◌+◌, pos, ◌-ℤ◌, ◌==◌, nat_le, Bool, true, false, not, ◌&&◌, ◌||◌, if◌then◌else◌, List, [], ◌∷◌, ◌++◌, length, codes, Option, Some, None, unwrap_or, option_and_then}
 use Rattle.std.specs.Str.{bytes_eq}
 use Rattle.std.specs.List.{list_any}
 use Rattle.lt_model.specs.declared.scalar.DataModel.{DataModel}
@@ -8,16 +8,16 @@ use Rattle.lt_model.specs.declared.scalar.Scalar.TheVariants as S
 use Rattle.lt_model.specs.declared.operator.Op.{Op}
 use Rattle.lt_model.specs.declared.operator.Op.TheVariants as O
 use Rattle.lt_model.specs.Conversions.{promoted}
-use Rattle.lt_tree.specs.Typing.Types.{CType, CTypes, no_types, a_type, Void, Num, Pointer, Array, Function, scalar_of, target_of, struct_of, unqualified, qualified, qualifiers_of, value_type, is_void, is_integer, is_pointer, is_scalar}
+use Rattle.lt_tree.specs.Typing.Types.{CType, CTypes, no_types, a_type, Void, Num, Pointer, Array, Function, target_of, struct_of, unqualified, qualified, qualifiers_of, value_type, is_void, is_integer, is_pointer, is_scalar}
 use Rattle.lt_tree.specs.Typing.Extents.{Structs, is_complete, has_size, size_of, Placed, member_of, size_type}
 use Rattle.lt_tree.specs.Typing.Constants.{Constancy, varying, number, address, is_null_constant, converted, applied, negated, moved_by, TypedConstant}
 use Rattle.lt_tree.specs.Typing.Rules.{Rule, broken_if, undeclared_name, floating_type, function_as_value, volatile_access, operand_not_integer, bad_sum, not_scalar, bad_assignment, not_modifiable, bad_address, no_member, bad_call, bad_cast, no_size, constant_too_large, no_body}
 use Rattle.lt_tree.specs.Typing.TypedTree as e
 use Rattle.lt_tree.specs.Typing.TypedTree.{Value, Values, Place, Side, on_left, on_right, When, type_of}
-use Rattle.lt_tree.specs.Typing.Entities.{Known, Entity, an_object, a_function, a_typedef, an_enumerator, Object, is_static, type_of_object, declared_among}
-use Rattle.lt_tree.specs.Typing.Operands.{holds, is_movable, can_be_changed_by, can_be_subscripted, is_assignable, is_modifiable, can_be_cast, points_to}
-use Rattle.lt_tree.specs.Typing.Expressions.{Typed, Form, a_value, a_place, a_designator, Use, as_callee, valued, varies, placed, constant, nothing, own_type, is_lvalue, value_in, place_in, Judged, judgement, converted_to, constancy_to, scalar_in, has_floating, has_pointer_to_function}
-use Rattle.std.specs.Prelude.{slice_get, option_map}
+use Rattle.lt_tree.specs.Typing.Entities.{Known, Entity, an_object, a_function, a_typedef, an_enumerator, is_static, type_of_object, declared_among}
+use Rattle.lt_tree.specs.Typing.Operands.{holds, can_be_changed_by, can_be_subscripted, is_assignable, is_modifiable, can_be_cast, points_to}
+use Rattle.lt_tree.specs.Typing.Expressions.{Typed, a_value, a_place, a_designator, Use, as_callee, valued, varies, placed, constant, nothing, own_type, is_lvalue, value_in, place_in, Judged, judgement, cast_to, converted_to, constancy_to, scalar_in, has_floating, has_pointer_to_function}
+use Rattle.std.specs.Prelude.{slice_get}
 
 -- the rule, unless this holds
 abbrev pub unless : Bool → Rule → List Rule
@@ -42,7 +42,7 @@ is_callee _ = false
 
 abbrev pub function_named : Known → List ℕ → Typed
 function_named known name =
-    record { form = a_designator name (unwrap_or (declared_among name known.declared) Void); is_register = false; constancy = varying; erased = varying }
+    record { form = a_designator name (unwrap_or (declared_among name known.declared) Void); is_register = false; is_after = false; constancy = varying; erased = varying }
 
 abbrev pub judge_name : Use → List ℕ → Option Entity → Known → Judged
 judge_name role name None known = judgement (undeclared_name ∷ []) nothing
@@ -61,18 +61,18 @@ text_type bytes = Array (Num S.Char) (suc (length bytes))
 
 -- ---- operators on one operand, C11 6.5.2.4 and 6.5.3
 
--- an integer is converted to its promoted type
+-- an integer is converted to its promoted type, C11 6.3.1.1
 abbrev pub promoted_value : DataModel → Typed → Value
 promoted_value m x = converted_to (Num (promoted m (scalar_in x))) (value_in x)
 
 abbrev pub promoted_constancy : DataModel → Typed → Constancy → Constancy
 promoted_constancy m x c = converted m (promoted m (scalar_in x)) c
 
--- `+x`
+-- `+x` is a conversion to the promoted type
 abbrev pub judge_plus : Typed → Known → Judged
 judge_plus x known =
     judgement (unless (is_integer (own_type x)) operand_not_integer)
-    (valued (promoted_value known.model x) (promoted_constancy known.model x x.constancy) (promoted_constancy known.model x x.erased))
+    (valued (cast_to (Num (promoted known.model (scalar_in x))) (value_in x)) (promoted_constancy known.model x x.constancy) (promoted_constancy known.model x x.erased))
 
 -- `-x` is `0 - x` in the promoted type
 abbrev pub judge_minus : Typed → Known → Judged
@@ -201,15 +201,8 @@ judge_index x y known =
 -- ---- calls, C11 6.5.2.2
 
 -- A `pc_after` counts as the null pointer constant that it holds, where a value is assigned.
-abbrev pub is_after : Typed → Bool
-is_after x = elim (x.form) [ a_value v ↦ after_value v | a_place place ↦ false | a_designator name type ↦ false ]
-  where
-    after_value : Value → Bool
-    after_value (e.After t v id) = true
-    after_value _ = false
-
 abbrev pub counts_as_null : Typed → Bool
-counts_as_null x = is_null_constant x.constancy || (is_after x && is_null_constant x.erased)
+counts_as_null x = is_null_constant x.constancy || (x.is_after && is_null_constant x.erased)
 
 -- whether the value can be assigned to this type
 abbrev pub fits : CType → Typed → Bool
@@ -282,4 +275,4 @@ judge_call f xs known =
 abbrev pub judge_cast : CType → Typed → Known → Judged
 judge_cast t x known =
     judgement (unless (can_be_cast t (own_type x) x.constancy) bad_cast)
-    (valued (converted_to (unqualified t) (value_in x)) (constancy_to known.model (unqualified t) x.constancy) (constancy_to known.model (unqualified t) x.erased))
+    (valued (cast_to (unqualified t) (value_in x)) (constancy_to known.model (unqualified t) x.constancy) (constancy_to known.model (unqualified t) x.erased))

@@ -1,12 +1,12 @@
 -- Typed programs: what the typing of a unit gives.
-use Rattle.std.specs.Prelude.{ℕ, Bool, not, ◌||◌, if◌then◌else◌, List, [], ◌∷◌, ◌++◌, map, filter, Option, Some, None}
+use Rattle.std.specs.Prelude.{ℕ, if◌then◌else◌, List, [], ◌∷◌, ◌++◌, Some, None}
 use Rattle.std.specs.List.{flat_map, list_any}
 use Rattle.lt_model.specs.declared.scalar.DataModel.{DataModel}
 use Rattle.lt_tree.specs.Tree.{Unit as SourceUnit}
 use Rattle.lt_tree.specs.Typing.Types.{CType, CTypes, no_types, a_type, Void, Num, Pointer, Array, Struct, Function as FunctionType, Floating, Qualified, bare, same}
-use Rattle.lt_tree.specs.Typing.Extents.{Structs, StructType, Member}
+use Rattle.lt_tree.specs.Typing.Extents.{Structs, StructType}
 use Rattle.lt_tree.specs.Typing.Rules.{Rule}
-use Rattle.lt_tree.specs.Typing.Entities.{Known, Object, Declared, Function, Label, Fact}
+use Rattle.lt_tree.specs.Typing.Entities.{Known, Frame, innermost, Object, Declared, Function, Label, Fact}
 
 pub record Program : Type 0 where
   pub unit : SourceUnit
@@ -18,6 +18,8 @@ pub record Program : Type 0 where
   pub declared : List Declared
   -- the functions with bodies, in the order of these
   pub functions : List Function
+  -- the names and tags of file scope
+  pub file : Frame
   -- the types without qualifiers, each once
   pub types : List CType
   -- the labels in the order of the text
@@ -72,6 +74,7 @@ program_of unit known = record {
   objects = known.objects;
   declared = known.declared;
   functions = known.functions;
+  file = innermost known.frames;
   types = types_in known;
   labels = known.labels;
   facts = known.facts;

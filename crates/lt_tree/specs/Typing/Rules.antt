@@ -1,49 +1,82 @@
 -- The rules that a unit can break, and their numbers in what the program answers.
 use Rattle.std.specs.Prelude.{ℕ, nat_lt, Bool, if◌then◌else◌, List, [], ◌∷◌, Option, Some, None}
 
+-- Each rule is broken where what stands above it is so; in parentheses stands what judges it.
 pub data Rule : Type 0 where
-  -- a name isn't declared in scope as an object, a function or an enumerator
+  -- a name isn't declared in scope as an object, a function or an enumerator (`Operations.judge_name`)
   undeclared_name : Rule
-  -- a name, tag, member or enumerator is declared twice in one scope
+  -- A name, a tag, a member or an enumerator is declared twice in one scope, other than compatible declarations of a function, or of an object of
+  -- file scope with at most one initialiser, or typedefs of one type (`Declaring.is_declared_twice`, `Declaring.length_faults`;
+  -- `Declarators.is_member_already`, `Declarators.is_declared_here`; `Specifying.struct_tagged`, `open_struct`, `open_enum`, `enumerator_faults`)
   declared_twice : Rule
-  -- specifiers name no type, or have more than one storage class
+  -- specifiers name no type, or have more than one storage class (`Specifying.specified`)
   no_type : Rule
-  -- an object, member, element or parameter has an incomplete type; a struct has no member
+  -- An object, a member, an element or a parameter has an incomplete type or is void (`Declarators.is_incomplete`); a struct has no member, or a
+  -- declaration of members has no declarator (`Specifying.struct_faults`, `NodeEnds.is_no_declarator`)
   incomplete_type : Rule
-  -- a floating type is more than named
+  -- an object, a member, a parameter of a definition or an expression has a floating type, or a called function takes or gives one
+  -- (`Expressions.has_floating`, `Operations.takes_or_gives`)
   floating_type : Rule
-  -- an array's length isn't a constant from 1 to 1,048,576, or a type has more cells
+  -- The length of an array isn't a constant expression from 1 to 1,048,576, and neither an initialiser nor the place of a parameter gives it
+  -- (`Declarators.length_or_none`, `lacks_length`); or a type has more cells than that (`Extents.has_too_many_cells`)
   bad_length : Rule
+  -- a member is a bit-field (`Declarators.has_width`)
   bit_field : Rule
-  -- a function or a pointer to one is more than named and called
+  -- An object, a member, a parameter of a definition or an expression is a pointer to a function, or a called function takes or gives one
+  -- (`Expressions.has_pointer_to_function`); the name of a function stands anywhere but as what is called (`Operations.is_callee`); an element
+  -- or a result is a function, or a result is an array (`Declarators.array_faults`, `function_of`)
   function_as_value : Rule
+  -- a volatile lvalue is read, or written by an assignment, `++` or `--` (`Expressions.reads_volatile`, `Operations.writes_volatile`)
   volatile_access : Rule
-  -- a parameter or the result of a definition isn't supported
+  -- a definition has a parameter without a name or `...`, or takes or gives other than integers and pointers (`Declaring.is_good_definition`)
   bad_definition : Rule
-  -- a function has two bodies or declarations that disagree
+  -- A function has two bodies, a body follows a declarator that is no function's (`Declaring.definition_faults`), or declarations of one function
+  -- in two scopes disagree (`Declaring.disagrees_elsewhere`)
   function_disagrees : Rule
+  -- an operand of `* / % & | ^ << >> ~`, of their assignments, or of a sign isn't an integer (`Operands.are_integers`, `Types.is_integer`)
   operand_not_integer : Rule
+  -- The operands of `+` and `-` aren't two integers, a pointer to a complete type and an integer, or for `-` two such pointers of one type; the
+  -- same for `++`, `--`, `+=`, `-=` and subscripts (`Operands.can_be_added`, `can_be_subtracted`, `can_be_changed_by`, `can_be_subscripted`)
   bad_sum : Rule
+  -- The operands of a relation aren't two integers or two pointers of one type, for `==` and `!=` also a pointer beside a null pointer constant or a
+  -- pointer to void (`Operands.can_be_ordered`, `can_be_compared`)
   bad_comparison : Rule
+  -- an operand of `!`, `&&` or `||`, the first one of `?:`, or a test isn't a scalar (`Types.is_scalar`, `StatementTyping.test_faults`)
   not_scalar : Rule
+  -- The last operands of `?:` aren't two integers, two voids, one struct, two pointers of one type, or a pointer beside a null pointer constant or a
+  -- pointer to void (`Operands.can_be_chosen_from`)
   bad_choice : Rule
-  -- a value can't be assigned, passed, returned or used as an initialiser
+  -- a value is assigned, passed, returned or taken as initialiser where C11 6.5.16.1 doesn't allow it (`Operations.fits`)
   bad_assignment : Rule
+  -- the operand of an assignment, `++` or `--` is no lvalue that may be changed (`Operations.can_be_modified`)
   not_modifiable : Rule
-  -- the operand of `&` has no address, or that of `*` leads nowhere
+  -- The operand of `&` is no lvalue or is `register` (`Operations.judge_address_of`); that of `*` is no pointer to a complete type
+  -- (`Operations.judge_dereference`)
   bad_address : Rule
+  -- a member isn't in the struct, or there is no struct (`Operations.judge_part`)
   no_member : Rule
+  -- what is called is no function, or has another number of parameters (`Operations.judge_call`, `is_right_number`)
   bad_call : Rule
+  -- a cast isn't between integers, between pointers, from a constant 0 to a pointer, or to void (`Operands.can_be_cast`)
   bad_cast : Rule
+  -- the operand of `sizeof` is a function, incomplete or floating (`Extents.has_size`)
   no_size : Rule
+  -- a constant fits no type of its list (`Constants.constant_of`)
   constant_too_large : Rule
-  -- a switch, a case or an enumerator isn't of integers and constants
+  -- The operand of a `switch` isn't an integer; a case isn't a constant expression, or stands twice, or `default` does
+  -- (`StatementTyping.is_new_case`); an enumerator's value isn't a constant expression or is no `int` (`Specifying.is_good_value`)
   bad_case : Rule
+  -- `break` outside of loops and switches, or `continue` outside of loops (`StatementTyping.statement`)
   stray_jump : Rule
+  -- `return` with a value in a void function, or without one in another (`StatementTyping.return_faults`)
   bad_return : Rule
+  -- An initialiser has more parts than its object or another shape (`Filling.list_faults`, `is_too_long_for`), or is of what is no object; or one of
+  -- an object that is there from the start isn't constant (`Filling.is_constant_content`)
   bad_initialiser : Rule
-  -- a called function without a body gives no value that an input can hold
+  -- a called function without a body gives neither an integer nor nothing, and stops no run, or it has to do with memory or jumps
+  -- (`Operations.can_be_run`)
   no_body : Rule
+  -- A mark isn't as marks have to be (`MarkRules.is_good_mark`, `is_good_decision`, `judge_after`), or stands in a constant expression or in `sizeof`
   bad_mark : Rule
 
 -- the one place where rules have numbers

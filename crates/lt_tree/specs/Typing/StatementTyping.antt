@@ -1,5 +1,5 @@
 -- The typing of statements, C11 6.8. A statement is judged where it ends; so what its body breaks comes before what its test does.
-use Rattle.std.specs.Prelude.{ℕ, ℤ, Bool, true, false, not, ◌&&◌, ◌||◌, if◌then◌else◌, List, [], ◌∷◌, ◌++◌, Option, Some, None, is_some, option_map}
+use Rattle.std.specs.Prelude.{ℕ, ℤ, Bool, true, false, not, ◌||◌, if◌then◌else◌, List, [], ◌∷◌, ◌++◌, Option, Some, None, option_map}
 use Rattle.std.specs.Ordering.{int_eq}
 use Rattle.std.specs.List.{list_any}
 use Rattle.lt_model.specs.declared.scalar.DataModel.{DataModel}
@@ -12,12 +12,11 @@ use Rattle.lt_tree.specs.Typing.Constants.{number}
 use Rattle.lt_tree.specs.Typing.Rules.{Rule, broken_if, not_scalar, bad_assignment, bad_case, stray_jump, bad_return}
 use Rattle.lt_tree.specs.Typing.TypedTree as e
 use Rattle.lt_tree.specs.Typing.TypedTree.{Value, Local}
-use Rattle.lt_tree.specs.Typing.Entities.{Known}
 use Rattle.lt_tree.specs.Typing.Steps.{Walk, ◌>>=◌, ◌>>◌, gives, here, enter, settle, in_block, without_marks}
 use Rattle.lt_tree.specs.Typing.Expressions.{Typed, as_value, as_truth, own_type, value_in, converted_to}
 use Rattle.lt_tree.specs.Typing.Operations.{unless, fits, promoted_value}
 use Rattle.lt_tree.specs.Typing.ExpressionTyping.{expression, mark}
-use Rattle.lt_tree.specs.Typing.DeclarationTyping.{DeclaredLocals, declaration}
+use Rattle.lt_tree.specs.Typing.DeclarationTyping.{declaration}
 
 -- what stands around a statement: the function's type of value, loops and switches
 pub record Around : Type 0 where

@@ -1,6 +1,6 @@
 -- How a unit is gone over: its nodes are numbered in the order of the walk, from parent to child, and judged in the order in which they end, so
 -- that the first rule which is broken is the answer.
-use Rattle.std.specs.Prelude.{ℕ, ◌+◌, Bool, true, if◌then◌else◌, List, [], ◌∷◌, ◌++◌, length, Option, Some, None}
+use Rattle.std.specs.Prelude.{ℕ, ◌+◌, Bool, true, List, [], ◌∷◌, ◌++◌, length, Option, Some, None}
 use Rattle.lt_tree.specs.Typing.Rules.{Rule, least}
 use Rattle.lt_tree.specs.Typing.Entities.{Known, Frame, no_names, innermost, Object, Fact, Label, Entity, Tagged, bind_name, bind_tag}
 

@@ -1,14 +1,13 @@
 -- The typing of units, C11 6.9: the typed program of a unit, or the first rule that it breaks.
-use Rattle.std.specs.Prelude.{ℕ, Bool, true, false, List, [], ◌∷◌, ◌++◌, filter_map, Option, Some, None, unwrap_or}
+use Rattle.std.specs.Prelude.{ℕ, true, false, List, [], ◌∷◌, ◌++◌, filter_map, Option, Some, None, unwrap_or}
 use Rattle.lt_model.specs.declared.scalar.DataModel.{DataModel}
 use Rattle.lt_tree.specs.Tree as c
 use Rattle.lt_tree.specs.Typing.Types.{CType, Void, Function}
-use Rattle.lt_tree.specs.Typing.Rules.{Rule}
 use Rattle.lt_tree.specs.Typing.TypedTree.{Items}
 use Rattle.lt_tree.specs.Typing.Entities.{Known, Frame, no_names, at_start}
 use Rattle.lt_tree.specs.Typing.Steps.{Outcome, Goes, Breaks, Walk, ◌>>=◌, ◌>>◌, gives, enter, settle, changes, within}
 use Rattle.lt_tree.specs.Typing.Expressions.{Typed, as_place}
-use Rattle.lt_tree.specs.Typing.Specifying.{Declares, Parameters}
+use Rattle.lt_tree.specs.Typing.Declarators.{Declares, Parameters}
 use Rattle.lt_tree.specs.Typing.ExpressionTyping.{expression, specifiers, declarator}
 use Rattle.lt_tree.specs.Typing.Declaring.{definition_faults, declare_function}
 use Rattle.lt_tree.specs.Typing.DeclarationTyping.{declaration}
@@ -31,23 +30,23 @@ objects_of None = []
 objects_of (Some them) = them.objects
 
 -- one more function with its body
-abbrev pub adds_function : List ℕ → Declares → Items → Walk (Unit {0})
-adds_function name it body =
-    changes (λ known. record known { functions = known.functions ++ record { name = name; type = it.type; parameters = objects_of it.parameters; body = body } ∷ [] })
+abbrev pub adds_function : ℕ → List ℕ → Declares → Items → Walk (Unit {0})
+adds_function node name it body =
+    changes (λ known. record known { functions = known.functions ++ record { node = node; name = name; type = it.type; parameters = objects_of it.parameters; body = body } ∷ [] })
 
 -- A function is in scope in its own body, and its parameters are in the scope of the body's outermost block, C11 6.2.1p4.
-abbrev pub defines : List ℕ → Declares → c.Items → Walk (Unit {0})
-defines name it body = do
+abbrev pub defines : ℕ → List ℕ → Declares → c.Items → Walk (Unit {0})
+defines node name it body = do
   declare_function name it.type
   inside ← within (frame_of it.parameters) (items body (around_body it.type))
-  adds_function name it inside.0
+  adds_function node name it inside.0
 
 abbrev pub external : c.External → Walk (Unit {0})
 external (c.Defines s d body) = do
   node ← enter
   it ← specifiers s false
   declared ← declarator d it true (definition_faults it.storage)
-  defines (unwrap_or declared.name []) declared body
+  defines node (unwrap_or declared.name []) declared body
 external (c.Declared d) = do
   node ← enter
   it ← declaration d
