@@ -20,6 +20,10 @@ pub functions : u.FunctionsAgree
 unfolding typing number_of
 functions = (refl, refl, refl, refl, refl)
 
+pub files : u.FilesAreTyped
+unfolding typing number_of struct_cells struct_extent
+files = (refl, refl)
+
 pub types : u.TypesAreNamed
 unfolding typing number_of
 types = (refl, refl, refl, refl, refl, refl, refl)

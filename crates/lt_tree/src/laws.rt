@@ -34,6 +34,7 @@ ghost use Rattle.lt_tree.specs.Typing.UnitExamples.{
   FirstRuleIsAnswered,
   NamesAreDeclaredOnce,
   FunctionsAgree,
+  FilesAreTyped,
   TypesAreNamed,
   LengthsAreBounded,
   InitialisersFit,
@@ -147,6 +148,7 @@ pub fn units_are_typed()
     ensures first_rule { FirstRuleIsAnswered }
     ensures names { NamesAreDeclaredOnce }
     ensures functions { FunctionsAgree }
+    ensures files { FilesAreTyped }
     ensures types { TypesAreNamed }
     ensures lengths { LengthsAreBounded }
     ensures initialisers { InitialisersFit }

@@ -148,7 +148,7 @@ update_faults structs op t u = unless (are_integers t u) operand_not_integer
 
 abbrev pub updated : Known → Op → Typed → Typed → Value
 updated known op x y =
-    if is_pointer (own_type x) then e.Advance (unqualified (own_type x)) op (element_size known x y) (place_in x) (value_in y)
+    if is_pointer (own_type x) then e.UpdatePointer (unqualified (own_type x)) op (element_size known x y) (place_in x) (value_in y)
     else e.Update (unqualified (own_type x)) op (operation_type known op x y) (place_in x) (converted_to (Num (right_type known op x y)) (value_in y))
 
 -- `x op= y`

@@ -1,5 +1,7 @@
 -- The typing of declarations, C11 6.7.
 use Rattle.std.specs.Prelude.{ℕ, Bool, true, false, if◌then◌else◌, List, [], ◌∷◌, ◌++◌, Option, Some, None, is_some}
+use Rattle.lt_tree.specs.declared.specifier.Storage.{Storage}
+use Rattle.lt_tree.specs.declared.specifier.Storage.TheVariants as storage
 use Rattle.lt_tree.specs.Tree as c
 use Rattle.lt_tree.specs.Typing.Types.{CType}
 use Rattle.lt_tree.specs.Typing.Rules.{Rule}
@@ -64,8 +66,21 @@ has_no_declarator (d ∷ ds) = false
 abbrev pub left_over : List c.InitDeclarator → Specified → List Rule
 left_over ds it = if has_no_declarator ds then it.faults else []
 
-abbrev pub declaration : c.Declaration → Walk DeclaredLocals
-declaration d = do
+-- a declaration, where so much of its storage class has an effect
+abbrev pub declaration_by : (Option Storage → Option Storage) → c.Declaration → Walk DeclaredLocals
+declaration_by effective d = do
   it ← specifiers d.specifiers (has_no_declarator d.declarators)
-  locals ← init_declarators it d.declarators
+  locals ← init_declarators (record it { storage = effective it.storage }) d.declarators
   gives (record { locals = locals; faults = left_over d.declarators it })
+
+abbrev pub declaration : c.Declaration → Walk DeclaredLocals
+declaration d = declaration_by (λ class. class) d
+
+-- In the head of a `for` only `static` and `typedef` have an effect.
+abbrev pub effective_in_for : Option Storage → Option Storage
+effective_in_for (Some storage.Static) = Some storage.Static
+effective_in_for (Some storage.Typedef) = Some storage.Typedef
+effective_in_for _ = None
+
+abbrev pub declaration_in_for : c.Declaration → Walk DeclaredLocals
+declaration_in_for d = declaration_by effective_in_for d

@@ -133,7 +133,7 @@ write_faults structs x = unless (can_be_modified structs x) not_modifiable ++ br
 
 abbrev pub stepped : Known → When → Op → Typed → Value
 stepped known gives op x =
-    if is_pointer (own_type x) then e.Walk (unqualified (own_type x)) gives op (size_of known.model known.structs (target_in x)) (place_in x)
+    if is_pointer (own_type x) then e.StepPointer (unqualified (own_type x)) gives op (size_of known.model known.structs (target_in x)) (place_in x)
     else e.Step (unqualified (own_type x)) gives op (promoted known.model (scalar_in x)) (place_in x)
 
 -- `x++`, `x--`, `++x` and `--x`

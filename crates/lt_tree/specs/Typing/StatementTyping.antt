@@ -16,7 +16,7 @@ use Rattle.lt_tree.specs.Typing.Steps.{Walk, ◌>>=◌, ◌>>◌, gives, here, e
 use Rattle.lt_tree.specs.Typing.Expressions.{Typed, as_value, as_truth, own_type, value_in, converted_to}
 use Rattle.lt_tree.specs.Typing.Operations.{unless, fits, promoted_value}
 use Rattle.lt_tree.specs.Typing.ExpressionTyping.{expression, mark}
-use Rattle.lt_tree.specs.Typing.DeclarationTyping.{declaration}
+use Rattle.lt_tree.specs.Typing.DeclarationTyping.{declaration, declaration_in_for}
 
 -- what stands around a statement: the function's type of value, loops and switches
 pub record Around : Type 0 where
@@ -59,7 +59,7 @@ pub record TypedStart : Type 0 where
 abbrev pub for_start : c.ForStart → Walk TypedStart
 for_start c.Nothing = gives (record { start = e.Nothing; faults = [] })
 for_start (c.First it) = expression it as_value >>= (λ x. gives (record { start = e.First (value_in x); faults = [] }))
-for_start (c.Declares d) = declaration d >>= (λ it. gives (record { start = e.Locals it.locals; faults = it.faults }))
+for_start (c.Declares d) = declaration_in_for d >>= (λ it. gives (record { start = e.Locals it.locals; faults = it.faults }))
 
 -- ---- `switch`, C11 6.8.4.2
 

@@ -62,11 +62,11 @@ mutual
     -- `op=` on integers: the place's value is converted to the type of the operation and the result back
     Update : (type : CType) (op : Op) (operands : Scalar) (place : Place) (value : Value) → Value
     -- `+=` and `-=` on a pointer to elements of this size
-    Advance : (type : CType) (op : Op) (size : ℕ) (place : Place) (value : Value) → Value
+    UpdatePointer : (type : CType) (op : Op) (size : ℕ) (place : Place) (value : Value) → Value
     -- `++` and `--` on an integer, in its promoted type
     Step : (type : CType) (gives : When) (op : Op) (operands : Scalar) (place : Place) → Value
     -- `++` and `--` on a pointer to elements of this size
-    Walk : (type : CType) (gives : When) (op : Op) (size : ℕ) (place : Place) → Value
+    StepPointer : (type : CType) (gives : When) (op : Op) (size : ℕ) (place : Place) → Value
     -- of the function of this name, whether it has a body or not
     Call : (type : CType) (function : List ℕ) (arguments : Values) → Value
     Comma : (type : CType) (parts : Values) → Value
@@ -186,9 +186,9 @@ type_of (Logical t op a b) = t
 type_of (Conditional t v a b) = t
 type_of (Assign t place v) = t
 type_of (Update t op s place v) = t
-type_of (Advance t op size place v) = t
+type_of (UpdatePointer t op size place v) = t
 type_of (Step t gives op s place) = t
-type_of (Walk t gives op size place) = t
+type_of (StepPointer t gives op size place) = t
 type_of (Call t f vs) = t
 type_of (Comma t vs) = t
 type_of (Marked t ms v) = t

@@ -1,5 +1,5 @@
 -- Examples: units that break a rule, with its node, each beside one that is near it and breaks none.
-use Rattle.std.specs.Prelude.{◌≡◌, ℕ, false, List, [], ◌∷◌, codes, Some, None}
+use Rattle.std.specs.Prelude.{◌≡◌, length, ℕ, false, List, [], ◌∷◌, codes, Some, None}
 use Rattle.lt_model.specs.declared.operator.Op.TheVariants as op
 use Rattle.lt_model.specs.declared.scalar.DataModel.TheVariants.{Lp64}
 use Rattle.lt_tree.specs.declared.expression.UnaryOp.TheVariants as unary
@@ -7,12 +7,13 @@ use Rattle.lt_tree.specs.declared.specifier.BasicType.TheVariants as basic
 use Rattle.lt_tree.specs.declared.specifier.Storage.TheVariants as storage
 use Rattle.lt_tree.specs.Tree as c
 use Rattle.lt_tree.specs.Tree.{Binary, Assign, Unary, Conditional, Return, If, Switch, Case}
-use Rattle.lt_tree.specs.Nodes.{Node, a_declarator, an_initialiser, an_enumerator, a_label, a_statement, an_expression, a_mark}
+use Rattle.lt_tree.specs.Nodes.{nodes, Node, a_declarator, an_initialiser, an_enumerator, a_label, a_statement, an_expression, a_mark}
+use Rattle.lt_tree.specs.WrittenUnits.{list_unit}
 use Rattle.lt_tree.specs.Examples.{int, void, of_type, x, one, two, zero_constant, pointer, declares, missing, one_parameter}
 use Rattle.lt_tree.specs.Typing.Rules.{Rule, undeclared_name, declared_twice, no_type, incomplete_type, floating_type, bad_length, bit_field, function_as_value, bad_definition, function_disagrees, not_scalar, bad_assignment, constant_too_large, bad_case, stray_jump, bad_return, bad_initialiser, no_body, bad_mark, number_of}
 use Rattle.lt_tree.specs.Typing.Programs.{broken}
 use Rattle.lt_tree.specs.Typing.UnitTyping.{typing}
-use Rattle.lt_tree.specs.Typing.ExampleTexts.{breaks, has_program, IsTyped, name, number, long, floating, declaration_of, object, object_from, value, braces_of_two, array_of_length, takes_int, takes_nothing, function, lone, evaluates, gives, struct_specifiers, struct_tag}
+use Rattle.lt_tree.specs.Typing.ExampleTexts.{behind, breaks, has_program, IsTyped, name, number, long, floating, declaration_of, object, object_from, value, braces_of_two, array_of_length, takes_int, takes_nothing, function, lone, evaluates, gives, struct_specifiers, struct_tag}
 
 abbrev pub Broken : c.Unit → Rule → Node → Type 0
 Broken unit rule node = IsTyped Lp64 unit (breaks rule (Some node))
@@ -57,6 +58,10 @@ FunctionsAgree =
   where
     nameless : c.Parts
     nameless = c.Function (c.Listed (one_parameter int missing)) c.no_parts
+
+-- A whole file breaks no rule, and the nodes that are gone over are those of the walk.
+abbrev pub FilesAreTyped : Type 0
+FilesAreTyped = Fine list_unit × ((behind Lp64 list_unit).next ≡ length (nodes list_unit))
 
 -- ---- types
 

@@ -1,8 +1,9 @@
 -- The typing of units, C11 6.9: the typed program of a unit, or the first rule that it breaks.
-use Rattle.std.specs.Prelude.{ℕ, true, false, List, [], ◌∷◌, ◌++◌, filter_map, Option, Some, None, unwrap_or}
+use Rattle.std.specs.Prelude.{◌≡◌, ℕ, true, false, List, [], ◌∷◌, ◌++◌, filter_map, Option, Some, None, unwrap_or}
 use Rattle.lt_model.specs.declared.scalar.DataModel.{DataModel}
 use Rattle.lt_tree.specs.Tree as c
 use Rattle.lt_tree.specs.Typing.Types.{CType, Void, Function}
+use Rattle.lt_tree.specs.Typing.Rules.{Rule}
 use Rattle.lt_tree.specs.Typing.TypedTree.{Items}
 use Rattle.lt_tree.specs.Typing.Entities.{Known, Frame, no_names, at_start}
 use Rattle.lt_tree.specs.Typing.Steps.{Outcome, Goes, Breaks, Walk, ◌>>=◌, ◌>>◌, gives, enter, settle, changes, within}
@@ -12,7 +13,7 @@ use Rattle.lt_tree.specs.Typing.ExpressionTyping.{expression, specifiers, declar
 use Rattle.lt_tree.specs.Typing.Declaring.{definition_faults, declare_function}
 use Rattle.lt_tree.specs.Typing.DeclarationTyping.{declaration}
 use Rattle.lt_tree.specs.Typing.StatementTyping.{Around, items}
-use Rattle.lt_tree.specs.Typing.Programs.{Typing, typed, broken, program_of}
+use Rattle.lt_tree.specs.Typing.Programs.{Program, Typing, typed, broken, program_of}
 
 abbrev pub result_of : CType → CType
 result_of (Function t ts dots) = t
@@ -68,6 +69,14 @@ answer unit (Breaks rule node) = broken rule node
 -- the typed program of a unit, or the first rule that it breaks
 unfoldable pub typing : DataModel → c.Unit → Typing
 typing model unit = answer unit (externals unit (at_start model (filter_map defined_in unit)))
+
+-- this program is the unit's
+abbrev pub IsProgramOf : DataModel → c.Unit → Program → Type 0
+IsProgramOf model unit program = typing model unit ≡ typed program
+
+-- of the rules that the unit breaks this is the first, at the node of this number
+abbrev pub BreaksFirst : DataModel → c.Unit → Rule → ℕ → Type 0
+BreaksFirst model unit rule node = typing model unit ≡ broken rule node
 
 -- An expression where this is known, as it stands there; its nodes are numbered from 0.
 unfoldable pub typing_of : Known → c.Expression → Outcome Typed

@@ -1,4 +1,4 @@
-use Rattle.lt_tree.proofs.TypedUnits.{first_rule, names, functions, types, lengths, initialisers, statements, calls, marks}
+use Rattle.lt_tree.proofs.TypedUnits.{first_rule, names, functions, files, types, lengths, initialisers, statements, calls, marks}
 use Rattle.lt_tree.proofs.laws.units_are_typed.Goals as goal
 
 pub returns-clause-first_rule : goal.returns-clause-first_rule
@@ -9,6 +9,9 @@ returns-clause-names c = names
 
 pub returns-clause-functions : goal.returns-clause-functions
 returns-clause-functions c = functions
+
+pub returns-clause-files : goal.returns-clause-files
+returns-clause-files c = files
 
 pub returns-clause-types : goal.returns-clause-types
 returns-clause-types c = types
