@@ -10,13 +10,13 @@ use Rattle.lt_tree.specs.declared.expression.LogicalOp.TheVariants as logical
 use Rattle.lt_tree.specs.Typing.Types.{CType, Void, Num, Pointer, unqualified, qualified, qualifiers_of, both, value_type, is_integer, is_pointer, is_scalar}
 use Rattle.lt_tree.specs.Typing.Extents.{Structs, difference_type}
 use Rattle.lt_tree.specs.Typing.Constants.{Constancy, number, is_null_constant, operated, moved_by, connected, chosen, is_false, is_true}
-use Rattle.lt_tree.specs.Typing.Rules.{Rule, operand_not_integer, bad_sum, bad_comparison, not_scalar, bad_choice, bad_assignment}
+use Rattle.lt_tree.specs.Typing.Rules.{Rule, unless, operand_not_integer, bad_sum, bad_comparison, not_scalar, bad_choice, bad_assignment}
 use Rattle.lt_tree.specs.Typing.TypedTree as e
 use Rattle.lt_tree.specs.Typing.TypedTree.{Value, Values, type_of}
 use Rattle.lt_tree.specs.Typing.Entities.{Known}
 use Rattle.lt_tree.specs.Typing.Operands.{are_integers, point_alike, can_be_added, can_be_subtracted, can_be_changed_by, can_be_ordered, can_be_compared, can_be_chosen_from, is_relation, is_equality, is_shift}
 use Rattle.lt_tree.specs.Typing.Expressions.{Typed, valued, varies, own_type, value_in, place_in, Judged, judgement, converted_to, constancy_to, scalar_in}
-use Rattle.lt_tree.specs.Typing.Operations.{unless, fits, target_in, object_size, side_of, pointer_among, other_among, element_size, write_faults}
+use Rattle.lt_tree.specs.Typing.Operations.{fits, target_in, object_size, side_of, pointer_among, other_among, element_size, write_faults}
 
 -- ---- integers, C11 6.5.5 to 6.5.12
 

@@ -6,7 +6,7 @@ use Rattle.lt_tree.specs.Tree as c
 use Rattle.lt_tree.specs.Typing.Types.{CType}
 use Rattle.lt_tree.specs.Typing.Rules.{Rule}
 use Rattle.lt_tree.specs.Typing.TypedTree.{Local, Start}
-use Rattle.lt_tree.specs.Typing.Entities.{a_typedef, Life, is_static}
+use Rattle.lt_tree.specs.Typing.Entities.{a_typedef, Life, is_static, type_of_object}
 use Rattle.lt_tree.specs.Typing.Steps.{Walk, ◌>>=◌, ◌>>◌, gives, here, changes, binds}
 use Rattle.lt_tree.specs.Typing.Specifying.{Specified}
 use Rattle.lt_tree.specs.Typing.Declarators.{Declares}
@@ -23,11 +23,12 @@ no_object (Some i) = initialiser_of_none i >> gives []
 abbrev pub created : Bool → ℕ → Option Start → List Local
 created is_there n start = if is_there then [] else record { object = n; start = start } ∷ []
 
--- an object with its initialiser, if it has one
-abbrev pub started_object : Life → ℕ → CType → Option c.Initialiser → Walk (List Local)
-started_object life n t None = gives (created (is_static life) n None)
-started_object life n t (Some i) = do
-  it ← object_initialiser (is_static life) t (length_faults n) i
+-- An object with its initialiser, if it has one. The object's type is the composite of those of its declarations.
+abbrev pub started_object : Life → ℕ → Option c.Initialiser → Walk (List Local)
+started_object life n None = gives (created (is_static life) n None)
+started_object life n (Some i) = do
+  known ← here
+  it ← object_initialiser (is_static life) (type_of_object known n) length_faults i
   changes (with_start n (if is_static life then Some it.start else None) it.type)
   gives (created (is_static life) n (Some it.start))
 
@@ -35,7 +36,7 @@ started_object life n t (Some i) = do
 abbrev pub declare : Kind → ℕ → List ℕ → CType → Option c.Initialiser → Walk (List Local)
 declare a_type_name node name t i = binds name (a_typedef t) >> no_object i
 declare a_function_name node name t i = declare_function name t >> no_object i
-declare (an_object_of life is_register) node name t i = declare_object life is_register node name t >>= (λ n. started_object life n t i)
+declare (an_object_of life is_register) node name t i = declare_object life is_register node name t >>= (λ n. started_object life n i)
 
 abbrev pub declare_named : Specified → Declares → Option c.Initialiser → Walk (List Local)
 declare_named it declared i =

@@ -6,22 +6,18 @@ use Rattle.lt_tree.specs.Tree as c
 use Rattle.lt_tree.specs.Typing.Types.{CType, CTypes, no_types, a_type, Void, Pointer, Array, Struct, Function, Qualified, qualified, unqualified, adjusted, is_integer, is_array, is_function, is_floating, is_pointer_to_function}
 use Rattle.lt_tree.specs.Typing.Extents.{Structs, Member, has_too_many_cells, most_cells}
 use Rattle.lt_tree.specs.Typing.Constants.{number}
-use Rattle.lt_tree.specs.Typing.Rules.{Rule, broken_if, declared_twice, incomplete_type, floating_type, bad_length, bit_field, function_as_value}
+use Rattle.lt_tree.specs.Typing.Rules.{Rule, broken_if, unless, declared_twice, incomplete_type, floating_type, bad_length, bit_field, function_as_value}
 use Rattle.lt_tree.specs.Typing.Entities.{Known, an_object, Frame, parameter, unmade, declared_here}
 use Rattle.lt_tree.specs.Typing.Steps.{Walk, ◌>>=◌, ◌>>◌, gives, binds, add_object}
 use Rattle.lt_tree.specs.Typing.Operands.{holds}
 use Rattle.lt_tree.specs.Typing.Expressions.{Typed, own_type, has_floating, has_pointer_to_function}
-use Rattle.lt_tree.specs.Typing.Operations.{unless}
 use Rattle.lt_tree.specs.Typing.Specifying.{Specified, is_complete_struct}
 
 -- ---- array parts, C11 6.7.6.2
 
-abbrev pub is_length : ℤ → Bool
-is_length (pos n) = nat_le 1 n && nat_le n most_cells
-is_length (negsuc n) = false
-
+-- a number of elements: from 1 to 1,048,576
 abbrev pub length_from : ℤ → Option ℕ
-length_from (pos n) = if is_length (pos n) then Some n else None
+length_from (pos n) = if nat_le 1 n && nat_le n most_cells then Some n else None
 length_from (negsuc n) = None
 
 -- the length that is written, if it is one
@@ -41,7 +37,7 @@ is_incomplete structs (Qualified q t) = is_incomplete structs t
 is_incomplete structs (Array t n) = is_incomplete structs t
 is_incomplete structs _ = false
 
--- a type that parts of a declarator make, with the rules that they break, and the parameters of the part at the name
+-- what stands in the parentheses of a function's declarator
 pub record Parameters : Type 0 where
   pub types : CTypes
   pub dots : Bool
@@ -53,6 +49,7 @@ pub record Parameters : Type 0 where
   -- what parameters without a declarator break
   pub faults : List Rule
 
+-- the type that parts of a declarator make, with the rules that they break, and the parameters of the part at the name
 pub record Built : Type 0 where
   pub type : CType
   pub faults : List Rule

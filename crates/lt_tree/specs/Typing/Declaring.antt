@@ -52,7 +52,7 @@ abbrev pub is_same_function : Known → List ℕ → CType → Entity → Bool
 is_same_function known name t a_function = agrees_with_function known name t
 is_same_function known name t _ = false
 
--- An array whose length its initialiser is to give is compatible with any of its elements.
+-- An array whose length its initialiser is to give is compatible with any of its elements, and then has the other's length.
 abbrev pub is_compatible : CType → CType → Bool
 is_compatible (Array t n) (Array u k) = same t u && ((n == 0) || (n == k))
 is_compatible t u = same t u
@@ -144,11 +144,9 @@ with_start n start t known = elim (slice_get known.objects n) [
   | Some object ↦ record known { objects = slice_set known.objects n (record object { type = t; start = start }) }
 ]
 
--- the type that an initialiser gives the object: it still has few enough cells, and is compatible with that of another declaration
-abbrev pub length_faults : ℕ → Known → CType → List Rule
-length_faults n known t =
-    broken_if declared_twice (not (lacks_length (type_of_object known n)) && not (same t (type_of_object known n)))
-    ++ broken_if bad_length (has_too_many_cells known.structs t)
+-- the type to which an initialiser gave the length still has few enough cells
+abbrev pub length_faults : Known → CType → List Rule
+length_faults known t = broken_if bad_length (has_too_many_cells known.structs t)
 
 -- ---- definitions of functions, C11 6.9.1
 

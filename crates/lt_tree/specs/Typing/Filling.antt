@@ -7,12 +7,12 @@ use Rattle.lt_tree.specs.Tree as c
 use Rattle.lt_tree.specs.Typing.Types.{CType, Array, Struct, Qualified, scalar_of, struct_of, unqualified, is_scalar}
 use Rattle.lt_tree.specs.Typing.Extents.{size_of, Placed, placed_members}
 use Rattle.lt_tree.specs.Typing.Constants.{Constancy, varying, faulty, number, null_constant, null_address, address}
-use Rattle.lt_tree.specs.Typing.Rules.{Rule, broken_if, bad_assignment, bad_initialiser}
+use Rattle.lt_tree.specs.Typing.Rules.{Rule, broken_if, unless, bad_assignment, bad_initialiser}
 use Rattle.lt_tree.specs.Typing.TypedTree.{StartPart, stored, fixed, letters}
 use Rattle.lt_tree.specs.Typing.Entities.{Known}
 use Rattle.lt_tree.specs.Typing.Operands.{holds}
 use Rattle.lt_tree.specs.Typing.Expressions.{Typed, value_in, converted_to, constancy_to}
-use Rattle.lt_tree.specs.Typing.Operations.{unless, fits}
+use Rattle.lt_tree.specs.Typing.Operations.{fits}
 
 -- objects of one type, one behind the other: so many, or without an end
 pub record Run : Type 0 where

@@ -8,13 +8,13 @@ use Rattle.lt_tree.specs.Tree as c
 use Rattle.lt_tree.specs.Purity.{is_pure}
 use Rattle.lt_tree.specs.Typing.Types.{Num, is_scalar, is_integer}
 use Rattle.lt_tree.specs.Typing.Constants.{varying}
-use Rattle.lt_tree.specs.Typing.Rules.{bad_mark}
+use Rattle.lt_tree.specs.Typing.Rules.{unless, bad_mark}
 use Rattle.lt_tree.specs.Typing.TypedTree as e
 use Rattle.lt_tree.specs.Typing.TypedTree.{Bindings}
 use Rattle.lt_tree.specs.Typing.Entities.{Known, Label}
 use Rattle.lt_tree.specs.Typing.Operands.{holds}
 use Rattle.lt_tree.specs.Typing.Expressions.{Typed, Use, as_value, as_truth, as_place, as_callee, valued, own_type, is_lvalue, as_it_is_read, value_in, Judged, judgement}
-use Rattle.lt_tree.specs.Typing.Operations.{unless, is_among}
+use Rattle.lt_tree.specs.Typing.Operations.{is_among}
 
 -- ---- ids, tags and names
 

@@ -5,13 +5,13 @@ use Rattle.lt_tree.specs.declared.expression.UnaryOp.{UnaryOp}
 use Rattle.lt_tree.specs.declared.expression.UnaryOp.TheVariants as unary
 use Rattle.lt_tree.specs.Tree as c
 use Rattle.lt_tree.specs.Typing.Constants.{address}
-use Rattle.lt_tree.specs.Typing.Rules.{Rule, bad_mark}
+use Rattle.lt_tree.specs.Typing.Rules.{Rule, unless, bad_mark}
 use Rattle.lt_tree.specs.Typing.TypedTree as e
 use Rattle.lt_tree.specs.Typing.TypedTree.{letters}
 use Rattle.lt_tree.specs.Typing.Entities.{Known, literal, unmade, Object, an_enumerator, innermost}
 use Rattle.lt_tree.specs.Typing.Steps.{Walk, ◌>>=◌, ◌>>◌, gives, here, enter, settle, binds, adds_label}
 use Rattle.lt_tree.specs.Typing.Expressions.{Typed, Use, as_value, as_truth, as_place, placed, value_in, Judged, judgement}
-use Rattle.lt_tree.specs.Typing.Operations.{unless, text_type, judge_plus, judge_minus, judge_complement, judge_not, judge_address_of, judge_dereference}
+use Rattle.lt_tree.specs.Typing.Operations.{text_type, judge_plus, judge_minus, judge_complement, judge_not, judge_address_of, judge_dereference}
 use Rattle.lt_tree.specs.Typing.MarkRules.{TypedBinding, names_of, bindings_of, number_of_id, is_good_mark, label_of}
 use Rattle.lt_tree.specs.Typing.Specifying.{Specified, enumerator_faults}
 use Rattle.lt_tree.specs.Typing.Declarators.{Parameters, Built, Declares, declares, no_parameters_yet}

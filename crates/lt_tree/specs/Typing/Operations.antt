@@ -11,17 +11,13 @@ use Rattle.lt_model.specs.Conversions.{promoted}
 use Rattle.lt_tree.specs.Typing.Types.{CType, CTypes, no_types, a_type, Void, Num, Pointer, Array, Function, target_of, struct_of, unqualified, qualified, qualifiers_of, value_type, is_void, is_integer, is_pointer, is_scalar}
 use Rattle.lt_tree.specs.Typing.Extents.{Structs, is_complete, has_size, size_of, Placed, member_of, size_type}
 use Rattle.lt_tree.specs.Typing.Constants.{Constancy, varying, number, address, is_null_constant, converted, applied, negated, moved_by, TypedConstant}
-use Rattle.lt_tree.specs.Typing.Rules.{Rule, broken_if, undeclared_name, floating_type, function_as_value, volatile_access, operand_not_integer, bad_sum, not_scalar, bad_assignment, not_modifiable, bad_address, no_member, bad_call, bad_cast, no_size, constant_too_large, no_body}
+use Rattle.lt_tree.specs.Typing.Rules.{Rule, broken_if, unless, undeclared_name, floating_type, function_as_value, volatile_access, operand_not_integer, bad_sum, not_scalar, bad_assignment, not_modifiable, bad_address, no_member, bad_call, bad_cast, no_size, constant_too_large, no_body}
 use Rattle.lt_tree.specs.Typing.TypedTree as e
 use Rattle.lt_tree.specs.Typing.TypedTree.{Value, Values, Place, Side, on_left, on_right, When, type_of}
 use Rattle.lt_tree.specs.Typing.Entities.{Known, Entity, an_object, a_function, a_typedef, an_enumerator, is_static, type_of_object, declared_among}
 use Rattle.lt_tree.specs.Typing.Operands.{holds, can_be_changed_by, can_be_subscripted, is_assignable, is_modifiable, can_be_cast, points_to}
 use Rattle.lt_tree.specs.Typing.Expressions.{Typed, a_value, a_place, a_designator, Use, as_callee, valued, varies, placed, constant, nothing, own_type, is_lvalue, value_in, place_in, Judged, judgement, cast_to, converted_to, constancy_to, scalar_in, has_floating, has_pointer_to_function}
 use Rattle.std.specs.Prelude.{slice_get}
-
--- the rule, unless this holds
-abbrev pub unless : Bool → Rule → List Rule
-unless holds rule = broken_if rule (not holds)
 
 -- ---- names and constants, C11 6.5.1
 

@@ -2,6 +2,8 @@
 use Rattle.std.specs.Prelude.{◌≡◌, ℕ, pos, false, true, List, [], ◌∷◌, codes, slice_get, Option, Some, None, option_map, option_and_then}
 use Rattle.lt_model.specs.declared.operator.Op.TheVariants as op
 use Rattle.lt_model.specs.declared.scalar.Scalar.TheVariants as S
+use Rattle.lt_model.specs.declared.cell.Shape.{Shape}
+use Rattle.lt_model.specs.declared.cell.ShapeCell.{ShapeCell}
 use Rattle.lt_model.specs.declared.cell.CellType.TheVariants as cell
 use Rattle.lt_model.specs.declared.scalar.DataModel.{DataModel}
 use Rattle.lt_model.specs.declared.scalar.DataModel.TheVariants.{Ilp32, Lp64}
@@ -14,7 +16,7 @@ use Rattle.lt_tree.specs.Typing.Constants.{number, address}
 use Rattle.lt_tree.specs.Typing.TypedTree.{Value, Items, Start, StartPart, Constant, Load, Decay, AddressOf, Convert, Arithmetic, Assign, Update, Step, to_integer, to_null, on_left, before, Object, Pointed, Element, stored, fixed, letters, no_items, a_local, a_statement, Evaluates, Return}
 use Rattle.lt_tree.specs.Typing.Programs.{Program, Typing, typed, broken}
 use Rattle.lt_tree.specs.Typing.UnitTyping.{typing}
-use Rattle.lt_tree.specs.Typing.Shapes.{Cell, shape_of}
+use Rattle.lt_tree.specs.Typing.Shapes.{shape_of}
 use Rattle.lt_tree.specs.Typing.ExampleTexts.{name, long, declaration_of, object, object_from, value, braces_of_two, array_of_length, function, struct_specifiers}
 
 abbrev pub program_in : Typing → Option Program
@@ -32,9 +34,9 @@ first_body unit = option_and_then (λ program. option_map (λ f. f.body) (slice_
 abbrev pub start_of : c.Unit → ℕ → Option Start
 start_of unit n = option_and_then (λ program. option_and_then (λ it. it.start) (slice_get program.objects n)) (programmed Lp64 unit)
 
--- its cells
-abbrev pub cells_of : DataModel → c.Unit → ℕ → Option (List Cell)
-cells_of model unit n =
+-- what memory has of it
+abbrev pub shape_in : DataModel → c.Unit → ℕ → Option Shape
+shape_in model unit n =
     option_and_then (λ program. option_map (λ it. shape_of model program.structs program.types it.type) (slice_get program.objects n)) (programmed model unit)
 
 abbrev pub an_int : CType
@@ -99,16 +101,16 @@ InitialisersAreSpread =
 -- `struct s { int m; int n[2]; } a;` and `int *p[2];`
 abbrev pub ObjectsHaveCells : Type 0
 ObjectsHaveCells =
-    (cells_of Lp64 (object struct_specifiers (codes "a") c.no_parts ∷ []) 0 ≡ Some (whole 0 ∷ whole 4 ∷ whole 8 ∷ []))
-    × (cells_of Lp64 pointers 0 ≡ Some (pointing 0 ∷ pointing 8 ∷ []))
-    × (cells_of Ilp32 pointers 0 ≡ Some (pointing 0 ∷ pointing 4 ∷ []))
+    (shape_in Lp64 (object struct_specifiers (codes "a") c.no_parts ∷ []) 0 ≡ Some (record { cells = whole 0 ∷ whole 4 ∷ whole 8 ∷ []; size = 12 }))
+    × (shape_in Lp64 pointers 0 ≡ Some (record { cells = pointing 0 ∷ pointing 8 ∷ []; size = 16 }))
+    × (shape_in Ilp32 pointers 0 ≡ Some (record { cells = pointing 0 ∷ pointing 4 ∷ []; size = 8 }))
   where
-    whole : ℕ → Cell
-    whole offset = record { offset = offset; type = cell.Num S.Int }
+    whole : ℕ → ShapeCell
+    whole offset = record { offset = offset; ty = cell.Num S.Int }
 
     -- behind `int`, which it is made of
-    pointing : ℕ → Cell
-    pointing offset = record { offset = offset; type = cell.Pointer 1 }
+    pointing : ℕ → ShapeCell
+    pointing offset = record { offset = offset; ty = cell.Pointer 1 }
 
     pointers : c.Unit
     pointers = object int (codes "p") (c.Array (c.present two) (pointer c.no_parts)) ∷ []

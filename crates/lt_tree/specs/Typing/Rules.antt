@@ -1,12 +1,12 @@
 -- The rules that a unit can break, and their numbers in what the program answers.
-use Rattle.std.specs.Prelude.{ℕ, nat_lt, Bool, if◌then◌else◌, List, [], ◌∷◌, Option, Some, None}
+use Rattle.std.specs.Prelude.{ℕ, nat_lt, Bool, not, if◌then◌else◌, List, [], ◌∷◌, Option, Some, None}
 
 -- Each rule is broken where what stands above it is so; in parentheses stands what judges it.
 pub data Rule : Type 0 where
   -- a name isn't declared in scope as an object, a function or an enumerator (`Operations.judge_name`)
   undeclared_name : Rule
   -- A name, a tag, a member or an enumerator is declared twice in one scope, other than compatible declarations of a function, or of an object of
-  -- file scope with at most one initialiser, or typedefs of one type (`Declaring.is_declared_twice`, `Declaring.length_faults`;
+  -- file scope with at most one initialiser, or typedefs of one type (`Declaring.is_declared_twice`;
   -- `Declarators.is_member_already`, `Declarators.is_declared_here`; `Specifying.struct_tagged`, `open_struct`, `open_enum`, `enumerator_faults`)
   declared_twice : Rule
   -- specifiers name no type, or have more than one storage class (`Specifying.specified`)
@@ -115,6 +115,10 @@ number_of bad_mark = 30
 -- the rule, if it is broken
 abbrev pub broken_if : Rule → Bool → List Rule
 broken_if rule broken = if broken then rule ∷ [] else []
+
+-- the rule, unless this holds
+abbrev pub unless : Bool → Rule → List Rule
+unless condition rule = broken_if rule (not condition)
 
 -- the lesser of a rule and another
 abbrev pub lesser : Rule → Option Rule → Rule

@@ -9,12 +9,11 @@ use Rattle.lt_tree.specs.Tree as c
 use Rattle.lt_tree.specs.Typing.Types.{CType, Void, Num, Struct, Floating, qualified, is_integer}
 use Rattle.lt_tree.specs.Typing.Extents.{Structs, Member, members_of, has_too_many_cells}
 use Rattle.lt_tree.specs.Typing.Constants.{number}
-use Rattle.lt_tree.specs.Typing.Rules.{Rule, broken_if, declared_twice, no_type, incomplete_type, bad_length, bad_case}
+use Rattle.lt_tree.specs.Typing.Rules.{Rule, broken_if, unless, declared_twice, no_type, incomplete_type, bad_length, bad_case}
 use Rattle.lt_tree.specs.Typing.Entities.{Known, Entity, a_typedef, Tagged, a_struct, an_enum, tagged_in, tag_here, declared_here}
 use Rattle.lt_tree.specs.Typing.Steps.{Walk, ◌>>=◌, ◌>>◌, gives, here, changes, tags}
 use Rattle.lt_tree.specs.Typing.Operands.{holds}
 use Rattle.lt_tree.specs.Typing.Expressions.{Typed, own_type}
-use Rattle.lt_tree.specs.Typing.Operations.{unless}
 
 -- ---- specifiers, C11 6.7.1 and 6.7.2
 

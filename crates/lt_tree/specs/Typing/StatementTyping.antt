@@ -9,12 +9,12 @@ use Rattle.lt_model.specs.Conversions.{promoted}
 use Rattle.lt_tree.specs.Tree as c
 use Rattle.lt_tree.specs.Typing.Types.{CType, unqualified, scalar_of, is_void, is_integer, is_scalar}
 use Rattle.lt_tree.specs.Typing.Constants.{number}
-use Rattle.lt_tree.specs.Typing.Rules.{Rule, broken_if, not_scalar, bad_assignment, bad_case, stray_jump, bad_return}
+use Rattle.lt_tree.specs.Typing.Rules.{Rule, broken_if, unless, not_scalar, bad_assignment, bad_case, stray_jump, bad_return}
 use Rattle.lt_tree.specs.Typing.TypedTree as e
 use Rattle.lt_tree.specs.Typing.TypedTree.{Value, Local}
 use Rattle.lt_tree.specs.Typing.Steps.{Walk, ◌>>=◌, ◌>>◌, gives, here, enter, settle, in_block, without_marks}
 use Rattle.lt_tree.specs.Typing.Expressions.{Typed, as_value, as_truth, own_type, value_in, converted_to}
-use Rattle.lt_tree.specs.Typing.Operations.{unless, fits, promoted_value}
+use Rattle.lt_tree.specs.Typing.Operations.{fits, promoted_value}
 use Rattle.lt_tree.specs.Typing.ExpressionTyping.{expression, mark}
 use Rattle.lt_tree.specs.Typing.DeclarationTyping.{declaration, declaration_in_for}
 

@@ -86,8 +86,8 @@ abbrev pub same_bool : Bool → Bool → Bool
 same_bool a b = if a then b else not b
 
 abbrev mutual
-  -- Types are compatible where they are the same: an enumerated type is `int`, `()` is `(void)`, each array has a length, and a struct is compatible
-  -- with itself alone. So the composite of two is either of them.
+  -- Types are compatible where they are the same: an enumerated type is `int`, `()` is `(void)`, and a struct is compatible with itself alone. So the
+  -- composite of two is either of them; that of arrays of which one has no length yet is the other.
   pub same : CType → CType → Bool
   same Void Void = true
   same (Num s) (Num r) = same_scalar s r
