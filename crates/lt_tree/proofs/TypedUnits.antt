@@ -2,7 +2,7 @@
 use Rattle.std.proofs.Common.{refl}
 use Rattle.lt_tree.specs.Typing.Rules.{number_of}
 use Rattle.lt_tree.specs.Typing.UnitTyping.{typing}
-use Rattle.lt_tree.specs.Typing.Extents.{struct_cells, struct_extent}
+use Rattle.lt_tree.specs.Typing.Extents.{struct_cells, struct_extent, struct_has_constant}
 use Rattle.lt_tree.specs.Typing.Filling.{first_in_struct}
 use Rattle.lt_tree.specs.Typing.Shapes.{struct_cells_at}
 use Rattle.lt_tree.specs.Typing.UnitExamples as u
@@ -55,6 +55,10 @@ conversions = refl
 pub places : v.PlacesStayPlaces
 unfolding typing number_of
 places = refl
+
+pub calls_and_marks : v.CallsAndMarksStay
+unfolding typing number_of struct_cells struct_extent struct_has_constant
+calls_and_marks = refl
 
 pub spread : v.InitialisersAreSpread
 unfolding typing number_of struct_cells struct_extent first_in_struct

@@ -45,6 +45,7 @@ ghost use Rattle.lt_tree.specs.Typing.UnitExamples.{
 ghost use Rattle.lt_tree.specs.Typing.ProgramExamples.{
   ConversionsAreWrittenOut,
   PlacesStayPlaces,
+  CallsAndMarksStay,
   InitialisersAreSpread,
   ObjectsHaveCells,
 };
@@ -161,6 +162,7 @@ pub fn units_are_typed()
 pub fn programs_are_typed()
     ensures conversions { ConversionsAreWrittenOut }
     ensures places { PlacesStayPlaces }
+    ensures calls_and_marks { CallsAndMarksStay }
     ensures spread { InitialisersAreSpread }
     ensures cells { ObjectsHaveCells }
 {}

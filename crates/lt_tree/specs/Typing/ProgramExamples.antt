@@ -10,14 +10,14 @@ use Rattle.lt_model.specs.declared.scalar.DataModel.TheVariants.{Ilp32, Lp64}
 use Rattle.lt_tree.specs.declared.expression.UnaryOp.TheVariants as unary
 use Rattle.lt_tree.specs.Tree as c
 use Rattle.lt_tree.specs.Tree.{Binary}
-use Rattle.lt_tree.specs.Examples.{int, char, x, one, two, zero_constant, pointer}
-use Rattle.lt_tree.specs.Typing.Types.{CType, Num, Pointer, Array}
+use Rattle.lt_tree.specs.Examples.{a, b, just, missing, void, int, char, x, one, two, zero_constant, pointer}
+use Rattle.lt_tree.specs.Typing.Types.{CType, Void, Num, Pointer, Array, Struct}
 use Rattle.lt_tree.specs.Typing.Constants.{number, address}
-use Rattle.lt_tree.specs.Typing.TypedTree.{Value, Items, Start, StartPart, Constant, Load, Decay, AddressOf, Convert, Arithmetic, Assign, Update, Step, to_integer, to_null, on_left, before, Object, Pointed, Element, stored, fixed, letters, no_items, a_local, a_statement, Evaluates, Return}
+use Rattle.lt_tree.specs.Typing.TypedTree.{Value, Place, Items, Part, Whole, Call, After, a_value, no_values, mark, no_bindings, to_void, a_label, Start, StartPart, Constant, Load, Decay, AddressOf, Convert, Arithmetic, Assign, Update, Step, to_integer, to_null, on_left, before, Object, Pointed, Element, stored, fixed, letters, no_items, a_local, a_statement, Evaluates, Return}
 use Rattle.lt_tree.specs.Typing.Programs.{Program, Typing, typed, broken}
 use Rattle.lt_tree.specs.Typing.UnitTyping.{typing}
 use Rattle.lt_tree.specs.Typing.Shapes.{shape_of}
-use Rattle.lt_tree.specs.Typing.ExampleTexts.{name, long, declaration_of, object, object_from, value, braces_of_two, array_of_length, function, struct_specifiers}
+use Rattle.lt_tree.specs.Typing.ExampleTexts.{name, long, declaration_of, object, object_from, value, braces_of_two, array_of_length, function, struct_specifiers, struct_tag, takes_int}
 
 abbrev pub program_in : Typing → Option Program
 program_in (typed program) = Some program
@@ -83,6 +83,31 @@ PlacesStayPlaces =
 
     to_int : CType
     to_int = Pointer an_int
+
+-- `struct s { int m; int n[2]; } a, b; int g(int x); int f(int x) { a = b; (void)g(a.n[1]); g(x); pc_label(x, 1, "A"); return pc_after(x, 2, "A"); }`
+-- The parameter of the prototype is never made, but has a number too.
+abbrev pub CallsAndMarksStay : Type 0
+CallsAndMarksStay =
+    first_body (object struct_specifiers (codes "a") c.no_parts ∷ object struct_tag (codes "b") c.no_parts ∷ object int (codes "g") takes_int
+    ∷ function (c.a_statement (c.Evaluates (c.Assign None a b))
+    (c.a_statement (c.Evaluates (c.Cast void missing (c.Call g (just (c.Index (c.Member a (codes "n")) one)))))
+    (c.a_statement (c.Evaluates (c.Call g (just x)))
+    (c.a_label (c.mark x (codes "1") (codes "A") c.no_bindings)
+    (c.a_statement (c.Return (Some (c.After x (codes "2") (codes "A")))) c.no_items))))) ∷ [])
+    ≡ Some (a_statement (Evaluates (Assign a_struct (Object a_struct 0) (Whole a_struct (Object a_struct 1))))
+    (a_statement (Evaluates (Convert to_void Void (Call an_int (codes "g") (a_value (Load an_int second) no_values))))
+    (a_statement (Evaluates (Call an_int (codes "g") (a_value (loaded 3) no_values)))
+    (a_label (mark (loaded 3) 1 no_bindings)
+    (a_statement (Return (Some (After an_int (loaded 3) 2))) no_items)))))
+  where
+    g : c.Expression
+    g = name (codes "g")
+
+    a_struct : CType
+    a_struct = Struct 0
+
+    second : Place
+    second = Element an_int 4 on_left (Decay (Pointer an_int) (Part (Array an_int 2) 4 (Object a_struct 0))) (Constant an_int (pos 1))
 
 -- `struct s { int m; int n[2]; } a = { 1, 2 };`, and with inner braces; `int *p = &a.n[1];`; `char t[3] = "ab";`
 abbrev pub InitialisersAreSpread : Type 0
