@@ -1,5 +1,5 @@
 -- What each operator makes of its operands, and which rules it breaks: C11 6.5.2 to 6.5.4.
-use Rattle.std.specs.Prelude.{ℕ, suc, ◌+◌, pos, ◌-ℤ◌, ◌==◌, nat_le, Bool, true, false, not, ◌&&◌, ◌||◌, if◌then◌else◌, List, [], ◌∷◌, ◌++◌, length, codes, Option, Some, None, unwrap_or, option_and_then}
+use Rattle.std.specs.Prelude.{ℕ, suc, ◌+◌, pos, ◌-ℤ◌, ◌==◌, nat_le, Bool, true, false, not, ◌&&◌, ◌||◌, if◌then◌else◌, List, [], ◌∷◌, ◌++◌, length, slice_get, codes, Option, Some, None, unwrap_or, option_and_then}
 use Rattle.std.specs.Str.{bytes_eq}
 use Rattle.std.specs.List.{list_any}
 use Rattle.lt_model.specs.declared.scalar.DataModel.{DataModel}
@@ -17,7 +17,6 @@ use Rattle.lt_tree.specs.Typing.TypedTree.{Value, Values, Place, Side, on_left, 
 use Rattle.lt_tree.specs.Typing.Entities.{Known, Entity, an_object, a_function, a_typedef, an_enumerator, is_static, type_of_object, declared_among}
 use Rattle.lt_tree.specs.Typing.Operands.{holds, can_be_changed_by, can_be_subscripted, is_assignable, is_modifiable, can_be_cast, points_to}
 use Rattle.lt_tree.specs.Typing.Expressions.{Typed, a_value, a_place, a_designator, Use, as_callee, valued, varies, placed, constant, nothing, own_type, is_lvalue, value_in, place_in, Judged, judgement, cast_to, converted_to, constancy_to, scalar_in, has_floating, has_pointer_to_function}
-use Rattle.std.specs.Prelude.{slice_get}
 
 -- ---- names and constants, C11 6.5.1
 
