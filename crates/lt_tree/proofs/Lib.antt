@@ -19,3 +19,5 @@ mod ReadTexts
 mod ReadForms
 mod QuotedStrings
 mod SpelledBytes
+mod TypedExpressions
+mod TypedUnits

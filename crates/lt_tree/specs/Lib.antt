@@ -32,3 +32,4 @@ pub mod WrittenStatements
 pub mod WrittenUnits
 pub mod ReadTexts
 pub mod ReadForms
+pub mod Typing

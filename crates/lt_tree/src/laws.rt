@@ -22,6 +22,33 @@ ghost use Rattle.lt_tree.specs.WrittenUnits.{
   DefinitionsAndUsesAreMarked,
   UnitsAreWritten,
 };
+ghost use Rattle.lt_tree.specs.Typing.ExpressionExamples.{
+  ConstantsHaveTheirTypes,
+  NamesAreSought,
+  PointersAreMovedAndCompared,
+  IntegersAreConverted,
+  AssignmentsFit,
+  PartsAreFound,
+};
+ghost use Rattle.lt_tree.specs.Typing.UnitExamples.{
+  FirstRuleIsAnswered,
+  NamesAreDeclaredOnce,
+  FunctionsAgree,
+  FilesAreTyped,
+  TypesAreNamed,
+  LengthsAreBounded,
+  InitialisersFit,
+  StatementsFit,
+  CallsAreAnswered,
+  MarksFit,
+};
+ghost use Rattle.lt_tree.specs.Typing.ProgramExamples.{
+  ConversionsAreWrittenOut,
+  PlacesStayPlaces,
+  CallsAndMarksStay,
+  InitialisersAreSpread,
+  ObjectsHaveCells,
+};
 
 /// Each node of a unit has one spot.
 pub fn nodes_have_spots()
@@ -105,4 +132,37 @@ pub fn units_are_read()
     ensures inner_names { InnerNamesHideTypes }
     ensures types_in_parentheses { TypesInParenthesesAreParameters }
     ensures declarations { DeclarationsAreRead }
+{}
+
+/// Examples of the types of expressions, and of rules that expressions break.
+pub fn expressions_are_typed()
+    ensures constants { ConstantsHaveTheirTypes }
+    ensures names { NamesAreSought }
+    ensures pointers { PointersAreMovedAndCompared }
+    ensures integers { IntegersAreConverted }
+    ensures assignments { AssignmentsFit }
+    ensures parts { PartsAreFound }
+{}
+
+/// Examples of units that break a rule, each beside one that doesn't.
+pub fn units_are_typed()
+    ensures first_rule { FirstRuleIsAnswered }
+    ensures names { NamesAreDeclaredOnce }
+    ensures functions { FunctionsAgree }
+    ensures files { FilesAreTyped }
+    ensures types { TypesAreNamed }
+    ensures lengths { LengthsAreBounded }
+    ensures initialisers { InitialisersFit }
+    ensures statements { StatementsFit }
+    ensures calls { CallsAreAnswered }
+    ensures marks { MarksFit }
+{}
+
+/// Examples of what typed programs hold.
+pub fn programs_are_typed()
+    ensures conversions { ConversionsAreWrittenOut }
+    ensures places { PlacesStayPlaces }
+    ensures calls_and_marks { CallsAndMarksStay }
+    ensures spread { InitialisersAreSpread }
+    ensures cells { ObjectsHaveCells }
 {}

@@ -1,0 +1,186 @@
+-- Types of C as values, C11 6.2.5 and 6.7.3, without where they lie in memory.
+use Rattle.std.specs.Prelude.{ℕ, ◌==◌, ◌&&◌, ◌||◌, Bool, true, false, not, if◌then◌else◌, Option, Some, None}
+use denote.Enum.Bare.{sameb}
+use Rattle.lt_model.specs.contracts.scalar.Scalar.{the_type}
+use Rattle.lt_model.specs.declared.scalar.Scalar.{Scalar}
+use Rattle.lt_tree.specs.Tree.{Qualifiers}
+
+-- Qualifiers other than `const` and `volatile` aren't read. Those of an array stand at its elements; a type with qualifiers isn't qualified
+-- again.
+mutual
+  pub data CType : Type 0 where
+    Void : CType
+    Num : (scalar : Scalar) → CType
+    Pointer : (target : CType) → CType
+    -- of so many elements; 0 as long as its initialiser is to give the number
+    Array : (element : CType) (length : ℕ) → CType
+    -- by its place in the list of structs
+    Struct : (number : ℕ) → CType
+    -- parameters are adjusted and have no qualifiers of their own; dots stand for further arguments
+    Function : (result : CType) (parameters : CTypes) (dots : Bool) → CType
+    -- `float`, `double` and `long double` are one type
+    Floating : CType
+    Qualified : (qualifiers : Qualifiers) (type : CType) → CType
+
+  pub data CTypes : Type 0 where
+    no_types : CTypes
+    a_type : (first : CType) (rest : CTypes) → CTypes
+
+-- ---- qualifiers, C11 6.7.3
+
+abbrev pub no_qualifiers : Qualifiers
+no_qualifiers = record { constant = false; volatile = false }
+
+abbrev pub both : Qualifiers → Qualifiers → Qualifiers
+both p q = record { constant = p.constant || q.constant; volatile = p.volatile || q.volatile }
+
+-- whether the first have all of the second
+abbrev pub include : Qualifiers → Qualifiers → Bool
+include p q = (p.constant || not q.constant) && (p.volatile || not q.volatile)
+
+abbrev pub add_qualifiers : Qualifiers → CType → CType
+add_qualifiers q t = if q.constant || q.volatile then Qualified q t else t
+
+-- The type with these qualifiers too. Those of an array are its elements'; a function has none.
+abbrev pub qualified : Qualifiers → CType → CType
+qualified q (Array t n) = Array (qualified q t) n
+qualified q (Qualified p t) = Qualified (both p q) t
+qualified q (Function t ts dots) = Function t ts dots
+qualified q t = add_qualifiers q t
+
+abbrev pub unqualified : CType → CType
+unqualified (Qualified q t) = t
+unqualified t = t
+
+-- its own qualifiers; for an array those of its elements
+abbrev pub qualifiers_of : CType → Qualifiers
+qualifiers_of (Qualified q t) = q
+qualifiers_of (Array t n) = qualifiers_of t
+qualifiers_of _ = no_qualifiers
+
+abbrev mutual
+  -- without qualifiers, also inside
+  pub bare : CType → CType
+  bare (Pointer t) = Pointer (bare t)
+  bare (Array t n) = Array (bare t) n
+  bare (Function t ts dots) = Function (bare t) (all_bare ts) dots
+  bare (Qualified q t) = bare t
+  bare Void = Void
+  bare (Num s) = Num s
+  bare (Struct k) = Struct k
+  bare Floating = Floating
+
+  pub all_bare : CTypes → CTypes
+  all_bare no_types = no_types
+  all_bare (a_type t ts) = a_type (bare t) (all_bare ts)
+
+-- ---- compatible types, C11 6.2.7
+
+abbrev pub same_scalar : Scalar → Scalar → Bool
+same_scalar = sameb the_type
+
+abbrev pub same_qualifiers : Qualifiers → Qualifiers → Bool
+same_qualifiers p q = include p q && include q p
+
+abbrev pub same_bool : Bool → Bool → Bool
+same_bool a b = if a then b else not b
+
+abbrev mutual
+  -- Types are compatible where they are the same: an enumerated type is `int`, `()` is `(void)`, and a struct is compatible with itself alone. So the
+  -- composite of two is either of them; that of arrays of which one has no length yet is the other.
+  pub same : CType → CType → Bool
+  same Void Void = true
+  same (Num s) (Num r) = same_scalar s r
+  same (Pointer t) (Pointer u) = same t u
+  same (Array t n) (Array u k) = (n == k) && same t u
+  same (Struct j) (Struct k) = j == k
+  same (Function t ts a) (Function u us b) = same t u && all_same ts us && same_bool a b
+  same Floating Floating = true
+  same (Qualified p t) (Qualified q u) = same_qualifiers p q && same t u
+  same _ _ = false
+
+  pub all_same : CTypes → CTypes → Bool
+  all_same no_types no_types = true
+  all_same (a_type t ts) (a_type u us) = same t u && all_same ts us
+  all_same _ _ = false
+
+-- the same, each without its own qualifiers
+abbrev pub alike : CType → CType → Bool
+alike t u = same (unqualified t) (unqualified u)
+
+-- ---- kinds of types, C11 6.2.5
+
+abbrev pub scalar_of : CType → Option Scalar
+scalar_of (Num s) = Some s
+scalar_of (Qualified q t) = scalar_of t
+scalar_of _ = None
+
+abbrev pub target_of : CType → Option CType
+target_of (Pointer t) = Some t
+target_of (Qualified q t) = target_of t
+target_of _ = None
+
+abbrev pub struct_of : CType → Option ℕ
+struct_of (Struct k) = Some k
+struct_of (Qualified q t) = struct_of t
+struct_of _ = None
+
+abbrev pub is_void : CType → Bool
+is_void Void = true
+is_void (Qualified q t) = is_void t
+is_void _ = false
+
+abbrev pub is_integer : CType → Bool
+is_integer (Num s) = true
+is_integer (Qualified q t) = is_integer t
+is_integer _ = false
+
+abbrev pub is_pointer : CType → Bool
+is_pointer (Pointer t) = true
+is_pointer (Qualified q t) = is_pointer t
+is_pointer _ = false
+
+-- floating types aside, no value of which is read
+abbrev pub is_scalar : CType → Bool
+is_scalar t = is_integer t || is_pointer t
+
+abbrev pub is_struct : CType → Bool
+is_struct (Struct k) = true
+is_struct (Qualified q t) = is_struct t
+is_struct _ = false
+
+abbrev pub is_array : CType → Bool
+is_array (Array t n) = true
+is_array _ = false
+
+abbrev pub is_function : CType → Bool
+is_function (Function t ts dots) = true
+is_function _ = false
+
+abbrev pub is_floating : CType → Bool
+is_floating Floating = true
+is_floating (Qualified q t) = is_floating t
+is_floating _ = false
+
+abbrev pub is_pointer_to_function : CType → Bool
+is_pointer_to_function (Pointer t) = is_function t
+is_pointer_to_function (Qualified q t) = is_pointer_to_function t
+is_pointer_to_function _ = false
+
+-- the type of an array's elements, and of theirs
+abbrev pub element : CType → CType
+element (Array t n) = element t
+element t = t
+
+-- ---- parameters, C11 6.7.6.3
+
+-- A parameter of array type is a pointer to its elements, one of function type a pointer to the function.
+abbrev pub adjusted : CType → CType
+adjusted (Array t n) = Pointer t
+adjusted (Function t ts dots) = Pointer (Function t ts dots)
+adjusted t = t
+
+-- the type of an expression as a value, C11 6.3.2.1: an array is a pointer to its first element, and the value has no qualifiers
+abbrev pub value_type : CType → CType
+value_type (Array t n) = Pointer t
+value_type t = unqualified t
