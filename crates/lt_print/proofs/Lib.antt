@@ -28,3 +28,7 @@ pub mod Void
 pub mod VoidAlone
 pub mod ParametersAgain
 pub mod Again
+pub mod Labels
+pub mod DeclarationsAgain
+pub mod StatementsAgain
+pub mod UnitsAgain
