@@ -32,3 +32,6 @@ pub mod Labels
 pub mod DeclarationsAgain
 pub mod StatementsAgain
 pub mod UnitsAgain
+pub mod Cutting
+pub mod CuttingMarks
+pub mod CuttingBlanks
