@@ -35,3 +35,5 @@ pub mod UnitsAgain
 pub mod Cutting
 pub mod CuttingMarks
 pub mod CuttingBlanks
+pub mod CuttingConstants
+pub mod CuttingQuotes
