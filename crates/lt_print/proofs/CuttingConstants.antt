@@ -1,6 +1,6 @@
 -- Constants and strings stand clear of what follows.
 use Rattle.std.proofs.Common.{◌≡◌, ℕ, suc, ◌+◌, ◌≤◌, ◌<◌, Bool, true, false, cond, eqb, leb, ltb, List, [], ◌∷◌, ◌++◌, length, drop, refl, sym, ap, subst, ◌∙◌, inl, inr, arith}
-use Rattle.std.specs.Prelude.{◌⊎◌, ◌&&◌, ◌||◌, not, if◌then◌else◌}
+use Rattle.std.specs.Prelude.{◌⊎◌, ◌&&◌, ◌||◌, nat_le, if◌then◌else◌}
 use Rattle.std.specs.List.{list_all, prefix_len}
 use Rattle.std.specs.Char.{is_ascii_digit, is_ascii_hexdigit}
 use Rattle.std.specs.Int.{is_in_range}
@@ -277,3 +277,13 @@ integer_longest fresh (c ∷ cs) t is i ends =
       | inl m ↦ clash false m.0 refl
       | inr p ↦ goes_nowhere (first_digit c) cs more b (integer_stops (ends_at (first_digit c) cs) b e.1 (subst EndsConstant f ends)) (digit_goes_on fresh g c (cs ++ b ∷ more) p)
     ])
+
+-- as `Canon.is_integer` has it
+abbrev pub begins_digit : List ℕ → Bool
+begins_digit [] = false
+begins_digit (b ∷ bs) = nat_le 48 b && nat_le b 57
+
+-- An integer begins with a digit.
+pub integer_begins : (fresh : Bool) (w : List ℕ) → is_piece fresh form.Number w ≡ true → lex.is_integer w ≡ true → begins_digit w ≡ true
+integer_begins fresh [] is i = absurd (clash false is refl)
+integer_begins fresh (c ∷ cs) is i = let d = (integer_ends c cs (number_class fresh (class_of c) c cs is) i).0 in grind (arith, nat_tests)

@@ -124,7 +124,7 @@ byte_on b h = step (eqb b 10) (eqb b 9) (eqb b 34) (eqb b 92) (leb 32 b && leb b
     step false false false false true e f g i j = rw (e, f, g, i, j) (plain_on b g e i)
     step false false false false false e f g i j = rw (e, f, g, i, j) (octal_on ((b / 64) % 8) ((b / 8) % 8) (b % 8) (omega arith) (omega arith) (omega arith))
 
-abbrev IsByte : ℕ → Type 0
+abbrev pub IsByte : ℕ → Type 0
 IsByte b = b < 256
 
 string_ends : (bytes : List ℕ) → All IsByte bytes → ends_at part.Text (flat_map quoted_byte bytes ++ 34 ∷ []) ≡ part.Closed

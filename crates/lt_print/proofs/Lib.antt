@@ -37,3 +37,5 @@ pub mod CuttingMarks
 pub mod CuttingBlanks
 pub mod CuttingConstants
 pub mod CuttingQuotes
+pub mod Written
+pub mod Clean
