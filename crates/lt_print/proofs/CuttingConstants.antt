@@ -38,7 +38,7 @@ goes_nowhere p xs more b none h =
 
 -- ---- digits and letters
 
-digit_class : (b : ℕ) → is_ascii_digit b ≡ true → class_of b ≡ class.Digit
+pub digit_class : (b : ℕ) → is_ascii_digit b ≡ true → class_of b ≡ class.Digit
 digit_class b h =
     let low : (leb 97 b && leb b 122) ≡ false = grind (arith, nat_tests) in
     let high : (leb 65 b && leb b 90) ≡ false = grind (arith, nat_tests) in
@@ -62,7 +62,7 @@ ends_constant class.Slash = true
 ends_constant class.Sign = true
 ends_constant _ = false
 
-false_if : (b : Bool) → (b ≡ true → ⊥) → b ≡ false
+pub false_if : (b : Bool) → (b ≡ true → ⊥) → b ≡ false
 false_if true h = absurd (h refl)
 false_if false h = refl
 

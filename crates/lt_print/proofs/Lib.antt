@@ -39,3 +39,4 @@ pub mod CuttingConstants
 pub mod CuttingQuotes
 pub mod Written
 pub mod Clean
+pub mod SignsClean
