@@ -40,3 +40,5 @@ pub mod CuttingQuotes
 pub mod Written
 pub mod Clean
 pub mod SignsClean
+pub mod Spelt
+pub mod SpeltTokens
