@@ -42,3 +42,4 @@ pub mod Clean
 pub mod SignsClean
 pub mod Spelt
 pub mod SpeltTokens
+pub mod SpeltTrees
