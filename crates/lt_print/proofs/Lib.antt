@@ -43,3 +43,4 @@ pub mod SignsClean
 pub mod Spelt
 pub mod SpeltTokens
 pub mod SpeltTrees
+pub mod CleanForms

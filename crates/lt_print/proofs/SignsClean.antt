@@ -149,7 +149,7 @@ space_ends k.Other t e = absurd cc
 
 -- ---- a point before a letter
 
-other_byte : (x b : ℕ) (k : Class) → class_of b ≡ class.Letter → class_of x ≡ k → is_letter k ≡ false → eqb x b ≡ false
+pub other_byte : (x b : ℕ) (k : Class) → class_of b ≡ class.Letter → class_of x ≡ k → is_letter k ≡ false → eqb x b ≡ false
 other_byte x b k e f g = false_if (eqb x b) (λ is. clash (is_letter k) (ap is_letter (sym f ∙ ap class_of (eqb-true x b is) ∙ e)) g)
 
 letter_no_digit : (b : ℕ) → class_of b ≡ class.Letter → is_ascii_digit b ≡ false
