@@ -156,7 +156,7 @@ word_stops fresh g c cs more b letter all ends h = elim (of_class fresh g class.
     step form.BlockComment p = cc
     step form.Marker p = cc
 
-word_class : (fresh : Bool) (k : Class) (c : ℕ) (cs : List ℕ) → is_piece_at fresh form.Word k c cs ≡ true → (k ≡ class.Letter) × (list_all is_word_byte cs ≡ true)
+pub word_class : (fresh : Bool) (k : Class) (c : ℕ) (cs : List ℕ) → is_piece_at fresh form.Word k c cs ≡ true → (k ≡ class.Letter) × (list_all is_word_byte cs ≡ true)
 word_class fresh class.Letter c cs h = (refl, h)
 word_class fresh k c cs h = absurd cc
 

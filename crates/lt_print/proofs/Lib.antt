@@ -44,3 +44,4 @@ pub mod Spelt
 pub mod SpeltTokens
 pub mod SpeltTrees
 pub mod CleanForms
+pub mod CleanOperands
