@@ -124,7 +124,7 @@ placed_clean asked own a t h x = step (ltb (rank own) (rank asked))
     step false = x
 
 -- where the level asks for parentheses
-pub enclosed_clean : (asked own : Level) (a : Pieces) (t : List ℕ) → rank own < rank asked → ((u : List ℕ) → Clean a (41 ∷ u)) → Clean (placed asked own a) t
+enclosed_clean : (asked own : Level) (a : Pieces) (t : List ℕ) → rank own < rank asked → ((u : List ℕ) → Clean a (41 ∷ u)) → Clean (placed asked own a) t
 enclosed_clean asked own a t less h = step (ltb (rank own) (rank asked)) refl
   where
     step : (b : Bool) → ltb (rank own) (rank asked) ≡ b → Clean (if b then in_parentheses a else a) t
@@ -136,3 +136,9 @@ unfolding text_of
 apart_clean a [] t runs h soft = runs t soft
 apart_clean [] (x ∷ b) t runs h soft = h
 apart_clean (y ∷ a) (x ∷ b) t runs h soft = clean_append (y ∷ a) (gap ∷ x ∷ b) t (runs (text_of (gap ∷ x ∷ b) ++ t) refl) h
+
+pub placed_runs : (asked own : Level) (a : Pieces) → Runs a → Runs (placed asked own a)
+placed_runs asked own a runs t soft = placed_clean asked own a t (λ u. runs (41 ∷ u) refl) (runs t soft)
+
+pub enclosed_runs : (asked own : Level) (a : Pieces) (t : List ℕ) → rank own < rank asked → Runs a → Clean (placed asked own a) t
+enclosed_runs asked own a t less runs = enclosed_clean asked own a t less (λ u. runs (41 ∷ u) refl)

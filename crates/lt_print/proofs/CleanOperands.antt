@@ -100,7 +100,7 @@ unsigned b t e s =
     }
 
 -- a prefix with a space behind it
-space_behind : (x : Terminal) (a : Pieces) (t : List ℕ) → is_other x ≡ false → Clean a t → Clean (sign x ∷ gap ∷ a) t
+pub space_behind : (x : Terminal) (a : Pieces) (t : List ℕ) → is_other x ≡ false → Clean a t → Clean (sign x ∷ gap ∷ a) t
 unfolding text_of
 space_behind x a t e h = (e, space_ends x (text_of a ++ t) e, h)
 
@@ -163,3 +163,43 @@ with_literal_comma a bytes clean good t = clean_append a (literal bytes ∷ comm
 pub with_name : (a : Pieces) (w : List ℕ) → ((t : List ℕ) → Clean a t) → IsIdentifier w → (t : List ℕ) → Clean (a ++ name w ∷ comma_gap) t
 unfolding text_of
 with_name a w clean good t = clean_append a (name w ∷ comma_gap) t (clean (text_of (name w ∷ comma_gap) ++ t)) (before_comma (name w ∷ []) t (λ u soft. name_clean w u good (soft_word u soft)))
+
+pub sizeof_type_clean : (a : Pieces) → Runs a → Runs (sign k.Sizeof ∷ in_parentheses a)
+sizeof_type_clean a runs t soft = word_parentheses k.Sizeof a t refl (λ u. refl) (in_parentheses_clean a t runs)
+
+-- an expression, an id and a string
+pub after_clean : (x : Terminal) (a : Pieces) (id tag : List ℕ) (t : List ℕ) → is_other x ≡ false → ((u : List ℕ) → EndsSign (spelling x) (40 ∷ u)) → Runs a → IsConstant id → All IsByte tag
+    → Clean (sign x ∷ in_parentheses (a ++ comma_gap ++ constant id ∷ comma_gap ++ literal tag ∷ [])) t
+after_clean x a id tag t e ends runs good bytes =
+    word_parentheses x (a ++ comma_gap ++ constant id ∷ comma_gap ++ literal tag ∷ []) t e ends
+    (in_parentheses_clean (a ++ comma_gap ++ constant id ∷ comma_gap ++ literal tag ∷ []) t
+    (λ u soft. with_literal (a ++ comma_gap ++ constant id ∷ comma_gap) tag (with_constant (a ++ comma_gap) id (λ v. before_comma a v runs) good) bytes u))
+
+pub decide_clean : (a : Pieces) (yes_id no_id tag : List ℕ) (t : List ℕ) → Runs a → IsConstant yes_id → IsConstant no_id → All IsByte tag
+    → Clean (sign k.Decide ∷ in_parentheses (a ++ comma_gap ++ constant yes_id ∷ comma_gap ++ constant no_id ∷ comma_gap ++ literal tag ∷ [])) t
+decide_clean a yes_id no_id tag t runs yes_good no_good bytes =
+    word_parentheses k.Decide (a ++ comma_gap ++ constant yes_id ∷ comma_gap ++ constant no_id ∷ comma_gap ++ literal tag ∷ []) t refl (λ u. refl)
+    (in_parentheses_clean (a ++ comma_gap ++ constant yes_id ∷ comma_gap ++ constant no_id ∷ comma_gap ++ literal tag ∷ []) t
+    (λ u soft. with_literal (a ++ comma_gap ++ constant yes_id ∷ comma_gap ++ constant no_id ∷ comma_gap) tag
+        (with_constant (a ++ comma_gap ++ constant yes_id ∷ comma_gap) no_id (with_constant (a ++ comma_gap) yes_id (λ v. before_comma a v runs) yes_good) no_good) bytes u))
+
+-- a label that binds names, of which the first is this
+pub binding_clean : (a : Pieces) (id tag w : List ℕ) (b d : Pieces) (t : List ℕ) → Runs a → IsConstant id → All IsByte tag → IsIdentifier w → Runs b → Runs d → ((u : List ℕ) → Soft u → Soft (text_of d ++ u))
+    → Clean (sign k.LabelBind ∷ in_parentheses (a ++ comma_gap ++ constant id ∷ comma_gap ++ literal tag ∷ comma_gap ++ name w ∷ comma_gap ++ b ++ d)) t
+binding_clean a id tag w b d t runs good bytes name_good rb rd soft_behind =
+    word_parentheses k.LabelBind (a ++ comma_gap ++ constant id ∷ comma_gap ++ literal tag ∷ comma_gap ++ name w ∷ comma_gap ++ b ++ d) t refl (λ u. refl)
+    (in_parentheses_clean (a ++ comma_gap ++ constant id ∷ comma_gap ++ literal tag ∷ comma_gap ++ name w ∷ comma_gap ++ b ++ d) t
+    (λ u soft. clean_append (a ++ comma_gap ++ constant id ∷ comma_gap ++ literal tag ∷ comma_gap ++ name w ∷ comma_gap ++ b) d u
+      (clean_append (a ++ comma_gap ++ constant id ∷ comma_gap ++ literal tag ∷ comma_gap ++ name w ∷ comma_gap) b (text_of d ++ u)
+        (with_name (a ++ comma_gap ++ constant id ∷ comma_gap ++ literal tag ∷ comma_gap) w
+          (with_literal_comma (a ++ comma_gap ++ constant id ∷ comma_gap) tag (with_constant (a ++ comma_gap) id (λ v. before_comma a v runs) good) bytes) name_good (text_of b ++ (text_of d ++ u)))
+        (rb (text_of d ++ u) (soft_behind u soft)))
+      (rd u soft)))
+
+-- up to a semicolon
+pub before_semicolon : (a b : Pieces) (t : List ℕ) → Runs a → Clean b t → Clean (a ++ sign k.Semicolon ∷ b) t
+before_semicolon a b t runs h = before_closed a k.Semicolon b t refl (λ u. refl) runs h
+
+-- behind marks, which a comma ends
+pub marked_clean : (a b : Pieces) → ((t : List ℕ) → Clean a t) → Runs b → Runs (a ++ b)
+marked_clean a b clean runs t soft = clean_append a b t (clean (text_of b ++ t)) (runs t soft)

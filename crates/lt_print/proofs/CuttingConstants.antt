@@ -287,3 +287,6 @@ begins_digit (b ∷ bs) = nat_le 48 b && nat_le b 57
 pub integer_begins : (fresh : Bool) (w : List ℕ) → is_piece fresh form.Number w ≡ true → lex.is_integer w ≡ true → begins_digit w ≡ true
 integer_begins fresh [] is i = absurd (clash false is refl)
 integer_begins fresh (c ∷ cs) is i = let d = (integer_ends c cs (number_class fresh (class_of c) c cs is) i).0 in grind (arith, nat_tests)
+
+pub integer_digit : (fresh : Bool) (c : ℕ) (cs : List ℕ) → is_piece fresh form.Number (c ∷ cs) ≡ true → lex.is_integer (c ∷ cs) ≡ true → is_ascii_digit c ≡ true
+integer_digit fresh c cs is i = (integer_ends c cs (number_class fresh (class_of c) c cs is) i).0

@@ -45,3 +45,8 @@ pub mod SpeltTokens
 pub mod SpeltTrees
 pub mod CleanForms
 pub mod CleanOperands
+pub mod CleanStarts
+pub mod CleanLeaves
+pub mod CleanTrees
+pub mod SpeltUnits
+pub mod CleanUnits
