@@ -4,3 +4,4 @@ pub mod Heads
 pub mod Declarators
 pub mod Members
 pub mod Statements
+pub mod Laws

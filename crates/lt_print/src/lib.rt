@@ -5,6 +5,7 @@ mod declaration;
 mod declarator;
 mod expression;
 mod head;
+pub mod laws;
 mod level;
 mod literal;
 mod mark;

@@ -13,11 +13,11 @@ mod WrittenExpressions
 mod WrittenDeclarations
 mod WrittenStatements
 mod WrittenUnits
-mod SignsBack
+pub mod SignsBack
 mod ReadSteps
 mod ReadTexts
 mod ReadForms
-mod QuotedStrings
-mod SpelledBytes
+pub mod QuotedStrings
+pub mod SpelledBytes
 mod TypedExpressions
 mod TypedUnits
