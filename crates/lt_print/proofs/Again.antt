@@ -12,7 +12,7 @@ use Rattle.lt_print.proofs.ExpressionsAgain as e
 use Rattle.lt_print.proofs.MarksAgain as m
 use Rattle.lt_print.proofs.TypesAgain.{specifiers_again, are_some}
 use Rattle.lt_print.proofs.StructsAgain as structs
-use Rattle.lt_print.proofs.Clear.{type_name_again, either_clear, specifiers_end}
+use Rattle.lt_print.proofs.DeclaratorFronts.{type_name_again, either_clear, specifiers_end}
 use Rattle.lt_print.proofs.ParametersAgain as p
 use Rattle.lt_print.proofs.Void.{void_only}
 use Rattle.lt_print.proofs.VoidAlone.{void_is_alone}

@@ -2,7 +2,7 @@
 use Rattle.std.proofs.Common.{◌≡◌, ℕ, suc, ◌+◌, ◌<◌, ◌≤◌, Bool, true, false, cond, eqb, ltb, List, [], ◌∷◌, ◌++◌, Option, Some, None, refl, sym, ap, subst, ◌∙◌, inl, inr, arith, append_assoc}
 use Rattle.std.specs.Prelude.{◌&&◌, ◌||◌, not, if◌then◌else◌}
 use Rattle.std.specs.List.{All}
-use Rattle.std.proofs.lemmas.Bool.{and_parts, eqb-true, ltb-false}
+use Rattle.std.proofs.lemmas.Bool.{and_parts, eqb-true, ltb-false, not-true}
 use Rattle.lt_token.specs.Bytes.{class_of}
 use Rattle.lt_token.specs.declared.piece.Class.{Class}
 use Rattle.lt_token.specs.declared.piece.Class.TheVariants as class
@@ -15,8 +15,9 @@ use Rattle.lt_tree.specs.Pieces as p
 use Rattle.lt_tree.specs.Pieces.{Piece, word, gap, indent, line_end, bytes_of, text_of}
 use Rattle.lt_tree.specs.Grammar.{Level}
 use Rattle.lt_tree.specs.Canon.{Pieces, sign, name, constant, literal, spaced, comma_gap, gap_if, apart, in_parentheses, placed, prefixed, starts_signed, sign_of_unary, rank}
+use Rattle.lt_print.proofs.Texts.{text_append}
 use Rattle.lt_print.proofs.Cutting.{EndsWord, ends_word, clash}
-use Rattle.lt_print.proofs.CuttingConstants.{EndsConstant, ends_constant, begins_digit, false_if}
+use Rattle.lt_print.proofs.CuttingConstants.{EndsConstant, ends_constant}
 use Rattle.lt_print.proofs.CuttingQuotes.{IsByte}
 use Rattle.lt_print.proofs.Written.{is_other}
 use Rattle.lt_print.proofs.Clean.{IsIdentifier, IsConstant, IfDigit, Ends, EndsSign, Clean}
@@ -38,10 +39,6 @@ constant_ends_word class.Slash h = refl
 constant_ends_word class.Sign h = refl
 constant_ends_word x h = absurd cc
 
-not_true : (b : Bool) → not b ≡ true → b ≡ false
-not_true true e = absurd cc
-not_true false e = refl
-
 pub soft_word : (t : List ℕ) → Soft t → EndsWord t
 soft_word [] h = tt
 soft_word (b ∷ t) h = constant_ends_word (class_of b) (and_parts (ends_constant (class_of b)) (not (eqb 61 b)) h).0
@@ -56,18 +53,13 @@ soft_digit false t h = tt
 
 pub soft_equal : (t : List ℕ) → Soft t → NoEqual t
 soft_equal [] h = tt
-soft_equal (b ∷ t) h = not_true (eqb 61 b) (and_parts (ends_constant (class_of b)) (not (eqb 61 b)) h).1
+soft_equal (b ∷ t) h = not-true (eqb 61 b) (and_parts (ends_constant (class_of b)) (not (eqb 61 b)) h).1
 
 -- pieces that are clean before such a text
 abbrev pub Runs : Pieces → Type 0
 Runs a = (t : List ℕ) → Soft t → Clean a t
 
 -- ---- in a row
-
-pub text_append : (a b : Pieces) → text_of (a ++ b) ≡ text_of a ++ text_of b
-unfolding text_of
-text_append [] b = refl
-text_append (x ∷ a) b = ap (λ (t : List ℕ). bytes_of x ++ t) (text_append a b) ∙ sym (append_assoc (bytes_of x) (text_of a) (text_of b))
 
 behind : (a b : Pieces) (t : List ℕ) → text_of a ++ (text_of b ++ t) ≡ text_of (a ++ b) ++ t
 behind a b t = sym (append_assoc (text_of a) (text_of b) t) ∙ ap (λ (u : List ℕ). u ++ t) (sym (text_append a b))

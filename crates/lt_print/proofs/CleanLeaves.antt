@@ -26,7 +26,8 @@ use Rattle.lt_print.proofs.Written.{is_other, begins_word}
 use Rattle.lt_print.proofs.Clean.{IsIdentifier, IfDigit, EndsSign, Clean}
 use Rattle.lt_print.proofs.SignsClean.{space_ends, NoEqual, star_ends}
 use Rattle.lt_print.proofs.Spelt.{NameIf, Spelt, SpeltAll, SpeltMaybe, SpeltMarks, SpeltMark, SpeltBindings, SpeltSpecifiers, SpeltTypes, SpeltType, SpeltMembers, SpeltMemberDeclarators, SpeltEnumerators, SpeltDeclarator, SpeltParts, SpeltParameters, SpeltList}
-use Rattle.lt_print.proofs.CleanForms.{Soft, Runs, soft_word, soft_digit, soft_equal, text_append, clean_append, closed_cons, before_closed, spaced_alone, before_comma, name_clean, parentheses_clean, in_parentheses_clean, placed_clean, apart_clean}
+use Rattle.lt_print.proofs.Texts.{text_append}
+use Rattle.lt_print.proofs.CleanForms.{Soft, Runs, soft_word, soft_digit, soft_equal, clean_append, closed_cons, before_closed, spaced_alone, before_comma, name_clean, parentheses_clean, in_parentheses_clean, placed_clean, apart_clean}
 use Rattle.lt_print.proofs.CleanOperands as f
 use Rattle.lt_print.proofs.CleanOperands.{Starts}
 use Rattle.lt_print.proofs.CleanStarts.{append_starts, name_starts as name_begins}

@@ -2,7 +2,7 @@
 use Rattle.std.proofs.Common.{◌≡◌, ℕ, suc, Bool, true, false, eqb, List, [], ◌∷◌, ◌++◌, refl, sym, ap, subst, ◌∙◌}
 use Rattle.std.specs.Prelude.{◌||◌, if◌then◌else◌}
 use Rattle.std.specs.List.{All}
-use Rattle.std.proofs.lemmas.Bool.{eqb-true, eq-eqb}
+use Rattle.std.proofs.lemmas.Bool.{eqb-true, eq-eqb, or_parts, false_from_ne_true}
 use Rattle.lt_token.specs.Bytes.{class_of}
 use Rattle.lt_token.specs.declared.piece.Class.TheVariants as class
 use Rattle.lt_token.specs.declared.piece.Form.TheVariants as form
@@ -14,12 +14,11 @@ use Rattle.lt_tree.specs.Symbols.{spelling}
 use Rattle.lt_tree.specs.Pieces.{gap, text_of}
 use Rattle.lt_tree.specs.Canon.{Pieces, sign, name, constant, literal, spaced, comma_gap, gap_if, in_parentheses, prefixed, starts_signed, sign_of_unary}
 use Rattle.lt_print.proofs.Cutting.{EndsWord, clash, word_class}
-use Rattle.lt_print.proofs.CuttingConstants.{false_if}
 use Rattle.lt_print.proofs.CuttingQuotes.{IsByte}
 use Rattle.lt_print.proofs.Written.{is_other}
 use Rattle.lt_print.proofs.Clean.{IsIdentifier, IsConstant, Clean, EndsSign}
 use Rattle.lt_print.proofs.SignsClean.{is_closed, closed_ends, space_ends, dot_ends, Unsigned, prefix_ends, no_other_unary}
-use Rattle.lt_print.proofs.CleanForms.{Soft, Runs, soft_word, soft_digit, text_append, clean_append, closed_cons, before_closed, spaced_alone, before_spaced, before_comma, name_clean, in_parentheses_clean}
+use Rattle.lt_print.proofs.CleanForms.{Soft, Runs, soft_word, soft_digit, clean_append, closed_cons, before_closed, spaced_alone, before_spaced, before_comma, name_clean, in_parentheses_clean}
 
 -- ---- postfixes
 
@@ -78,26 +77,13 @@ Starts [] = ⊥
 Starts (b ∷ t) = (eqb 61 b ≡ false) × (eqb 62 b ≡ false)
 
 turned : (x b : ℕ) → eqb b x ≡ false → eqb x b ≡ false
-turned x b e = false_if (eqb x b) (λ is. clash (eqb b x) (eq-eqb b x (sym (eqb-true x b is))) e)
-
-or_left : (a b : Bool) → (a || b) ≡ false → a ≡ false
-or_left true b e = absurd cc
-or_left false b e = refl
-
-or_right : (a b : Bool) → (a || b) ≡ false → b ≡ false
-or_right true b e = absurd cc
-or_right false b e = e
+turned x b e = false_from_ne_true (eqb x b) (λ is. clash (eqb b x) (eq-eqb b x (sym (eqb-true x b is))) e)
 
 unsigned : (b : ℕ) (t : List ℕ) → starts_signed (b ∷ t) ≡ false → Starts (b ∷ t) → Unsigned b
 unsigned b t e s =
-    let front = or_left (eqb b 43 || eqb b 45) (eqb b 38) e in
-    record {
-      no_ampersand = turned 38 b (or_right (eqb b 43 || eqb b 45) (eqb b 38) e);
-      no_plus = turned 43 b (or_left (eqb b 43) (eqb b 45) front);
-      no_minus = turned 45 b (or_right (eqb b 43) (eqb b 45) front);
-      no_equal = s.0;
-      no_greater = s.1;
-    }
+    let all = or_parts (eqb b 43 || eqb b 45) (eqb b 38) e in
+    let front = or_parts (eqb b 43) (eqb b 45) all.0 in
+    record { no_ampersand = turned 38 b all.1; no_plus = turned 43 b front.0; no_minus = turned 45 b front.1; no_equal = s.0; no_greater = s.1 }
 
 -- a prefix with a space behind it
 pub space_behind : (x : Terminal) (a : Pieces) (t : List ℕ) → is_other x ≡ false → Clean a t → Clean (sign x ∷ gap ∷ a) t

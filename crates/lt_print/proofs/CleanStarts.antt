@@ -1,7 +1,7 @@
 -- What a prefix may stand before begins with neither `=` nor `>`.
 use Rattle.std.proofs.Common.{◌≡◌, ◌≤◌, ◌<◌, ◌+◌, ℕ, Bool, true, false, eqb, ltb, List, [], ◌∷◌, ◌++◌, refl, sym, ap, subst, ◌∙◌, arith}
 use Rattle.std.specs.Prelude.{if◌then◌else◌}
-use Rattle.std.proofs.lemmas.Bool.{eqb-true, ltb-false}
+use Rattle.std.proofs.lemmas.Bool.{eqb-true, ltb-false, false_from_ne_true}
 use Rattle.lt_token.specs.declared.piece.Class.{Class}
 use Rattle.lt_token.specs.declared.piece.Class.TheVariants as class
 use Rattle.lt_token.specs.declared.piece.Form.TheVariants as form
@@ -18,10 +18,10 @@ use Rattle.lt_tree.specs.Pieces.{gap, text_of}
 use Rattle.lt_tree.specs.Canon.{Pieces, sign, in_parentheses, placed, prefixed, gap_if, rank, apart, operand, list, specifiers, declarator, is_integer, sign_of_unary, tightness, tightness_of_logical}
 use Rattle.lt_print.proofs.SignsAgain.{tight, tight_logical}
 use Rattle.lt_print.proofs.Cutting.{is_mark, clash}
-use Rattle.lt_print.proofs.CuttingConstants.{false_if, digit_class, integer_digit}
+use Rattle.lt_print.proofs.CuttingConstants.{digit_class, integer_digit}
 use Rattle.lt_print.proofs.Clean.{IsIdentifier, IsConstant, integer, character}
 use Rattle.lt_print.proofs.Spelt.{Spelt}
-use Rattle.lt_print.proofs.CleanForms.{text_append}
+use Rattle.lt_print.proofs.Texts.{text_append}
 use Rattle.lt_print.proofs.CleanOperands.{Starts}
 
 pub append_starts : (s t : List ℕ) → Starts s → Starts (s ++ t)
@@ -49,7 +49,7 @@ starts_enclosed asked own a less = step (ltb (rank own) (rank asked)) refl
 
 -- bytes of classes that no punctuator begins with
 unmarked : (x b : ℕ) → is_mark (class_of x) ≡ true → is_mark (class_of b) ≡ false → eqb x b ≡ false
-unmarked x b e h = false_if (eqb x b) (λ is. clash (is_mark (class_of b)) (ap (λ (y : ℕ). is_mark (class_of y)) (sym (eqb-true x b is)) ∙ e) h)
+unmarked x b e h = false_from_ne_true (eqb x b) (λ is. clash (is_mark (class_of b)) (ap (λ (y : ℕ). is_mark (class_of y)) (sym (eqb-true x b is)) ∙ e) h)
 
 starts_unmarked : (b : ℕ) (bs : List ℕ) → is_mark (class_of b) ≡ false → Starts (b ∷ bs)
 starts_unmarked b bs h = (unmarked 61 b refl h, unmarked 62 b refl h)

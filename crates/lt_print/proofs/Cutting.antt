@@ -21,15 +21,15 @@ use Rattle.lt_token.specs.Pieces.{is_literal, is_prefixed, is_piece_at, is_piece
 
 -- ---- longer pieces
 
-pub joined : (c : ℕ) (x y : ℕ) (xs ys zs : List ℕ) → x ∷ xs ≡ y ∷ ys → (x ≡ y) × (xs ≡ ys)
-joined c x y xs ys zs e = (cc, cc)
+pub same_parts : (x y : ℕ) (xs ys : List ℕ) → x ∷ xs ≡ y ∷ ys → (x ≡ y) × (xs ≡ ys)
+same_parts x y xs ys e = (cc, cc)
 
 -- What else begins the text is no longer, or it goes on with the byte behind.
 pub longer : (xs other t rest : List ℕ) (b : ℕ) → xs ++ b ∷ t ≡ other ++ rest → (length other ≤ length xs) ⊎ ((more : List ℕ) × (other ≡ xs ++ b ∷ more))
 longer xs [] t rest b e = inl (omega arith)
-longer [] (c ∷ other) t rest b e = let h = joined 0 b c t (other ++ rest) [] e in inr (other, ap (λ (z : ℕ). z ∷ other) (sym h.0))
+longer [] (c ∷ other) t rest b e = let h = same_parts b c t (other ++ rest) e in inr (other, ap (λ (z : ℕ). z ∷ other) (sym h.0))
 longer (x ∷ xs) (c ∷ other) t rest b e =
-    let h = joined 0 x c (xs ++ b ∷ t) (other ++ rest) [] e in
+    let h = same_parts x c (xs ++ b ∷ t) (other ++ rest) e in
     elim (longer xs other t rest b h.1) [
       | inl le ↦ inl (omega (arith, le))
       | inr m ↦ inr (m.0, ap (λ (z : ℕ). z ∷ other) (sym h.0) ∙ ap (λ (z : List ℕ). x ∷ z) m.1)

@@ -13,7 +13,7 @@ use Rattle.lt_token.specs.Words.{is_among, punctuators}
 use Rattle.lt_token.specs.Pieces.{is_piece_at, is_piece, Longest, NoPiece}
 use Rattle.lt_token.specs.Lexemes as lex
 use Rattle.lt_token.specs.Lexemes.{Lexeme, Cuts, sort_of, fresh_after}
-use Rattle.lt_print.proofs.Cutting.{longest, of_class, is_mark, joined, clash}
+use Rattle.lt_print.proofs.Cutting.{longest, of_class, same_parts, clash}
 
 blank_class : (k : Class) → is_blank_class k ≡ true → k ≡ class.Blank
 blank_class class.Blank h = refl
@@ -43,7 +43,7 @@ record BlankFirst (fresh : Bool) (at : ℕ) (text : List ℕ) (ls : List Lexeme)
 first_byte : (fresh : Bool) (f : Form) (piece rest t : List ℕ) (c : ℕ) → class_of c ≡ class.Blank → c ∷ t ≡ piece ++ rest → is_piece fresh f piece ≡ true → f ≡ form.Blank
 first_byte fresh f [] rest t c e parts h = absurd cc
 first_byte fresh f (d ∷ piece) rest t c e parts h =
-    let j = joined 0 c d t (piece ++ rest) [] parts in (of_blank fresh f d piece (ap class_of (sym j.0) ∙ e) h).0
+    let j = same_parts c d t (piece ++ rest) parts in (of_blank fresh f d piece (ap class_of (sym j.0) ∙ e) h).0
 
 no_sort : (s : Sort) → None ≡ Some s → ⊥
 no_sort s e = cc
@@ -87,7 +87,7 @@ joined_blanks fresh inner b t piece rest e long =
     none : (g : Form) (other r : List ℕ) → b ∷ t ≡ other ++ r → is_piece fresh g other ≡ true → length other ≤ length (b ∷ piece)
     none g [] r parts h = omega arith
     none g (d ∷ o) r parts h =
-        let j = joined 0 b d t (o ++ r) [] parts in
+        let j = same_parts b d t (o ++ r) parts in
         let le = tail o r j.1 (of_blank fresh g d o (ap class_of (sym j.0) ∙ e) h).1 in
         omega (arith, le)
 
@@ -96,7 +96,7 @@ blank fresh at b [] ls e cuts = alone fresh at b [] ls e (λ c after is. absurd 
 blank fresh at b (c ∷ t) ls e cuts = step (is_blank c) refl
   where
     same : (c d : ℕ) (t u : List ℕ) → c ∷ t ≡ d ∷ u → is_blank c ≡ false → is_blank d ≡ false
-    same c d t u is h = ap is_blank (sym (joined 0 c d t u [] is).0) ∙ h
+    same c d t u is h = ap is_blank (sym (same_parts c d t u is).0) ∙ h
 
     step : (p : Bool) → is_blank c ≡ p → Cuts fresh at (b ∷ c ∷ t) ls
     step false h = alone fresh at b (c ∷ t) ls e (λ d after is. same c d t after is h) cuts

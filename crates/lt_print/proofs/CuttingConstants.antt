@@ -4,7 +4,7 @@ use Rattle.std.specs.Prelude.{◌⊎◌, ◌&&◌, ◌||◌, nat_le, if◌then�
 use Rattle.std.specs.List.{list_all, prefix_len}
 use Rattle.std.specs.Char.{is_ascii_digit, is_ascii_hexdigit}
 use Rattle.std.specs.Int.{is_in_range}
-use Rattle.std.proofs.lemmas.Bool.{and_parts, or_cases, eqb-true, eq-eqb}
+use Rattle.std.proofs.lemmas.Bool.{and_parts, or_cases, eqb-true, eq-eqb, false_from_ne_true, or_from}
 use Rattle.std.proofs.lemmas.Bool.Decides.{nat_tests}
 use Rattle.lt_token.specs.declared.piece.Class.{Class}
 use Rattle.lt_token.specs.declared.piece.Class.TheVariants as class
@@ -18,6 +18,7 @@ use Rattle.lt_token.specs.Words.{is_among, integer_suffixes}
 use Rattle.lt_token.specs.Pieces.{is_fraction, is_piece_at, is_piece, Longest}
 use Rattle.lt_token.specs.Lexemes as lex
 use Rattle.lt_token.specs.Lexemes.{past, is_hexadecimal}
+use Rattle.lt_print.proofs.Written.{is_letter}
 use Rattle.lt_print.proofs.Cutting.{longest, of_class, any_of_all, is_mark, clash}
 
 -- ---- parts
@@ -62,21 +63,17 @@ ends_constant class.Slash = true
 ends_constant class.Sign = true
 ends_constant _ = false
 
-pub false_if : (b : Bool) → (b ≡ true → ⊥) → b ≡ false
-false_if true h = absurd (h refl)
-false_if false h = refl
-
 other_class : (b : ℕ) (k : Class) → ends_constant (class_of b) ≡ true → ends_constant k ≡ false → class_of b ≡ k → ⊥
 other_class b k h e is = clash (ends_constant k) (ap ends_constant (sym is) ∙ h) e
 
 not_byte : (b x : ℕ) → ends_constant (class_of b) ≡ true → ends_constant (class_of x) ≡ false → eqb b x ≡ false
-not_byte b x h e = false_if (eqb b x) (λ is. other_class b (class_of x) h e (ap class_of (eqb-true b x is)))
+not_byte b x h e = false_from_ne_true (eqb b x) (λ is. other_class b (class_of x) h e (ap class_of (eqb-true b x is)))
 
 not_digit : (b : ℕ) → ends_constant (class_of b) ≡ true → is_ascii_digit b ≡ false
-not_digit b h = false_if (is_ascii_digit b) (λ is. other_class b class.Digit h refl (digit_class b is))
+not_digit b h = false_from_ne_true (is_ascii_digit b) (λ is. other_class b class.Digit h refl (digit_class b is))
 
 not_hexdigit : (b : ℕ) → ends_constant (class_of b) ≡ true → is_ascii_hexdigit b ≡ false
-not_hexdigit b h = false_if (is_ascii_hexdigit b) (λ is. elim (or_cases (is_in_range 48 57 b || is_in_range 65 70 b) (is_in_range 97 102 b) is) [
+not_hexdigit b h = false_from_ne_true (is_ascii_hexdigit b) (λ is. elim (or_cases (is_in_range 48 57 b || is_in_range 65 70 b) (is_in_range 97 102 b) is) [
     | inl x ↦ (elim (or_cases (is_in_range 48 57 b) (is_in_range 65 70 b) x) [ inl y ↦ other_class b class.Digit h refl (digit_class b y) | inr y ↦ other_class b class.Letter h refl (upper_class b y) ])
     | inr x ↦ other_class b class.Letter h refl (lower_class b x)
   ])
@@ -104,12 +101,8 @@ skip : (b : Bool) (x y z : Part) → b ≡ false → y ≡ z → (if b then x el
 skip true x y z e f = absurd cc
 skip false x y z e f = f
 
-neither : (a b : Bool) → a ≡ false → b ≡ false → (a || b) ≡ false
-neither true b e f = absurd cc
-neither false b e f = f
-
 two_bytes : (b x y : ℕ) → ends_constant (class_of b) ≡ true → ends_constant (class_of x) ≡ false → ends_constant (class_of y) ≡ false → (eqb b x || eqb b y) ≡ false
-two_bytes b x y h e f = neither (eqb b x) (eqb b y) (not_byte b x h e) (not_byte b y h f)
+two_bytes b x y h e f = or_from (eqb b x) (eqb b y) (not_byte b x h e) (not_byte b y h f)
 
 tail_stops : (b : ℕ) → ends_constant (class_of b) ≡ true → tail b ≡ part.Nothing
 tail_stops b h = skip (is_word_byte b) part.Tail part.Nothing part.Nothing (not_word b h) refl
@@ -190,10 +183,6 @@ octal_ends (b ∷ bs) h = step (is_octal b) refl
     step true e =
         ap (λ (q : Part). ends_integer (ends_at q bs)) (octal_first b e) ∙ octal_digits_end bs (ap (λ w. is_among w integer_suffixes) (sym (past_one is_octal b bs e)) ∙ h)
     step false e = any_of_all (λ w. ends_integer (ends_at part.Zero w)) integer_suffixes (b ∷ bs) suffixes_of_zero (ap (λ w. is_among w integer_suffixes) (sym (past_none is_octal b bs e)) ∙ h)
-
-abbrev is_letter : Class → Bool
-is_letter class.Letter = true
-is_letter _ = false
 
 -- no suffix begins with a digit or a point
 abbrev is_suffix_front : List ℕ → Bool

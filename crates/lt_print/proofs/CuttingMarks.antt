@@ -3,7 +3,7 @@ use Rattle.std.proofs.Common.{◌≡◌, ℕ, suc, ◌+◌, ◌≤◌, Bool, tru
 use Rattle.std.specs.Prelude.{◌⊎◌, ◌&&◌, ◌||◌, not}
 use Rattle.std.specs.List.{list_all}
 use Rattle.std.specs.Char.{is_ascii_digit}
-use Rattle.std.proofs.lemmas.Bool.{and_parts, eq-eqb}
+use Rattle.std.proofs.lemmas.Bool.{and_parts, eq-eqb, not-true}
 use Rattle.lt_token.specs.declared.piece.Class.{Class}
 use Rattle.lt_token.specs.declared.piece.Class.TheVariants as class
 use Rattle.lt_token.specs.declared.piece.Form.{Form}
@@ -45,21 +45,17 @@ begins_so : (xs more : List ℕ) (b : ℕ) → goes_with (xs ++ b ∷ more) (xs 
 begins_so [] more b = rw (eq-eqb b b refl) refl
 begins_so (x ∷ xs) more b = rw (eq-eqb x x refl) (begins_so xs more b)
 
-not_true : (b : Bool) → not b ≡ true → b ≡ false
-not_true true e = absurd cc
-not_true false e = refl
-
 second_no_fraction : (cs more : List ℕ) (b : ℕ) → is_second class.Dot (cs ++ b ∷ []) ≡ true → is_fraction (cs ++ b ∷ more) ≡ true → ⊥
-second_no_fraction [] more b e h = clash (is_ascii_digit b) (and_parts (is_ascii_digit b) (is_whole_after part.Fraction more) h).0 (not_true (is_ascii_digit b) e)
-second_no_fraction (x ∷ cs) more b e h = clash (is_ascii_digit x) (and_parts (is_ascii_digit x) (is_whole_after part.Fraction (cs ++ b ∷ more)) h).0 (not_true (is_ascii_digit x) e)
+second_no_fraction [] more b e h = clash (is_ascii_digit b) (and_parts (is_ascii_digit b) (is_whole_after part.Fraction more) h).0 (not-true (is_ascii_digit b) e)
+second_no_fraction (x ∷ cs) more b e h = clash (is_ascii_digit x) (and_parts (is_ascii_digit x) (is_whole_after part.Fraction (cs ++ b ∷ more)) h).0 (not-true (is_ascii_digit x) e)
 
 second_no_line : (cs more : List ℕ) (b : ℕ) → is_second class.Slash (cs ++ b ∷ []) ≡ true → is_line_comment (cs ++ b ∷ more) ≡ true → ⊥
-second_no_line [] more b e h = clash (eqb b 47) (and_parts (eqb b 47) (list_all is_in_line more) h).0 (not_true (eqb b 47) (and_parts (not (eqb b 47)) (not (eqb b 42)) e).0)
-second_no_line (x ∷ cs) more b e h = clash (eqb x 47) (and_parts (eqb x 47) (list_all is_in_line (cs ++ b ∷ more)) h).0 (not_true (eqb x 47) (and_parts (not (eqb x 47)) (not (eqb x 42)) e).0)
+second_no_line [] more b e h = clash (eqb b 47) (and_parts (eqb b 47) (list_all is_in_line more) h).0 (not-true (eqb b 47) (and_parts (not (eqb b 47)) (not (eqb b 42)) e).0)
+second_no_line (x ∷ cs) more b e h = clash (eqb x 47) (and_parts (eqb x 47) (list_all is_in_line (cs ++ b ∷ more)) h).0 (not-true (eqb x 47) (and_parts (not (eqb x 47)) (not (eqb x 42)) e).0)
 
 second_no_block : (cs more : List ℕ) (b : ℕ) → is_second class.Slash (cs ++ b ∷ []) ≡ true → is_block_comment (cs ++ b ∷ more) ≡ true → ⊥
-second_no_block [] more b e h = clash (eqb b 42) (and_parts (eqb b 42) (is_whole_after part.Comment more) h).0 (not_true (eqb b 42) (and_parts (not (eqb b 47)) (not (eqb b 42)) e).1)
-second_no_block (x ∷ cs) more b e h = clash (eqb x 42) (and_parts (eqb x 42) (is_whole_after part.Comment (cs ++ b ∷ more)) h).0 (not_true (eqb x 42) (and_parts (not (eqb x 47)) (not (eqb x 42)) e).1)
+second_no_block [] more b e h = clash (eqb b 42) (and_parts (eqb b 42) (is_whole_after part.Comment more) h).0 (not-true (eqb b 42) (and_parts (not (eqb b 47)) (not (eqb b 42)) e).1)
+second_no_block (x ∷ cs) more b e h = clash (eqb x 42) (and_parts (eqb x 42) (is_whole_after part.Comment (cs ++ b ∷ more)) h).0 (not-true (eqb x 42) (and_parts (not (eqb x 47)) (not (eqb x 42)) e).1)
 
 mark_stops_at : (fresh : Bool) (g : Form) (k : Class) (c : ℕ) (cs more : List ℕ) (b : ℕ) → is_second k (cs ++ b ∷ []) ≡ true → is_piece_at fresh g k c (cs ++ b ∷ more) ≡ true → ⊥
 mark_stops_at fresh form.Number class.Dot c cs more b e h = second_no_fraction cs more b e h
@@ -77,7 +73,7 @@ mark_stops_at fresh g k c cs more b e h = cc
 mark_stops : (fresh : Bool) (g : Form) (c : ℕ) (cs more : List ℕ) (b : ℕ) → is_clear (c ∷ cs) b ≡ true → is_piece fresh g (c ∷ cs ++ b ∷ more) ≡ true → ⊥
 mark_stops fresh g c cs more b clear h = elim (of_class fresh g (class_of c) c (cs ++ b ∷ more) refl h) [
     | inl m ↦ (let n = any_of_all (λ q. not (goes_with q (c ∷ cs ++ b ∷ []))) punctuators (c ∷ cs ++ b ∷ more) both.1 m.1 in
-        clash (goes_with (c ∷ cs ++ b ∷ more) (c ∷ cs ++ b ∷ [])) (begins_so (c ∷ cs) more b) (not_true (goes_with (c ∷ cs ++ b ∷ more) (c ∷ cs ++ b ∷ [])) n))
+        clash (goes_with (c ∷ cs ++ b ∷ more) (c ∷ cs ++ b ∷ [])) (begins_so (c ∷ cs) more b) (not-true (goes_with (c ∷ cs ++ b ∷ more) (c ∷ cs ++ b ∷ [])) n))
     | inr p ↦ mark_stops_at fresh g (class_of c) c cs more b both.0 p
   ]
   where

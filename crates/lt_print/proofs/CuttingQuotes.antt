@@ -3,7 +3,7 @@ use Rattle.std.proofs.Common.{◌≡◌, ℕ, suc, ◌+◌, ◌-◌, ◌*◌, �
 use Rattle.std.specs.Prelude.{◌⊎◌, ◌&&◌, ◌||◌, if◌then◌else◌}
 use Rattle.std.specs.List.{All, flat_map}
 use Rattle.std.specs.Char.{is_ascii_hexdigit}
-use Rattle.std.proofs.lemmas.Bool.{or_cases, eqb-true}
+use Rattle.std.proofs.lemmas.Bool.{or_cases, eqb-true, or_right}
 use Rattle.std.proofs.lemmas.Bool.Decides.{nat_tests}
 use Rattle.std.proofs.lemmas.List.Elements.{All-head, All-tail}
 use Rattle.lt_token.specs.declared.piece.Class.{Class}
@@ -87,17 +87,13 @@ character_longest fresh (c ∷ cs) t is =
 
 -- ---- strings
 
-or_true : (a b : Bool) → b ≡ true → (a || b) ≡ true
-or_true true b e = refl
-or_true false b e = e
-
 octal_digit : (d : ℕ) → d < 8 → is_octal (48 + d) ≡ true
 octal_digit d h = grind (arith, nat_tests)
 
 escape_on : (d : ℕ) → d < 8 → after part.TextEscape (48 + d) ≡ part.Text
 escape_on d h =
     let x : eqb (48 + d) 120 ≡ false = grind (arith, nat_tests) in
-    let o : (is_simple_escape (48 + d) || is_octal (48 + d)) ≡ true = or_true (is_simple_escape (48 + d)) (is_octal (48 + d)) (octal_digit d h) in
+    let o : (is_simple_escape (48 + d) || is_octal (48 + d)) ≡ true = or_right (is_simple_escape (48 + d)) (is_octal (48 + d)) (octal_digit d h) in
     rw (x, o) refl
 
 plain_on : (b : ℕ) → eqb b 34 ≡ false → eqb b 10 ≡ false → eqb b 92 ≡ false → after part.Text b ≡ part.Text

@@ -16,7 +16,7 @@ use Rattle.lt_tree.specs.CanonUnits.{initialiser, initialisers, init_declarator,
 use Rattle.lt_print.proofs.ReadPieces.{Reads, done, a_sign, a_gap, parted, parted_apart, split, split_comma, Ends, by_comma, by_semicolon, by_equal}
 use Rattle.lt_print.proofs.Claims.{Again, names_type, SpecifiersAgain, DeclaratorFits}
 use Rattle.lt_print.proofs.DeclaratorsAgain.{declarator_again}
-use Rattle.lt_print.proofs.Clear.{Clear, front_clear, behind_clear_after, behind_is_named}
+use Rattle.lt_print.proofs.DeclaratorFronts.{Clear, front_clear, behind_clear_after, behind_bare}
 
 -- ---- initialisers
 
@@ -131,14 +131,11 @@ unfolding same_terminal
 alone_again {scope} {ss} again n ts rest more r =
     let q = ended (specifiers n ss) r in let got = again n ts (s.sign k.Semicolon q.at ∷ rest) more refl refl q.front in (got.0, d.specifiers_alone got.1)
 
-bare : (ss : c.Specifiers) (rest : List Symbol) → takes_none (naming_behind ss) ≡ true → Ends rest × (sees k.OpenBrace rest ≡ false)
-bare ss rest e = let f = behind_is_named ss in absurd cc
-
 declarators_clear : (scope : Scope) (ss : c.Specifiers) (type : Bool) (xs : List c.InitDeclarator) → DeclaratorsFit (naming_behind ss) type (after_specifiers ss scope) xs → {ts rest : List Symbol} {spots more : List ℕ}
     → AreDeclarators (after_specifiers ss scope) (naming_behind ss) type ts xs rest spots more → Clear scope (names_type ss) ts
 declarators_clear scope ss type [] fit x = elim x [ ]
-declarators_clear scope ss type (x ∷ xs) fit (d.last_declarator {us} a b) = front_clear (names_type ss) a (bare ss us) (behind_clear_after scope ss x.declarator fit.0)
-declarators_clear scope ss type (x ∷ xs) fit (d.more_declarators {us} a b z) = front_clear (names_type ss) a (bare ss us) (behind_clear_after scope ss x.declarator fit.0)
+declarators_clear scope ss type (x ∷ xs) fit (d.last_declarator {us} a b) = front_clear (names_type ss) a (behind_bare ss us) (behind_clear_after scope ss x.declarator fit.0)
+declarators_clear scope ss type (x ∷ xs) fit (d.more_declarators {us} a b z) = front_clear (names_type ss) a (behind_bare ss us) (behind_clear_after scope ss x.declarator fit.0)
 
 pub declared_again : {scope : Scope} {ss : c.Specifiers} {xs : List c.InitDeclarator} → SpecifiersAgain scope ss → DeclaratorsFit (naming_behind ss) (makes_types ss) (after_specifiers ss scope) xs → AreDeclared xs
     → DeclarationAgain scope (record { specifiers = ss; declarators = xs })

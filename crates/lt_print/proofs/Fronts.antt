@@ -1,6 +1,7 @@
 -- What stands at the front of declarators, and behind them.
 use Rattle.std.specs.Prelude.{◌≡◌, ℕ, Bool, true, false, not, ◌||◌, List, [], ◌∷◌, Option, Some, None, refl}
 use Rattle.std.proofs.Common.{ap}
+use Rattle.std.proofs.lemmas.Bool.{or_right}
 use Rattle.lt_tree.specs.declared.terminal.Terminal.TheVariants as k
 use Rattle.lt_tree.specs.Tree as c
 use Rattle.lt_tree.specs.Symbols as s
@@ -103,16 +104,12 @@ pub list_begins : {scope : Scope} {ts rest : List Symbol} {ps : c.ParameterList}
 list_begins (g.last_parameter x y) = specifiers_begin x
 list_begins (g.more_parameters x y z) = specifiers_begin x
 
-or_true : (b v : Bool) → v ≡ true → (b || v) ≡ true
-or_true true v e = refl
-or_true false v e = e
-
 pub parameters_begin : {scope : Scope} {ts rest : List Symbol} {ps : c.Parameters} {spots more : List ℕ} → AreParameters scope ts ps rest spots more → begins_parameters scope ts ≡ true
 unfolding same_terminal
 parameters_begin g.unstated = refl
 parameters_begin g.void_alone = refl
-parameters_begin {ts} (g.listed a x) = or_true (sees k.CloseParen ts) _ (list_begins x)
-parameters_begin {ts} (g.open_list x) = or_true (sees k.CloseParen ts) _ (list_begins x)
+parameters_begin {ts} (g.listed a x) = or_right (sees k.CloseParen ts) _ (list_begins x)
+parameters_begin {ts} (g.open_list x) = or_right (sees k.CloseParen ts) _ (list_begins x)
 
 -- a list of parameters begins no direct declarator
 pub parameters_no_direct : {scope : Scope} (at : ℕ) {ts rest : List Symbol} {ps : c.Parameters} {spots more : List ℕ}

@@ -21,7 +21,7 @@ pub mod ExpressionsAgain
 pub mod Fronts
 pub mod DeclaratorsAgain
 pub mod TypesAgain
-pub mod Clear
+pub mod DeclaratorFronts
 pub mod StructsAgain
 pub mod MarksAgain
 pub mod Void

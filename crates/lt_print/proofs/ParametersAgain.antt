@@ -11,7 +11,7 @@ use Rattle.lt_tree.specs.Grammar.{IsParameterList, AreParameters}
 use Rattle.lt_tree.specs.Canon.{Pieces, sign, apart, operand, specifiers, declarator, parameters, parameter_list}
 use Rattle.lt_print.proofs.ReadPieces.{Reads, done, a_sign, split_comma, Ends, by_parenthesis, by_comma}
 use Rattle.lt_print.proofs.Claims.{ParametersAgain, ParametersFit, AreListed}
-use Rattle.lt_print.proofs.Clear.{declared_again}
+use Rattle.lt_print.proofs.DeclaratorFronts.{declared_again}
 use Rattle.lt_print.proofs.Void.{void_only}
 use Rattle.lt_print.proofs.VoidAlone.{alone_is_void}
 

@@ -1,7 +1,7 @@
 -- Signs stand clear: brackets and separators of all, and the others of spaces, line ends and what stands behind them.
 use Rattle.std.proofs.Common.{◌≡◌, ℕ, Bool, true, false, eqb, List, [], ◌∷◌, ◌++◌, refl, sym, ap, subst, ◌∙◌}
 use Rattle.std.specs.Char.{is_ascii_digit}
-use Rattle.std.proofs.lemmas.Bool.{eqb-true}
+use Rattle.std.proofs.lemmas.Bool.{eqb-true, false_from_ne_true}
 use Rattle.lt_token.specs.declared.piece.Class.{Class}
 use Rattle.lt_token.specs.declared.piece.Class.TheVariants as class
 use Rattle.lt_token.specs.Bytes.{class_of}
@@ -14,7 +14,7 @@ use Rattle.lt_tree.specs.Symbols.{spelling}
 use Rattle.lt_tree.specs.Canon.{sign_of_unary}
 use Rattle.lt_print.proofs.Cutting.{clash}
 use Rattle.lt_print.proofs.CuttingMarks.{is_clear}
-use Rattle.lt_print.proofs.CuttingConstants.{digit_class, false_if}
+use Rattle.lt_print.proofs.CuttingConstants.{digit_class}
 use Rattle.lt_print.proofs.Written.{is_letter, is_other}
 use Rattle.lt_print.proofs.Clean.{ends_sign, EndsSign}
 
@@ -150,10 +150,10 @@ space_ends k.Other t e = absurd cc
 -- ---- a point before a letter
 
 pub other_byte : (x b : ℕ) (k : Class) → class_of b ≡ class.Letter → class_of x ≡ k → is_letter k ≡ false → eqb x b ≡ false
-other_byte x b k e f g = false_if (eqb x b) (λ is. clash (is_letter k) (ap is_letter (sym f ∙ ap class_of (eqb-true x b is) ∙ e)) g)
+other_byte x b k e f g = false_from_ne_true (eqb x b) (λ is. clash (is_letter k) (ap is_letter (sym f ∙ ap class_of (eqb-true x b is) ∙ e)) g)
 
 letter_no_digit : (b : ℕ) → class_of b ≡ class.Letter → is_ascii_digit b ≡ false
-letter_no_digit b e = false_if (is_ascii_digit b) (λ is. clash (is_letter class.Digit) (ap is_letter (sym (digit_class b is) ∙ e)) refl)
+letter_no_digit b e = false_from_ne_true (is_ascii_digit b) (λ is. clash (is_letter class.Digit) (ap is_letter (sym (digit_class b is) ∙ e)) refl)
 
 pub dot_ends : (b : ℕ) (t : List ℕ) → class_of b ≡ class.Letter → EndsSign (spelling k.Dot) (b ∷ t)
 unfolding punctuators

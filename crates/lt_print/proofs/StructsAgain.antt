@@ -15,7 +15,7 @@ use Rattle.lt_tree.specs.Pieces.{indent, line_end}
 use Rattle.lt_print.proofs.ReadPieces.{Reads, done, a_name, a_sign, a_gap, an_indent, a_line_end, off_line_end, parted, parted_apart, split, split_comma, Ends, by_comma, by_semicolon, by_colon}
 use Rattle.lt_print.proofs.Claims.{MaybeStands, names_type, DeclaratorFits, TaggedAgain, MemberDeclaratorsFit, MembersFit, EnumeratorsFit, AreEnumerated, IsClear}
 use Rattle.lt_print.proofs.DeclaratorsAgain.{declarator_again}
-use Rattle.lt_print.proofs.Clear.{Clear, front_clear, behind_clear, behind_is_named}
+use Rattle.lt_print.proofs.DeclaratorFronts.{Clear, front_clear, behind_clear, behind_bare}
 
 -- ---- a width or a value
 
@@ -60,15 +60,12 @@ member_declarators_again scope naming n (c.a_declarator d width (c.a_declarator 
     let m = member_again scope naming n d width fit.0 fit.1 k.Comma q.at ts q.between others.0 by_comma refl q.front in
     (m.spots, g.more_member_declarators m.first m.second others.1)
 
-bare : (ss : c.Specifiers) (rest : List Symbol) → takes_none (naming_behind ss) ≡ true → Ends rest × (sees k.OpenBrace rest ≡ false)
-bare ss rest e = let f = behind_is_named ss in absurd cc
-
 members_clear : (scope : Scope) (ss : c.Specifiers) (ds : c.MemberDeclarators) → MemberDeclaratorsFit (naming_behind ss) scope ds → {ts rest : List Symbol} {spots more : List ℕ}
     → AreMemberDeclarators scope (naming_behind ss) ts ds rest spots more → Clear scope (names_type ss) ts
 unfolding same_terminal
 members_clear scope ss c.no_declarators fit g.no_member_declarators = record { none = refl; brace = refl }
-members_clear scope ss (c.a_declarator d width c.no_declarators) fit (g.last_member_declarator {us} x y) = front_clear (names_type ss) x (bare ss us) (behind_clear scope ss d fit.0)
-members_clear scope ss (c.a_declarator d width (c.a_declarator e wide ds)) fit (g.more_member_declarators {us} x y z) = front_clear (names_type ss) x (bare ss us) (behind_clear scope ss d fit.0)
+members_clear scope ss (c.a_declarator d width c.no_declarators) fit (g.last_member_declarator {us} x y) = front_clear (names_type ss) x (behind_bare ss us) (behind_clear scope ss d fit.0)
+members_clear scope ss (c.a_declarator d width (c.a_declarator e wide ds)) fit (g.more_member_declarators {us} x y z) = front_clear (names_type ss) x (behind_bare ss us) (behind_clear scope ss d fit.0)
 
 pub members_again : (scope : Scope) (n : ℕ) (ms : c.Members) → MembersFit scope ms → (at : ℕ) (ts rest : List Symbol) (more : List ℕ)
     → Reads (member_lines n ms) ts (s.sign k.CloseBrace at ∷ rest) → (spots : List ℕ) × AreMembers scope ts ms rest spots more

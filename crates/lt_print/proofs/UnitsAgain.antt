@@ -17,7 +17,7 @@ use Rattle.lt_tree.specs.Canon.{Pieces, sign, apart, specifiers, declarator}
 use Rattle.lt_tree.specs.CanonUnits.{declaration, item_lines, external}
 use Rattle.lt_print.proofs.ReadPieces.{Reads, done, a_sign, a_gap, a_line_end, off_line_end, parted, by_brace}
 use Rattle.lt_print.proofs.Claims.{SpecifiersAgain, DeclaratorFits}
-use Rattle.lt_print.proofs.Clear.{declared_again, behind_clear_after, behind_is_named}
+use Rattle.lt_print.proofs.DeclaratorFronts.{declared_again, behind_clear_after, behind_is_named}
 use Rattle.lt_print.proofs.DeclarationsAgain as ds
 use Rattle.lt_print.proofs.DeclarationsAgain.{InitialiserAgain, InitialisersFit, AreGiven, InitialiserFits, DeclaratorsFit, AreDeclared, DeclarationAgain}
 use Rattle.lt_print.proofs.StatementsAgain as sts

@@ -1,6 +1,7 @@
 -- What begins a declarator begins no specifier, so that specifiers end before it.
 use Rattle.std.proofs.Common.{◌≡◌, ℕ, Bool, true, false, List, [], ◌∷◌, Option, Some, None, refl, sym, ap, subst, ◌∙◌}
 use Rattle.std.specs.Prelude.{not, ◌&&◌, ◌||◌, option_and_then}
+use Rattle.std.proofs.lemmas.Bool.{not-true, or_parts}
 use Rattle.lt_tree.specs.declared.specifier.BasicType.{BasicType}
 use Rattle.lt_tree.specs.declared.terminal.Terminal.TheVariants as k
 use Rattle.lt_tree.specs.Tree as c
@@ -78,14 +79,6 @@ front_clear {scope} typed (g.missing a b) bare clear = let e = bare a in record 
 
 -- ---- names that begin declarators
 
-not_true : (b : Bool) → not b ≡ true → b ≡ false
-not_true true e = absurd cc
-not_true false e = refl
-
-or_right : (a b : Bool) → (a || b) ≡ false → b ≡ false
-or_right true b e = absurd cc
-or_right false b e = e
-
 pub nameless_clear : (scope : Scope) (typed : Bool) (d : c.Declarator) → DeclaratorFits nameless scope d → IsClear scope typed d
 nameless_clear scope true d fits = tt
 nameless_clear scope false (c.declarator None parts) fits = tt
@@ -93,7 +86,7 @@ nameless_clear scope false (c.declarator (Some w) parts) fits = let f = fits.0 i
 
 pub behind_clear : (scope : Scope) (ss : c.Specifiers) (d : c.Declarator) → DeclaratorFits (naming_behind ss) scope d → IsClear scope (names_type ss) d
 behind_clear scope (c.specifiers words c.no_types) (c.declarator None parts) fits = tt
-behind_clear scope (c.specifiers words c.no_types) (c.declarator (Some w) parts) fits = λ e. not_true (is_type scope w) fits.0
+behind_clear scope (c.specifiers words c.no_types) (c.declarator (Some w) parts) fits = λ e. not-true (is_type scope w) fits.0
 behind_clear scope (c.specifiers words (c.a_type first rest)) d fits = tt
 
 -- and so behind the enumerators that the specifiers declare
@@ -104,6 +97,9 @@ behind_clear_after scope (c.specifiers words (c.a_type first rest)) d fits = tt
 pub behind_is_named : (ss : c.Specifiers) → takes_none (naming_behind ss) ≡ false
 behind_is_named (c.specifiers words c.no_types) = refl
 behind_is_named (c.specifiers words (c.a_type first rest)) = refl
+
+pub behind_bare : (ss : c.Specifiers) (rest : List Symbol) → Bare (naming_behind ss) rest
+behind_bare ss rest e = let f = behind_is_named ss in absurd cc
 
 -- no typedef name
 abbrev IsPlain : Scope → Option (List ℕ) → Type 0
@@ -120,7 +116,7 @@ mutual
       → IsDirect scope either ts outer w parts rest spots more → begins_specifier scope false ts ≡ false → has_pointer parts ≡ false → IsPlain scope w
   plain_direct (g.by_name a xs) n e = n
   plain_direct (g.by_nothing a b xs) n e = tt
-  plain_direct {scope} (g.nested {ts = us} a x xs) n e = plain_pointers x (or_right (sees k.CloseParen us) (begins_specifier scope false us) a) e
+  plain_direct {scope} (g.nested {ts = us} a x xs) n e = plain_pointers x (or_parts (sees k.CloseParen us) (begins_specifier scope false us) a).1 e
 
 plain_clear : (scope : Scope) (w : Option (List ℕ)) (parts : c.Parts) → (has_pointer parts ≡ false → IsPlain scope w) → IsClear scope false (c.declarator w parts)
 plain_clear scope None parts h = tt
