@@ -22,8 +22,8 @@ braces_erased i v parts is p = ap t.Braces p ∙ sym (ap (λ x. erased_initialis
 pub compound_erased : (s : Stmt) (v : Vec Item) (items : t.Items) → s ≡ variant.Compound v → items ≡ erased_items (items_in v.items) → t.Compound items ≡ erased_statement (statement_of s)
 compound_erased s v items is p = ap t.Compound p ∙ sym (ap (λ x. erased_statement (statement_of x)) is ∙ ap erased_statement (compound_is v))
 
-pub switch_erased : {E : Type 0} (s : Stmt) (e : Expr) (v : Vec SwitchCase) (list : List SwitchCase) (r : Result Stmt E) → s ≡ variant.Switch e v → list ≡ v.items →
-    IfOk r (λ all. statement_of all ≡ t.Switch (erased (expression_of e)) (erased_cases (cases_in list))) → IfOk r (λ all. statement_of all ≡ erased_statement (statement_of s))
-switch_erased s e v list r is same old =
+pub switch_erased : {E : Type 0} (s : Stmt) (e : Expr) (v : Vec SwitchCase) (list made : List SwitchCase) (r : Result Stmt E) → s ≡ variant.Switch e v → list ≡ v.items →
+    cases_in made ≡ erased_cases (cases_in list) → IfOk r (λ all. statement_of all ≡ t.Switch (erased (expression_of e)) (cases_in made)) → IfOk r (λ all. statement_of all ≡ erased_statement (statement_of s))
+switch_erased s e v list made r is same cases old =
     subst (λ x. IfOk r (λ all. statement_of all ≡ x))
-      (ap (λ xs. t.Switch (erased (expression_of e)) (erased_cases (cases_in xs))) same ∙ sym (ap (λ x. erased_statement (statement_of x)) is ∙ ap erased_statement (switch_is e v))) old
+      (ap (t.Switch (erased (expression_of e))) (cases ∙ ap (λ xs. erased_cases (cases_in xs)) same) ∙ sym (ap (λ x. erased_statement (statement_of x)) is ∙ ap erased_statement (switch_is e v))) old

@@ -76,6 +76,81 @@ fn declared_item(alloc: Global, declaration: &Declaration) -> Result<Item, Alloc
     Ok(makes::declared(plain_declaration(alloc, declaration)?))
 }
 
+fn if_alone(alloc: Global, test: &Expr, body: Box<Stmt>) -> Result<Stmt, AllocError>
+    ensures { IfOk result (λ all. statement_of all ≡ t.If (erased (expression_of test.now)) (statement_of body.value)) }
+{
+    Ok(makes::if_alone(expression(alloc, test)?, body))
+}
+
+fn if_else(
+    alloc: Global,
+    test: &Expr,
+    body: Box<Stmt>,
+    other: Box<Stmt>,
+) -> Result<Stmt, AllocError>
+    ensures { IfOk result (λ all. statement_of all ≡ t.IfElse (erased (expression_of test.now)) (statement_of body.value) (statement_of other.value)) }
+{
+    Ok(makes::if_else(expression(alloc, test)?, body, other))
+}
+
+fn while_loop(alloc: Global, test: &Expr, body: Box<Stmt>) -> Result<Stmt, AllocError>
+    ensures { IfOk result (λ all. statement_of all ≡ t.While (erased (expression_of test.now)) (statement_of body.value)) }
+{
+    Ok(makes::while_loop(expression(alloc, test)?, body))
+}
+
+fn do_loop(alloc: Global, body: Box<Stmt>, test: &Expr) -> Result<Stmt, AllocError>
+    ensures { IfOk result (λ all. statement_of all ≡ t.Do (statement_of body.value) (erased (expression_of test.now))) }
+{
+    Ok(makes::do_loop(body, expression(alloc, test)?))
+}
+
+/// A `for` of what stands in its parentheses, and its body. In parts, since each part that waits for
+/// another makes the proof longer.
+fn for_loop(
+    alloc: Global,
+    start: &ForStart,
+    test: &Option<Expr>,
+    step: &Option<Expr>,
+    body: Box<Stmt>,
+) -> Result<Stmt, AllocError>
+    ensures { IfOk result (λ all. statement_of all ≡ t.For (erased_start (start_of start.now)) (option_map erased (option_map expression_of test.now)) (option_map erased (option_map expression_of step.now)) (statement_of body.value)) }
+{
+    let test = given_expression(alloc, test)?;
+    for_step(alloc, start, step, body, test)
+}
+
+fn for_step(
+    alloc: Global,
+    start: &ForStart,
+    step: &Option<Expr>,
+    body: Box<Stmt>,
+    test: Option<Expr>,
+) -> Result<Stmt, AllocError>
+    ensures { IfOk result (λ all. statement_of all ≡ t.For (erased_start (start_of start.now)) (option_map expression_of test) (option_map erased (option_map expression_of step.now)) (statement_of body.value)) }
+{
+    let step = given_expression(alloc, step)?;
+    for_start(alloc, start, body, test, step)
+}
+
+fn for_start(
+    alloc: Global,
+    start: &ForStart,
+    body: Box<Stmt>,
+    test: Option<Expr>,
+    step: Option<Expr>,
+) -> Result<Stmt, AllocError>
+    ensures { IfOk result (λ all. statement_of all ≡ t.For (erased_start (start_of start.now)) (option_map expression_of test) (option_map expression_of step) (statement_of body.value)) }
+{
+    Ok(makes::for_loop(plain_start(alloc, start)?, test, step, body))
+}
+
+fn switch(alloc: Global, operand: &Expr, cases: Vec<SwitchCase>) -> Result<Stmt, AllocError>
+    ensures { IfOk result (λ all. statement_of all ≡ t.Switch (erased (expression_of operand.now)) (cases_in cases.items)) }
+{
+    Ok(makes::switch(expression(alloc, operand)?, cases))
+}
+
 #[cycle(statement_erasure)]
 fn plain_statement(alloc: Global, statement: &Stmt) -> Result<Stmt, AllocError>
     ensures { IfOk result (λ all. statement_of all ≡ erased_statement (statement_of statement.now)) }
@@ -84,14 +159,26 @@ fn plain_statement(alloc: Global, statement: &Stmt) -> Result<Stmt, AllocError>
         Stmt::Compound(items) => Ok(makes::compound(plain_items(alloc, items.as_slice())?)),
         Stmt::Expression(e) => Ok(makes::expression(expression(alloc, e)?)),
         Stmt::Null => Ok(makes::null()),
-        Stmt::If(test, body, other) => match other {
-            None => if_alone(alloc, test, body),
-            Some(other) => if_else(alloc, test, body, other),
-        },
-        Stmt::While(test, body) => while_loop(alloc, test, body),
-        Stmt::Do(body, test) => do_loop(alloc, body, test),
-        Stmt::For(start, test, step, body) => for_loop(alloc, start, test, step, body),
-        Stmt::Switch(operand, cases) => switch(alloc, operand, cases.as_slice()),
+        Stmt::If(test, body, other) => {
+            let body = plain_body(alloc, body)?;
+            match other {
+                None => if_alone(alloc, test, body),
+                Some(other) => {
+                    let other = plain_body(alloc, other)?;
+                    if_else(alloc, test, body, other)
+                }
+            }
+        }
+        Stmt::While(test, body) => while_loop(alloc, test, plain_body(alloc, body)?),
+        Stmt::Do(body, test) => do_loop(alloc, plain_body(alloc, body)?, test),
+        Stmt::For(start, test, step, body) => {
+            let body = plain_body(alloc, body)?;
+            for_loop(alloc, start, test, step, body)
+        }
+        Stmt::Switch(operand, cases) => {
+            let cases = plain_cases(alloc, cases.as_slice())?;
+            switch(alloc, operand, cases)
+        }
         Stmt::Break => Ok(makes::break_out()),
         Stmt::Continue => Ok(makes::continue_on()),
         Stmt::Return(value) => Ok(makes::return_from(given_expression(alloc, value)?)),
@@ -99,66 +186,10 @@ fn plain_statement(alloc: Global, statement: &Stmt) -> Result<Stmt, AllocError>
 }
 
 #[cycle(statement_erasure)]
-fn if_alone(alloc: Global, test: &Expr, body: &Stmt) -> Result<Stmt, AllocError>
-    ensures { IfOk result (λ all. statement_of all ≡ t.If (erased (expression_of test.now)) (erased_statement (statement_of body.now))) }
+fn plain_body(alloc: Global, statement: &Stmt) -> Result<Box<Stmt>, AllocError>
+    ensures { IfOk result (λ all. statement_of all.value ≡ erased_statement (statement_of statement.now)) }
 {
-    let test = expression(alloc, test)?;
-    let body = makes::boxed(alloc, plain_statement(alloc, body)?)?;
-    Ok(makes::if_alone(test, body))
-}
-
-#[cycle(statement_erasure)]
-fn if_else(alloc: Global, test: &Expr, body: &Stmt, other: &Stmt) -> Result<Stmt, AllocError>
-    ensures { IfOk result (λ all. statement_of all ≡ t.IfElse (erased (expression_of test.now)) (erased_statement (statement_of body.now)) (erased_statement (statement_of other.now))) }
-{
-    let test = expression(alloc, test)?;
-    let body = makes::boxed(alloc, plain_statement(alloc, body)?)?;
-    let other = makes::boxed(alloc, plain_statement(alloc, other)?)?;
-    Ok(makes::if_else(test, body, other))
-}
-
-#[cycle(statement_erasure)]
-fn while_loop(alloc: Global, test: &Expr, body: &Stmt) -> Result<Stmt, AllocError>
-    ensures { IfOk result (λ all. statement_of all ≡ t.While (erased (expression_of test.now)) (erased_statement (statement_of body.now))) }
-{
-    let test = expression(alloc, test)?;
-    let body = makes::boxed(alloc, plain_statement(alloc, body)?)?;
-    Ok(makes::while_loop(test, body))
-}
-
-#[cycle(statement_erasure)]
-fn do_loop(alloc: Global, body: &Stmt, test: &Expr) -> Result<Stmt, AllocError>
-    ensures { IfOk result (λ all. statement_of all ≡ t.Do (erased_statement (statement_of body.now)) (erased (expression_of test.now))) }
-{
-    let test = expression(alloc, test)?;
-    let body = makes::boxed(alloc, plain_statement(alloc, body)?)?;
-    Ok(makes::do_loop(body, test))
-}
-
-#[cycle(statement_erasure)]
-fn for_loop(
-    alloc: Global,
-    start: &ForStart,
-    test: &Option<Expr>,
-    step: &Option<Expr>,
-    body: &Stmt,
-) -> Result<Stmt, AllocError>
-    ensures { IfOk result (λ all. statement_of all ≡ t.For (erased_start (start_of start.now)) (option_map erased (option_map expression_of test.now)) (option_map erased (option_map expression_of step.now)) (erased_statement (statement_of body.now))) }
-{
-    let start = plain_start(alloc, start)?;
-    let test = given_expression(alloc, test)?;
-    let step = given_expression(alloc, step)?;
-    let body = makes::boxed(alloc, plain_statement(alloc, body)?)?;
-    Ok(makes::for_loop(start, test, step, body))
-}
-
-#[cycle(statement_erasure)]
-fn switch(alloc: Global, operand: &Expr, cases: &[SwitchCase]) -> Result<Stmt, AllocError>
-    ensures { IfOk result (λ all. statement_of all ≡ t.Switch (erased (expression_of operand.now)) (erased_cases (cases_in cases.now))) }
-{
-    let operand = expression(alloc, operand)?;
-    let cases = plain_cases(alloc, cases)?;
-    Ok(makes::switch(operand, cases))
+    makes::boxed(alloc, plain_statement(alloc, statement)?)
 }
 
 /// Items without their marks.
