@@ -24,19 +24,16 @@ use Rattle.lt_tree.proofs.Made.{both}
 use Rattle.lt_tree.proofs.Rows.{call_is, comma_is, sizeof_is, cast_is, member_out, struct_is, enum_is, listed_is, open_is}
 
 -- an answer's value, said otherwise
-becomes : {E : Type 0} (r : Result Expr E) (a b : t.Expression) → a ≡ b → IfOk r (λ all. expression_of all ≡ a) → IfOk r (λ all. expression_of all ≡ b)
-becomes r a b e p = IfOk-weaker r (λ all. expression_of all ≡ a) (λ all. expression_of all ≡ b) (λ x q. q ∙ e) p
-
 becomes_type : {E : Type 0} (r : Result TypeSpecifier E) (a b : t.TypeSpecifier) → a ≡ b → IfOk r (λ all. type_of all ≡ a) → IfOk r (λ all. type_of all ≡ b)
 becomes_type r a b e p = IfOk-weaker r (λ all. type_of all ≡ a) (λ all. type_of all ≡ b) (λ x q. q ∙ e) p
 
-pub call_erased : {E : Type 0} (r : Result Expr E) (e : Expr) (b : Box Expr) (v : Vec Expr) (callee made : Expr) (arguments : List Expr) →
-    e ≡ variant.Call b v → callee ≡ b.value → arguments ≡ v.items → expression_of made ≡ erased (expression_of callee) →
-    IfOk r (λ all. expression_of all ≡ t.Call (expression_of made) (erased_expressions (expressions_in arguments))) → IfOk r (λ all. expression_of all ≡ erased (expression_of e))
-call_erased r e b v callee made arguments is p q m =
-    becomes r _ _
-    (both t.Call _ _ _ _ (m ∙ ap (λ x. erased (expression_of x)) p) (ap (λ xs. erased_expressions (expressions_in xs)) q)
-    ∙ sym (ap (λ x. erased (expression_of x)) is ∙ ap erased (call_is b v)))
+pub call_erased : (e : Expr) (b made : Box Expr) (v list : Vec Expr) (callee : Expr) (arguments : List Expr) →
+    e ≡ variant.Call b v → callee ≡ b.value → arguments ≡ v.items → expression_of made.value ≡ erased (expression_of callee) →
+    expressions_in list.items ≡ erased_expressions (expressions_in arguments) → expression_of (variant.Call made list) ≡ erased (expression_of e)
+call_erased e b made v list callee arguments is p q m n =
+    call_is made list
+    ∙ both t.Call _ _ _ _ (m ∙ ap (λ x. erased (expression_of x)) p) (n ∙ ap (λ xs. erased_expressions (expressions_in xs)) q)
+    ∙ sym (ap (λ x. erased (expression_of x)) is ∙ ap erased (call_is b v))
 
 pub comma_erased : {E : Type 0} (r : Result Expr E) (e : Expr) (v : Vec Expr) (made : List Expr) (parts : List Expr) →
     e ≡ variant.Comma v → parts ≡ v.items → expressions_in made ≡ erased_expressions (expressions_in parts) →
@@ -45,23 +42,23 @@ comma_erased r e v made parts is q m p =
     IfOk-weaker r (λ all. (list : t.Expressions) → expressions_in made ≡ erased_expressions list → expression_of all ≡ erased_comma list) (λ all. expression_of all ≡ erased (expression_of e))
     (λ x f. f (expressions_in parts) m ∙ ap (λ xs. erased_comma (expressions_in xs)) q ∙ sym (ap (λ x. erased (expression_of x)) is ∙ ap erased (comma_is v))) p
 
-pub sizeof_erased : {E : Type 0} (r : Result Expr E) (e : Expr) (b : Box TypeName) (name made : TypeName) →
-    e ≡ variant.SizeofType b → name ≡ b.value →
-    specifiers_of made.specifiers ≡ erased_specifiers (specifiers_of name.specifiers) → declarator_of made.declarator ≡ erased_declarator (declarator_of name.declarator) →
-    IfOk r (λ all. expression_of all ≡ t.SizeofType (specifiers_of made.specifiers) (declarator_of made.declarator)) → IfOk r (λ all. expression_of all ≡ erased (expression_of e))
-sizeof_erased r e b name made is p s d =
-    becomes r _ _
-    (both t.SizeofType _ _ _ _ s d ∙ ap (λ n. t.SizeofType (erased_specifiers (specifiers_of n.specifiers)) (erased_declarator (declarator_of n.declarator))) p
-    ∙ sym (ap (λ x. erased (expression_of x)) is ∙ ap erased (sizeof_is b b.value refl)))
+pub sizeof_erased : (e : Expr) (b made : Box TypeName) (name : TypeName) → e ≡ variant.SizeofType b → name ≡ b.value →
+    specifiers_of made.value.specifiers ≡ erased_specifiers (specifiers_of name.specifiers) → declarator_of made.value.declarator ≡ erased_declarator (declarator_of name.declarator) →
+    expression_of (variant.SizeofType made) ≡ erased (expression_of e)
+sizeof_erased e b made name is p s d =
+    sizeof_is made made.value refl ∙ both t.SizeofType _ _ _ _ s d
+    ∙ ap (λ n. t.SizeofType (erased_specifiers (specifiers_of n.specifiers)) (erased_declarator (declarator_of n.declarator))) p
+    ∙ sym (ap (λ x. erased (expression_of x)) is ∙ ap erased (sizeof_is b b.value refl))
 
-pub cast_erased : {E : Type 0} (r : Result Expr E) (e : Expr) (b : Box TypeName) (o : Box Expr) (name : TypeName) (operand made : Expr) →
-    e ≡ variant.Cast b o → name ≡ b.value → operand ≡ o.value → expression_of made ≡ erased (expression_of operand) →
-    IfOk r (λ all. expression_of all ≡ t.Cast (erased_specifiers (specifiers_of name.specifiers)) (erased_declarator (declarator_of name.declarator)) (expression_of made)) →
-    IfOk r (λ all. expression_of all ≡ erased (expression_of e))
-cast_erased r e b o name operand made is p q m =
-    becomes r _ _
-    (both (λ n x. t.Cast (erased_specifiers (specifiers_of n.specifiers)) (erased_declarator (declarator_of n.declarator)) x) _ _ _ _ p (m ∙ ap (λ x. erased (expression_of x)) q)
-    ∙ sym (ap (λ x. erased (expression_of x)) is ∙ ap erased (cast_is b b.value o o.value refl refl)))
+pub cast_erased : (e : Expr) (b made : Box TypeName) (o held : Box Expr) (name : TypeName) (operand : Expr) →
+    e ≡ variant.Cast b o → name ≡ b.value → operand ≡ o.value →
+    specifiers_of made.value.specifiers ≡ erased_specifiers (specifiers_of name.specifiers) → declarator_of made.value.declarator ≡ erased_declarator (declarator_of name.declarator) →
+    expression_of held.value ≡ erased (expression_of operand) → expression_of (variant.Cast made held) ≡ erased (expression_of e)
+cast_erased e b made o held name operand is p q s d m =
+    cast_is made made.value held held.value refl refl
+    ∙ both (λ x y. t.Cast x y (expression_of held.value)) _ _ _ _ s d
+    ∙ both (λ n x. t.Cast (erased_specifiers (specifiers_of n.specifiers)) (erased_declarator (declarator_of n.declarator)) x) _ _ _ _ p (m ∙ ap (λ x. erased (expression_of x)) q)
+    ∙ sym (ap (λ x. erased (expression_of x)) is ∙ ap erased (cast_is b b.value o o.value refl refl))
 
 pub struct_erased : {E : Type 0} (r : Result TypeSpecifier E) (s : TypeSpecifier) (tag : Option (List ℕ)) (v : Vec Member) (list : List Member) →
     s ≡ kind.Struct tag v → list ≡ v.items →

@@ -65,9 +65,8 @@ pub fn specifiers(alloc: Global, specifiers: &Specifiers) -> Result<Specifiers, 
     })
 }
 
-/// The name of a type without marks.
 #[cycle(erasure)]
-pub fn type_name(alloc: Global, name: &TypeName) -> Result<TypeName, AllocError>
+fn type_name(alloc: Global, name: &TypeName) -> Result<TypeName, AllocError>
     ensures specifiers { IfOk result (λ all. specifiers_of all.specifiers ≡ erased_specifiers (specifiers_of name.now.specifiers)) }
     ensures declarator { IfOk result (λ all. declarator_of all.declarator ≡ erased_declarator (declarator_of name.now.declarator)) }
 {
@@ -76,6 +75,15 @@ pub fn type_name(alloc: Global, name: &TypeName) -> Result<TypeName, AllocError>
         specifiers,
         declarator: declarator(alloc, &name.declarator)?,
     })
+}
+
+/// The name of a type without marks, in a box.
+#[cycle(erasure)]
+pub fn boxed_type_name(alloc: Global, name: &TypeName) -> Result<Box<TypeName>, AllocError>
+    ensures specifiers { IfOk result (λ all. specifiers_of all.value.specifiers ≡ erased_specifiers (specifiers_of name.now.specifiers)) }
+    ensures declarator { IfOk result (λ all. declarator_of all.value.declarator ≡ erased_declarator (declarator_of name.now.declarator)) }
+{
+    Ok(Box::new(alloc, type_name(alloc, name)?)?)
 }
 
 #[cycle(erasure)]

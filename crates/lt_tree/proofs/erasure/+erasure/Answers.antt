@@ -88,18 +88,6 @@ declarator::parameter_list-returns t' c =
     sym (before_end (λ (e : Parameter). t.a_parameter (specifiers_of e.specifiers) (declarator_of e.declarator)) parameter_list_in (λ x xs. refl) c.list.all.items)
     ∙ sym (ap (λ xs. before (λ (e : Parameter). t.a_parameter (specifiers_of e.specifiers) (declarator_of e.declarator)) c.list.all.items (erased_parameter_list (parameter_list_in xs))) none) ∙ c.list.invariant
 
-pub expression::expression-returns-in_ok-callee-in-Call : goal.expression::expression-returns-in_ok-callee-in-Call
-expression::expression-returns-in_ok-callee-in-Call t' c = call_erased _ _ _ _ _ _ _ c.in-Call.is c.deref-in-Call.ensures c.as_slice.ensures.value c.in_ok-callee-in-Call.ensures c.call.ensures
-
-pub expression::expression-returns-in_ok-expressions-in-Comma : goal.expression::expression-returns-in_ok-expressions-in-Comma
-expression::expression-returns-in_ok-expressions-in-Comma t' c = comma_erased _ _ _ _ _ c.in-Comma.is c.as_slice-in-Comma.ensures.value c.in_ok-expressions-in-Comma.ensures c.comma.ensures
-
-pub expression::expression-returns-in_ok-type_name-in-SizeofType : goal.expression::expression-returns-in_ok-type_name-in-SizeofType
-expression::expression-returns-in_ok-type_name-in-SizeofType t' c = sizeof_erased _ _ _ _ c.in_ok-type_name-in-SizeofType.field-0 c.in-SizeofType.is c.deref-in-SizeofType.ensures c.in_ok-type_name-in-SizeofType.ensures.specifiers c.in_ok-type_name-in-SizeofType.ensures.declarator c.sizeof_type.ensures
-
-pub expression::expression-returns-in_ok-operand-in-Cast : goal.expression::expression-returns-in_ok-operand-in-Cast
-expression::expression-returns-in_ok-operand-in-Cast t' c = cast_erased _ _ _ _ _ _ _ c.in-Cast.is c.deref-in-Cast-2.ensures c.deref-in-Cast.ensures c.in_ok-operand-in-Cast.ensures c.cast.ensures
-
 pub specifier::type_specifier-returns-in-Struct : goal.specifier::type_specifier-returns-in-Struct
 specifier::type_specifier-returns-in-Struct t' c = struct_erased _ _ _ _ _ c.in-Struct.is c.as_slice.ensures.value c.struct_with.ensures
 
@@ -114,3 +102,21 @@ declarator::parameters-returns-in_ok-parameter_list-in-Listed t' c = c.listed.en
 
 pub declarator::parameters-returns-in_ok-parameter_list-in-Open : goal.declarator::parameters-returns-in_ok-parameter_list-in-Open
 declarator::parameters-returns-in_ok-parameter_list-in-Open t' c = c.open.ensures ∙ open_erased _ _ _ _ c.in-Open.is c.as_slice-in-Open.ensures.value c.in_ok-parameter_list-in-Open.ensures
+
+pub expression::expression-returns-in_ok-expressions-in-Call : goal.expression::expression-returns-in_ok-expressions-in-Call
+expression::expression-returns-in_ok-expressions-in-Call t' c =
+    call_erased c.args.e.now c.in-Call.callee c.in_ok-callee-in-Call.callee c.in-Call.arguments c.in_ok-expressions-in-Call.field-0 _ _ c.in-Call.is c.deref-in-Call.ensures c.as_slice.ensures.value
+    c.in_ok-callee-in-Call.ensures c.in_ok-expressions-in-Call.ensures
+
+pub expression::expression-returns-in_ok-expressions-in-Comma : goal.expression::expression-returns-in_ok-expressions-in-Comma
+expression::expression-returns-in_ok-expressions-in-Comma t' c = comma_erased _ _ _ _ _ c.in-Comma.is c.as_slice-in-Comma.ensures.value c.in_ok-expressions-in-Comma.ensures c.comma.ensures
+
+pub expression::expression-returns-in_ok-boxed_type_name-in-SizeofType : goal.expression::expression-returns-in_ok-boxed_type_name-in-SizeofType
+expression::expression-returns-in_ok-boxed_type_name-in-SizeofType t' c =
+    sizeof_erased c.args.e.now c.in-SizeofType.name c.in_ok-boxed_type_name-in-SizeofType.field-0 _ c.in-SizeofType.is c.deref-in-SizeofType.ensures
+    c.in_ok-boxed_type_name-in-SizeofType.ensures.specifiers c.in_ok-boxed_type_name-in-SizeofType.ensures.declarator
+
+pub expression::expression-returns-in_ok-boxed-in-Cast : goal.expression::expression-returns-in_ok-boxed-in-Cast
+expression::expression-returns-in_ok-boxed-in-Cast t' c =
+    cast_erased c.args.e.now c.in-Cast.name c.in_ok-name-in-Cast.name c.in-Cast.operand c.in_ok-boxed-in-Cast.field-0 _ _ c.in-Cast.is c.deref-in-Cast.ensures c.deref-in-Cast-2.ensures
+    c.in_ok-name-in-Cast.ensures.specifiers c.in_ok-name-in-Cast.ensures.declarator c.in_ok-boxed-in-Cast.ensures
