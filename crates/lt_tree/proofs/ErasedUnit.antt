@@ -26,4 +26,4 @@ pub switch_erased : {E : Type 0} (s : Stmt) (e : Expr) (v : Vec SwitchCase) (lis
     cases_in made ≡ erased_cases (cases_in list) → IfOk r (λ all. statement_of all ≡ t.Switch (erased (expression_of e)) (cases_in made)) → IfOk r (λ all. statement_of all ≡ erased_statement (statement_of s))
 switch_erased s e v list made r is same cases old =
     subst (λ x. IfOk r (λ all. statement_of all ≡ x))
-      (ap (t.Switch (erased (expression_of e))) (cases ∙ ap (λ xs. erased_cases (cases_in xs)) same) ∙ sym (ap (λ x. erased_statement (statement_of x)) is ∙ ap erased_statement (switch_is e v))) old
+    (ap (t.Switch (erased (expression_of e))) (cases ∙ ap (λ xs. erased_cases (cases_in xs)) same) ∙ sym (ap (λ x. erased_statement (statement_of x)) is ∙ ap erased_statement (switch_is e v))) old

@@ -35,3 +35,6 @@ pub use statement::{ForStart, Item, Label, Stmt, SwitchCase};
 pub use stop::Stop;
 pub use terminal::Terminal;
 pub use unit::{External, FunctionDefinition, Unit};
+
+#[cfg(test)]
+mod tests;

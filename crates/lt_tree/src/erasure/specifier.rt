@@ -27,9 +27,7 @@ ghost use Rattle.lt_tree.specs.Erasure.{
 use crate::erasure::declarator::declarator;
 use crate::erasure::expression::maybe;
 use crate::makes::specifier as makes;
-use crate::specifier::{
-    Enumerator, Member, MemberDeclarator, Specifiers, TypeName, TypeSpecifier,
-};
+use crate::specifier::{Enumerator, Member, MemberDeclarator, Specifiers, TypeName, TypeSpecifier};
 use lt_model::Name;
 use std::alloc::{AllocError, Global};
 
@@ -171,7 +169,10 @@ fn member_declarators(
 }
 
 #[cycle(erasure)]
-fn member_declarator(alloc: Global, member: &MemberDeclarator) -> Result<MemberDeclarator, AllocError>
+fn member_declarator(
+    alloc: Global,
+    member: &MemberDeclarator,
+) -> Result<MemberDeclarator, AllocError>
     ensures declarator { IfOk result (λ all. declarator_of all.declarator ≡ erased_declarator (declarator_of member.now.declarator)) }
     ensures width { IfOk result (λ all. maybe_in all.width ≡ erased_maybe (maybe_in member.now.width)) }
 {

@@ -19,10 +19,7 @@ use crate::erasure::statement::plain_items;
 use crate::unit::{External, FunctionDefinition, Unit};
 use std::alloc::{AllocError, Global};
 
-fn plain_function(
-    alloc: Global,
-    f: &FunctionDefinition,
-) -> Result<FunctionDefinition, AllocError>
+fn plain_function(alloc: Global, f: &FunctionDefinition) -> Result<FunctionDefinition, AllocError>
     ensures specifiers { IfOk result (λ all. specifiers_of all.specifiers ≡ erased_specifiers (specifiers_of f.now.specifiers)) }
     ensures declarator { IfOk result (λ all. declarator_of all.declarator ≡ erased_declarator (declarator_of f.now.declarator)) }
     ensures body { IfOk result (λ all. items_in all.body.items ≡ erased_items (items_in f.now.body.items)) }

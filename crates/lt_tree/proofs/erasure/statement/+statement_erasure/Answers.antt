@@ -33,16 +33,16 @@ plain_statement-returns-in_ok-cases-in-Switch t c =
 pub plain_items-list-preserved : goal.plain_items-list-preserved
 plain_items-list-preserved t c =
     elim c.match-item.branch [
-      plain_items-in-Declaration+in_ok-declared_item-in-Declaration+in_ok-push-in-Declaration w ↦
-        made item_before (λ xs. erased_items (items_in xs)) c.args.list.now c.list.item-index c.item-item.result c.list.all.items _ w.in_ok-declared_item-in-Declaration.field-0 _
-        c.list-test.true c.item-item.is (ap (λ v. v.items) w.all-is ∙ w.in_ok-push-in-Declaration.ensures.items)
-        (λ rest. ap (λ item. erased_items (item_before item (items_in rest))) w.in-Declaration.is ∙ sym (w.in_ok-declared_item-in-Declaration.ensures (erased_items (items_in rest)))) c.list.invariant
-    | plain_items-in-Statement+in_ok-performed_item-in-Statement+in_ok-push-in-Statement w ↦
-        made item_before (λ xs. erased_items (items_in xs)) c.args.list.now c.list.item-index c.item-item.result c.list.all.items _ w.in_ok-performed_item-in-Statement.field-0 _
-        c.list-test.true c.item-item.is (ap (λ v. v.items) w.all-is ∙ w.in_ok-push-in-Statement.ensures.items)
-        (λ rest. ap (λ item. erased_items (item_before item (items_in rest))) w.in-Statement.is ∙ sym (w.in_ok-performed_item-in-Statement.ensures (erased_items (items_in rest)))) c.list.invariant
-    | plain_items-in-Mark w ↦
-        ap (λ v. before item_before v.items (erased_items (items_in (drop (c.list.item-index + 1) c.args.list.now)))) w.all-is
-        ∙ passed item_before (λ xs. erased_items (items_in xs)) c.args.list.now c.list.item-index c.item-item.result c.list.all.items _ c.list-test.true c.item-item.is
+      | plain_items-in-Declaration+in_ok-declared_item-in-Declaration+in_ok-push-in-Declaration w ↦
+          made item_before (λ xs. erased_items (items_in xs)) c.args.list.now c.list.item-index c.item-item.result c.list.all.items _ w.in_ok-declared_item-in-Declaration.field-0 _
+          c.list-test.true c.item-item.is (ap (λ v. v.items) w.all-is ∙ w.in_ok-push-in-Declaration.ensures.items)
+          (λ rest. ap (λ item. erased_items (item_before item (items_in rest))) w.in-Declaration.is ∙ sym (w.in_ok-declared_item-in-Declaration.ensures (erased_items (items_in rest)))) c.list.invariant
+      | plain_items-in-Statement+in_ok-performed_item-in-Statement+in_ok-push-in-Statement w ↦
+          made item_before (λ xs. erased_items (items_in xs)) c.args.list.now c.list.item-index c.item-item.result c.list.all.items _ w.in_ok-performed_item-in-Statement.field-0 _
+          c.list-test.true c.item-item.is (ap (λ v. v.items) w.all-is ∙ w.in_ok-push-in-Statement.ensures.items)
+          (λ rest. ap (λ item. erased_items (item_before item (items_in rest))) w.in-Statement.is ∙ sym (w.in_ok-performed_item-in-Statement.ensures (erased_items (items_in rest)))) c.list.invariant
+      | plain_items-in-Mark w ↦
+          ap (λ v. before item_before v.items (erased_items (items_in (drop (c.list.item-index + 1) c.args.list.now)))) w.all-is
+          ∙ passed item_before (λ xs. erased_items (items_in xs)) c.args.list.now c.list.item-index c.item-item.result c.list.all.items _ c.list-test.true c.item-item.is
           (λ rest. ap (λ item. erased_items (item_before item (items_in rest))) w.in-Mark.is) c.list.invariant
     ]
