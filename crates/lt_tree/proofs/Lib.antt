@@ -1,6 +1,10 @@
+mod CommaParts
+mod ErasedRows
+mod ErasedUnit
 mod Greatest
 mod GreatestRows
 mod GreatestUnit
+mod Made
 mod Numbers
 mod Pure
 pub mod Rows

@@ -4,6 +4,7 @@
 mod constants;
 mod declaration;
 mod declarator;
+mod erasure;
 mod escapes;
 mod expression;
 mod ids;
@@ -20,6 +21,7 @@ mod unit;
 
 pub use declaration::{Declaration, InitDeclarator, Initialiser};
 pub use declarator::{Declarator, DeclaratorPart, Parameter, Parameters};
+pub use erasure::erase;
 pub use escapes::{escape, hex_value};
 pub use expression::{Expr, LogicalOp, UnaryOp};
 pub use ids::max_id;
@@ -33,3 +35,6 @@ pub use statement::{ForStart, Item, Label, Stmt, SwitchCase};
 pub use stop::Stop;
 pub use terminal::Terminal;
 pub use unit::{External, FunctionDefinition, Unit};
+
+#[cfg(test)]
+mod tests;

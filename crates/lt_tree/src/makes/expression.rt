@@ -11,6 +11,15 @@ use crate::specifier::TypeName;
 use lt_model::{Name, Op};
 use std::alloc::{AllocError, Global};
 
+/// Two expressions, each in a box.
+fn boxed(alloc: Global, first: Expr, second: Expr) -> Result<(Box<Expr>, Box<Expr>), AllocError>
+    ensures first { IfOk result (λ all. all.0.value ≡ first) }
+    ensures second { IfOk result (λ all. all.1.value ≡ second) }
+{
+    let first = Box::new(alloc, first)?;
+    Ok((first, Box::new(alloc, second)?))
+}
+
 /// The name of an object, a function or an enumerator.
 pub fn name(word: Name) -> Expr
     ensures { expression_of result ≡ t.Name word }
@@ -36,8 +45,8 @@ pub fn text(bytes: Name) -> Expr
 pub fn index(alloc: Global, whole: Expr, place: Expr) -> Result<Expr, AllocError>
     ensures { IfOk result (λ all. expression_of all ≡ t.Index (expression_of whole) (expression_of place)) }
 {
-    let whole = Box::new(alloc, whole)?;
-    Ok(Expr::Index(whole, Box::new(alloc, place)?))
+    let (whole, place) = boxed(alloc, whole, place)?;
+    Ok(Expr::Index(whole, place))
 }
 
 /// A call.
@@ -122,24 +131,23 @@ pub fn cast(alloc: Global, name: TypeName, operand: Expr) -> Result<Expr, AllocE
 pub fn binary(alloc: Global, op: Op, left: Expr, right: Expr) -> Result<Expr, AllocError>
     ensures { IfOk result (λ all. expression_of all ≡ t.Binary op (expression_of left) (expression_of right)) }
 {
-    let left = Box::new(alloc, left)?;
-    Ok(Expr::Binary(op, left, Box::new(alloc, right)?))
+    let (left, right) = boxed(alloc, left, right)?;
+    Ok(Expr::Binary(op, left, right))
 }
 
 /// `left && right` or `left || right`.
 pub fn logical(alloc: Global, op: LogicalOp, left: Expr, right: Expr) -> Result<Expr, AllocError>
     ensures { IfOk result (λ all. expression_of all ≡ t.Logical op (expression_of left) (expression_of right)) }
 {
-    let left = Box::new(alloc, left)?;
-    Ok(Expr::Logical(op, left, Box::new(alloc, right)?))
+    let (left, right) = boxed(alloc, left, right)?;
+    Ok(Expr::Logical(op, left, right))
 }
 
 /// `test ? left : right`.
 pub fn conditional(alloc: Global, test: Expr, left: Expr, right: Expr) -> Result<Expr, AllocError>
     ensures { IfOk result (λ all. expression_of all ≡ t.Conditional (expression_of test) (expression_of left) (expression_of right)) }
 {
-    let test = Box::new(alloc, test)?;
-    let left = Box::new(alloc, left)?;
+    let (test, left) = boxed(alloc, test, left)?;
     Ok(Expr::Conditional(test, left, Box::new(alloc, right)?))
 }
 
@@ -147,8 +155,8 @@ pub fn conditional(alloc: Global, test: Expr, left: Expr, right: Expr) -> Result
 pub fn assign(alloc: Global, op: Option<Op>, target: Expr, value: Expr) -> Result<Expr, AllocError>
     ensures { IfOk result (λ all. expression_of all ≡ t.Assign op (expression_of target) (expression_of value)) }
 {
-    let target = Box::new(alloc, target)?;
-    Ok(Expr::Assign(op, target, Box::new(alloc, value)?))
+    let (target, value) = boxed(alloc, target, value)?;
+    Ok(Expr::Assign(op, target, value))
 }
 
 /// A comma expression of these parts, as they stand.
