@@ -1,6 +1,5 @@
 -- What is shown of each tree that symbols derive: wherever the words of its canonical text stand, they derive it, at whatever places.
-use Rattle.std.specs.Prelude.{◌≡◌, ℕ, suc, Bool, true, false, List, [], ◌∷◌, ◌++◌, Option, Some, None}
-use Rattle.lt_tree.specs.declared.terminal.Terminal.{Terminal}
+use Rattle.std.specs.Prelude.{◌≡◌, ℕ, Bool, true, false, List, ◌∷◌, Option, Some, None}
 use Rattle.lt_tree.specs.declared.terminal.Terminal.TheVariants as k
 use Rattle.lt_tree.specs.Tree as c
 use Rattle.lt_tree.specs.Comma.{is_comma}
@@ -9,7 +8,7 @@ use Rattle.lt_tree.specs.Symbols.{Symbol}
 use Rattle.lt_tree.specs.Scope.{Scope, is_type, after_specifiers, after_parameter}
 use Rattle.lt_tree.specs.Ahead.{Naming, either, naming_behind, sees, begins_specifier, takes_name, takes_none}
 use Rattle.lt_tree.specs.Grammar.{Level, IsMark, AreMarks, IsTypeName, AreSpecifiers, IsTagged, IsDeclarator, AreParameters}
-use Rattle.lt_tree.specs.Canon.{Pieces, apart, operand, mark, marks_pieces, specifiers, type_specifier, declarator, parameters}
+use Rattle.lt_tree.specs.Canon.{apart, operand, mark, marks_pieces, specifiers, type_specifier, declarator, parameters}
 use Rattle.lt_print.proofs.ReadPieces.{Reads, Ends}
 use Rattle.lt_print.proofs.LooserLevels.{DerivesAt}
 

@@ -1,27 +1,22 @@
 -- Pieces made of clean pieces are clean.
-use Rattle.std.proofs.Common.{◌≡◌, ℕ, suc, ◌+◌, ◌<◌, ◌≤◌, Bool, true, false, cond, eqb, ltb, List, [], ◌∷◌, ◌++◌, Option, Some, None, refl, sym, ap, subst, ◌∙◌, inl, inr, arith, append_assoc}
-use Rattle.std.specs.Prelude.{◌&&◌, ◌||◌, not, if◌then◌else◌}
-use Rattle.std.specs.List.{All}
-use Rattle.std.proofs.lemmas.Bool.{and_parts, eqb-true, ltb-false, not-true}
+use Rattle.std.proofs.Common.{◌≡◌, ℕ, ◌<◌, Bool, true, false, eqb, ltb, List, [], ◌∷◌, ◌++◌, refl, sym, ap, subst, ◌∙◌, arith, append_assoc}
+use Rattle.std.specs.Prelude.{◌&&◌, not, if◌then◌else◌}
+use Rattle.std.proofs.lemmas.Bool.{and_parts, ltb-false, not-true}
 use Rattle.lt_token.specs.Bytes.{class_of}
 use Rattle.lt_token.specs.declared.piece.Class.{Class}
 use Rattle.lt_token.specs.declared.piece.Class.TheVariants as class
-use Rattle.lt_tree.specs.declared.expression.UnaryOp.{UnaryOp}
 use Rattle.lt_tree.specs.declared.terminal.Terminal.{Terminal}
 use Rattle.lt_tree.specs.declared.terminal.Terminal.TheVariants as k
-use Rattle.lt_tree.specs.Tree as c
 use Rattle.lt_tree.specs.Symbols.{spelling}
-use Rattle.lt_tree.specs.Pieces as p
-use Rattle.lt_tree.specs.Pieces.{Piece, word, gap, indent, line_end, bytes_of, text_of}
+use Rattle.lt_tree.specs.Pieces.{word, gap, indent, line_end, text_of}
 use Rattle.lt_tree.specs.Grammar.{Level}
-use Rattle.lt_tree.specs.Canon.{Pieces, sign, name, constant, literal, spaced, comma_gap, gap_if, apart, in_parentheses, placed, prefixed, starts_signed, sign_of_unary, rank}
+use Rattle.lt_tree.specs.Canon.{Pieces, sign, name, spaced, comma_gap, apart, in_parentheses, placed, rank}
 use Rattle.lt_print.proofs.Texts.{text_append}
-use Rattle.lt_print.proofs.Cutting.{EndsWord, ends_word, clash}
+use Rattle.lt_print.proofs.Cutting.{EndsWord, ends_word}
 use Rattle.lt_print.proofs.CuttingConstants.{EndsConstant, ends_constant}
-use Rattle.lt_print.proofs.CuttingQuotes.{IsByte}
 use Rattle.lt_print.proofs.Written.{is_other}
-use Rattle.lt_print.proofs.Clean.{IsIdentifier, IsConstant, IfDigit, Ends, EndsSign, Clean}
-use Rattle.lt_print.proofs.SignsClean.{is_closed, closed_ends, space_ends, dot_ends, NoEqual, star_ends, Unsigned, prefix_ends, no_other_unary}
+use Rattle.lt_print.proofs.Clean.{IsIdentifier, IfDigit, Ends, Clean}
+use Rattle.lt_print.proofs.SignsClean.{is_closed, closed_ends, space_ends, NoEqual}
 
 -- ---- the text behind
 

@@ -1,6 +1,6 @@
 -- Words of specifiers, what stands inside declarators, and lists are clean.
-use Rattle.std.proofs.Common.{◌≡◌, ℕ, suc, ◌+◌, ◌<◌, ◌≤◌, Bool, true, false, List, [], ◌∷◌, ◌++◌, Option, Some, None, refl, sym, ap, subst, ◌∙◌, arith, append_assoc}
-use Rattle.std.specs.Prelude.{map, nat_le, ◌&&◌, if◌then◌else◌}
+use Rattle.std.proofs.Common.{◌≡◌, ℕ, Bool, true, false, List, [], ◌∷◌, ◌++◌, Option, Some, None, refl, sym, ap, subst, ◌∙◌, append_assoc}
+use Rattle.std.specs.Prelude.{map, if◌then◌else◌}
 use Rattle.lt_model.specs.declared.operator.Op.{Op}
 use Rattle.lt_model.specs.declared.operator.Op.TheVariants as op
 use Rattle.lt_tree.specs.declared.expression.LogicalOp.{LogicalOp}
@@ -14,20 +14,16 @@ use Rattle.lt_tree.specs.declared.terminal.Terminal.{Terminal}
 use Rattle.lt_tree.specs.declared.terminal.Terminal.TheVariants as k
 use Rattle.lt_tree.specs.Tree as c
 use Rattle.lt_tree.specs.Symbols.{spelling}
-use Rattle.lt_tree.specs.Grammar as g
-use Rattle.lt_tree.specs.Grammar.{Level}
 use Rattle.lt_tree.specs.Pieces.{gap, indent, line_end, text_of}
-use Rattle.lt_tree.specs.Canon.{Pieces, sign, name, constant, literal, spaced, comma_gap, gap_if, apart, word_if, signs_apart, qualifiers_pieces, words_pieces, name_if, name_behind, pointing, grouped, in_parentheses, operand, list, marks_pieces, mark, bindings, specifiers, type_specifiers, type_specifier, member_lines, member_declarators, enumerator_lines, after_sign, declarator, around, maybe, parameters, parameter_list, is_integer, tightness, tightness_of_logical, sign_of_binary, sign_of_logical, sign_of_assignment, sign_of_storage, sign_of_word, words_of}
-use Rattle.lt_print.proofs.SignsAgain.{tight, tight_logical}
-use Rattle.lt_print.proofs.Cutting.{EndsWord, ends_word}
+use Rattle.lt_tree.specs.Canon.{Pieces, sign, name, comma_gap, apart, word_if, signs_apart, qualifiers_pieces, words_pieces, name_if, name_behind, pointing, grouped, in_parentheses, sign_of_binary, sign_of_logical, sign_of_storage, sign_of_word}
+use Rattle.lt_print.proofs.Cutting.{ends_word}
 use Rattle.lt_print.proofs.CuttingMarks.{is_clear}
-use Rattle.lt_print.proofs.CuttingConstants.{begins_digit}
 use Rattle.lt_print.proofs.Written.{is_other, begins_word}
-use Rattle.lt_print.proofs.Clean.{IsIdentifier, IfDigit, EndsSign, Clean}
+use Rattle.lt_print.proofs.Clean.{IsIdentifier, EndsSign, Clean}
 use Rattle.lt_print.proofs.SignsClean.{space_ends, NoEqual, star_ends}
-use Rattle.lt_print.proofs.Spelt.{NameIf, Spelt, SpeltAll, SpeltMaybe, SpeltMarks, SpeltMark, SpeltBindings, SpeltSpecifiers, SpeltTypes, SpeltType, SpeltMembers, SpeltMemberDeclarators, SpeltEnumerators, SpeltDeclarator, SpeltParts, SpeltParameters, SpeltList}
+use Rattle.lt_print.proofs.Spelt.{NameIf}
 use Rattle.lt_print.proofs.Texts.{text_append}
-use Rattle.lt_print.proofs.CleanForms.{Soft, Runs, soft_word, soft_digit, soft_equal, clean_append, closed_cons, before_closed, spaced_alone, before_comma, name_clean, parentheses_clean, in_parentheses_clean, placed_clean, apart_clean}
+use Rattle.lt_print.proofs.CleanForms.{Soft, Runs, soft_word, soft_equal, clean_append, closed_cons, before_comma, name_clean, in_parentheses_clean, apart_clean}
 use Rattle.lt_print.proofs.CleanOperands as f
 use Rattle.lt_print.proofs.CleanOperands.{Starts}
 use Rattle.lt_print.proofs.CleanStarts.{append_starts, name_starts as name_begins}
@@ -155,9 +151,10 @@ pointing_inner q a h t soft =
 
 pub indexed_inner : (a b : Pieces) → Inner a → Runs b → Inner (a ++ sign k.OpenIndex ∷ b ++ sign k.CloseIndex ∷ [])
 unfolding text_of
-indexed_inner a b h rb t soft =
-    (f.index_clean a b t (λ u s. (h u s).0) rb,
-    no_equal_append (a ++ sign k.OpenIndex ∷ b) (sign k.CloseIndex ∷ []) t (no_equal_append a (sign k.OpenIndex ∷ b) (93 ∷ t) (h (91 ∷ (text_of b ++ 93 ∷ t)) refl).1))
+indexed_inner a b h rb t soft = (
+  f.index_clean a b t (λ u s. (h u s).0) rb,
+  no_equal_append (a ++ sign k.OpenIndex ∷ b) (sign k.CloseIndex ∷ []) t (no_equal_append a (sign k.OpenIndex ∷ b) (93 ∷ t) (h (91 ∷ (text_of b ++ 93 ∷ t)) refl).1),
+)
 
 pub applied_inner : (a b : Pieces) → Inner a → Runs b → Inner (a ++ in_parentheses b)
 unfolding text_of
@@ -180,4 +177,3 @@ behind_name (Some w) good x other e t soft = (other, space_ends x ((w ++ []) ++ 
 -- lines in braces
 pub braced_clean : (n : ℕ) (a : Pieces) (t : List ℕ) → ((u : List ℕ) → Clean a u) → Clean (sign k.OpenBrace ∷ line_end ∷ a ++ indent n ∷ sign k.CloseBrace ∷ []) t
 braced_clean n a t h = closed_cons k.OpenBrace (line_end ∷ a ++ indent n ∷ sign k.CloseBrace ∷ []) t refl (clean_append a (indent n ∷ sign k.CloseBrace ∷ []) t (h _) (closed_cons k.CloseBrace [] t refl tt))
-

@@ -1,23 +1,20 @@
 -- The canonical pieces of each tree of the knot are clean, where its names, constants and strings are read as what they stand for.
-use Rattle.std.proofs.Common.{◌≡◌, ℕ, suc, ◌+◌, ◌<◌, ◌≤◌, Bool, true, false, List, [], ◌∷◌, ◌++◌, Option, Some, None, refl, sym, ap, subst, ◌∙◌, arith}
-use Rattle.std.specs.Prelude.{map, nat_le, ◌&&◌}
+use Rattle.std.proofs.Common.{◌≡◌, ℕ, suc, Bool, true, false, List, [], ◌∷◌, ◌++◌, Some, refl, sym, subst, arith}
 use Rattle.lt_tree.specs.declared.specifier.TypeWord.TheVariants as type_word
 use Rattle.lt_tree.specs.declared.terminal.Terminal.{Terminal}
 use Rattle.lt_tree.specs.declared.terminal.Terminal.TheVariants as k
 use Rattle.lt_tree.specs.Tree as c
-use Rattle.lt_tree.specs.Symbols.{spelling}
 use Rattle.lt_tree.specs.Grammar as g
 use Rattle.lt_tree.specs.Grammar.{Level}
 use Rattle.lt_tree.specs.Pieces.{gap, indent, line_end, text_of}
-use Rattle.lt_tree.specs.Canon.{Pieces, sign, name, spaced, comma_gap, apart, signs_apart, words_pieces, name_if, name_behind, pointing, grouped, gap_if, in_parentheses, prefixed, operand, list, marks_pieces, mark, bindings, specifiers, type_specifiers, type_specifier, member_lines, member_declarators, enumerator_lines, after_sign, declarator, around, maybe, parameters, parameter_list, is_integer, tightness, tightness_of_logical, sign_of_unary, sign_of_binary, sign_of_logical, sign_of_assignment, sign_of_word, words_of}
+use Rattle.lt_tree.specs.Canon.{Pieces, sign, name, spaced, comma_gap, apart, words_pieces, name_if, name_behind, pointing, grouped, gap_if, in_parentheses, prefixed, operand, list, marks_pieces, mark, bindings, specifiers, type_specifiers, type_specifier, member_lines, member_declarators, enumerator_lines, after_sign, declarator, around, maybe, parameters, parameter_list, is_integer, tightness, tightness_of_logical, sign_of_unary, sign_of_binary, sign_of_logical, sign_of_assignment, words_of}
 use Rattle.lt_print.proofs.SignsAgain.{tight, tight_logical}
 use Rattle.lt_print.proofs.Cutting.{EndsWord}
 use Rattle.lt_print.proofs.CuttingConstants.{begins_digit}
 use Rattle.lt_print.proofs.Written.{is_other}
-use Rattle.lt_print.proofs.Clean.{IsIdentifier, IfDigit, Clean}
-use Rattle.lt_print.proofs.SignsClean.{space_ends}
-use Rattle.lt_print.proofs.Spelt.{NameIf, Spelt, SpeltAll, SpeltMaybe, SpeltMarks, SpeltMark, SpeltBindings, SpeltSpecifiers, SpeltTypes, SpeltType, SpeltMembers, SpeltMemberDeclarators, SpeltEnumerators, SpeltDeclarator, SpeltParts, SpeltParameters, SpeltList}
-use Rattle.lt_print.proofs.CleanForms.{Soft, Runs, soft_word, soft_digit, clean_append, closed_cons, spaced_alone, before_comma, name_clean, placed_clean, placed_runs, enclosed_runs, apart_clean}
+use Rattle.lt_print.proofs.Clean.{IfDigit, Clean}
+use Rattle.lt_print.proofs.Spelt.{Spelt, SpeltAll, SpeltMaybe, SpeltMarks, SpeltMark, SpeltBindings, SpeltSpecifiers, SpeltTypes, SpeltType, SpeltMembers, SpeltMemberDeclarators, SpeltEnumerators, SpeltDeclarator, SpeltParts, SpeltParameters, SpeltList}
+use Rattle.lt_print.proofs.CleanForms.{Soft, Runs, soft_word, soft_digit, clean_append, closed_cons, spaced_alone, name_clean, placed_clean, placed_runs, enclosed_runs, apart_clean}
 use Rattle.lt_print.proofs.CleanOperands as f
 use Rattle.lt_print.proofs.CleanStarts.{operand_starts}
 use Rattle.lt_print.proofs.CleanLeaves.{type_words_run, nothing_runs, apart_runs, words_run, name_runs, Inner, name_inner, grouped_inner, pointing_inner, indexed_inner, applied_inner, listed_runs, comma_alone, behind_name, braced_clean, binary_other, logical_other, type_word_runs}

@@ -1,23 +1,20 @@
 -- A piece stands clear of what follows: no longer piece begins the text.
-use Rattle.std.proofs.Common.{◌≡◌, ℕ, suc, ◌+◌, ◌≤◌, ◌<◌, Bool, true, false, cond, eqb, leb, ltb, List, [], ◌∷◌, ◌++◌, length, take, drop, refl, sym, ap, subst, ◌∙◌, inl, inr, arith, length-append}
-use Rattle.std.specs.Prelude.{◌⊎◌, ◌&&◌, ◌||◌, not}
-use Rattle.std.specs.List.{list_all, list_any, prefix_len}
-use Rattle.std.specs.Char.{is_ascii_digit, is_ascii_hexdigit}
+use Rattle.std.proofs.Common.{◌≡◌, ℕ, suc, ◌+◌, ◌≤◌, Bool, true, false, eqb, List, [], ◌∷◌, ◌++◌, length, take, drop, refl, sym, ap, subst, ◌∙◌, inl, inr, arith, length-append}
+use Rattle.std.specs.Prelude.{◌⊎◌, ◌&&◌}
+use Rattle.std.specs.List.{list_all, prefix_len}
 use Rattle.std.specs.Str.{bytes_eq}
 use Rattle.std.proofs.lemmas.Bool.{and_parts, or_cases, eqb-true}
-use Rattle.std.proofs.lemmas.Bool.Decides.{nat_tests}
 use Rattle.std.proofs.lemmas.Slice.Eq.{bytes_eq-Decides}
 use Rattle.std.proofs.lemmas.List.Folds.{list_all-append}
 use Rattle.lt_token.specs.declared.piece.Class.{Class}
 use Rattle.lt_token.specs.declared.piece.Class.TheVariants as class
 use Rattle.lt_token.specs.declared.piece.Form.{Form}
 use Rattle.lt_token.specs.declared.piece.Form.TheVariants as form
-use Rattle.lt_token.specs.declared.piece.Part.{Part}
 use Rattle.lt_token.specs.declared.piece.Part.TheVariants as part
-use Rattle.lt_token.specs.Bytes.{class_of, is_word_byte, is_in_line, quote, apostrophe}
-use Rattle.lt_token.specs.Parts.{is_whole_after, is_closed_after, ends_at}
+use Rattle.lt_token.specs.Bytes.{class_of, is_word_byte, quote, apostrophe}
+use Rattle.lt_token.specs.Parts.{is_whole_after, is_closed_after}
 use Rattle.lt_token.specs.Words.{is_among, punctuators, literal_prefixes}
-use Rattle.lt_token.specs.Pieces.{is_literal, is_prefixed, is_piece_at, is_piece, Longest}
+use Rattle.lt_token.specs.Pieces.{is_literal, is_piece_at, is_piece, Longest}
 
 -- ---- longer pieces
 
@@ -47,9 +44,9 @@ longest fresh f piece t is never = record { parts = refl; is_one = is; none_long
         → (g : Form) (other rest : List ℕ) → piece ++ t ≡ other ++ rest → is_piece fresh g other ≡ true → length other ≤ length piece
     step [] never g other rest e h = whole other rest e
     step (b ∷ t) never g other rest e h = elim (longer piece other t rest b e) [
-        | inl le ↦ le
-        | inr m ↦ absurd (never b t refl g m.0 (ap (is_piece fresh g) (sym m.1) ∙ h))
-      ]
+      | inl le ↦ le
+      | inr m ↦ absurd (never b t refl g m.0 (ap (is_piece fresh g) (sym m.1) ∙ h))
+    ]
 
 -- ---- classes of bytes
 
@@ -127,16 +124,16 @@ run_stops p (x ∷ xs) more b all stops =
 
 no_literal : (b : ℕ) (more : List ℕ) → ends_word (class_of b) ≡ true → is_literal (b ∷ more) ≡ true → ⊥
 no_literal b more h e = elim (or_cases (eqb b quote && is_closed_after part.Text more) (eqb b apostrophe && is_whole_after part.Character more) e) [
-    | inl x ↦ (let q = eqb-true b quote (and_parts (eqb b quote) (is_closed_after part.Text more) x).0 in let i : ends_word (class_of quote) ≡ true = subst (λ (z : ℕ). ends_word (class_of z) ≡ true) q h in cc)
-    | inr x ↦ (let q = eqb-true b apostrophe (and_parts (eqb b apostrophe) (is_whole_after part.Character more) x).0 in let i : ends_word (class_of apostrophe) ≡ true = subst (λ (z : ℕ). ends_word (class_of z) ≡ true) q h in cc)
-  ]
+  | inl x ↦ (let q = eqb-true b quote (and_parts (eqb b quote) (is_closed_after part.Text more) x).0 in let i : ends_word (class_of quote) ≡ true = subst (λ (z : ℕ). ends_word (class_of z) ≡ true) q h in cc)
+  | inr x ↦ (let q = eqb-true b apostrophe (and_parts (eqb b apostrophe) (is_whole_after part.Character more) x).0 in let i : ends_word (class_of apostrophe) ≡ true = subst (λ (z : ℕ). ends_word (class_of z) ≡ true) q h in cc)
+]
 
 word_stops : (fresh : Bool) (g : Form) (c : ℕ) (cs more : List ℕ) (b : ℕ) → class_of c ≡ class.Letter → list_all is_word_byte cs ≡ true → ends_word (class_of b) ≡ true
     → is_piece fresh g (c ∷ cs ++ b ∷ more) ≡ true → ⊥
 word_stops fresh g c cs more b letter all ends h = elim (of_class fresh g class.Letter c (cs ++ b ∷ more) letter h) [
-    | inl m ↦ (let x = m.0 in cc)
-    | inr p ↦ step g p
-  ]
+  | inl m ↦ (let x = m.0 in cc)
+  | inr p ↦ step g p
+]
   where
     stop : is_word_byte b ≡ false
     stop = no_word_byte b ends

@@ -1,6 +1,6 @@
 -- Blanks separate: they leave no lexeme, however many stand in a row.
-use Rattle.std.proofs.Common.{◌≡◌, ℕ, zero, suc, ◌+◌, ◌≤◌, Bool, true, false, List, [], ◌∷◌, ◌++◌, length, Option, Some, None, refl, sym, ap, subst, ◌∙◌, inl, inr, arith}
-use Rattle.std.specs.Prelude.{◌⊎◌, ◌&&◌, replicate, ◌*◌}
+use Rattle.std.proofs.Common.{◌≡◌, ℕ, zero, suc, ◌+◌, ◌≤◌, Bool, true, false, List, [], ◌∷◌, ◌++◌, length, Some, None, refl, sym, ap, subst, ◌∙◌, inl, inr, arith}
+use Rattle.std.specs.Prelude.{replicate}
 use Rattle.std.specs.List.{list_all}
 use Rattle.std.proofs.lemmas.Bool.{and_parts}
 use Rattle.lt_token.specs.declared.piece.Class.{Class}
@@ -9,8 +9,7 @@ use Rattle.lt_token.specs.declared.piece.Form.{Form}
 use Rattle.lt_token.specs.declared.piece.Form.TheVariants as form
 use Rattle.lt_token.specs.declared.lexeme.Sort.{Sort}
 use Rattle.lt_token.specs.Bytes.{class_of, is_blank, is_blank_class}
-use Rattle.lt_token.specs.Words.{is_among, punctuators}
-use Rattle.lt_token.specs.Pieces.{is_piece_at, is_piece, Longest, NoPiece}
+use Rattle.lt_token.specs.Pieces.{is_piece_at, is_piece, Longest}
 use Rattle.lt_token.specs.Lexemes as lex
 use Rattle.lt_token.specs.Lexemes.{Lexeme, Cuts, sort_of, fresh_after}
 use Rattle.lt_print.proofs.Cutting.{longest, of_class, same_parts, clash}

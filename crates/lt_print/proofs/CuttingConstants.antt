@@ -1,10 +1,10 @@
 -- Constants and strings stand clear of what follows.
-use Rattle.std.proofs.Common.{◌≡◌, ℕ, suc, ◌+◌, ◌≤◌, ◌<◌, Bool, true, false, cond, eqb, leb, ltb, List, [], ◌∷◌, ◌++◌, length, drop, refl, sym, ap, subst, ◌∙◌, inl, inr, arith}
-use Rattle.std.specs.Prelude.{◌⊎◌, ◌&&◌, ◌||◌, nat_le, if◌then◌else◌}
+use Rattle.std.proofs.Common.{◌≡◌, ℕ, suc, ◌+◌, Bool, true, false, cond, eqb, leb, List, [], ◌∷◌, ◌++◌, drop, refl, sym, ap, subst, ◌∙◌, inl, inr, arith}
+use Rattle.std.specs.Prelude.{◌&&◌, ◌||◌, nat_le, if◌then◌else◌}
 use Rattle.std.specs.List.{list_all, prefix_len}
 use Rattle.std.specs.Char.{is_ascii_digit, is_ascii_hexdigit}
 use Rattle.std.specs.Int.{is_in_range}
-use Rattle.std.proofs.lemmas.Bool.{and_parts, or_cases, eqb-true, eq-eqb, false_from_ne_true, or_from}
+use Rattle.std.proofs.lemmas.Bool.{and_parts, or_cases, eqb-true, false_from_ne_true, or_from}
 use Rattle.std.proofs.lemmas.Bool.Decides.{nat_tests}
 use Rattle.lt_token.specs.declared.piece.Class.{Class}
 use Rattle.lt_token.specs.declared.piece.Class.TheVariants as class
@@ -12,14 +12,14 @@ use Rattle.lt_token.specs.declared.piece.Form.{Form}
 use Rattle.lt_token.specs.declared.piece.Form.TheVariants as form
 use Rattle.lt_token.specs.declared.piece.Part.{Part}
 use Rattle.lt_token.specs.declared.piece.Part.TheVariants as part
-use Rattle.lt_token.specs.Bytes.{class_of, is_word_byte, is_octal, quote, apostrophe}
-use Rattle.lt_token.specs.Parts.{after, is_whole, ends_at, is_whole_after, first_digit, tail, is_e, is_p, is_x, is_sign, is_floating_suffix}
+use Rattle.lt_token.specs.Bytes.{class_of, is_word_byte, is_octal}
+use Rattle.lt_token.specs.Parts.{after, is_whole, ends_at, is_whole_after, first_digit, tail, is_e, is_p, is_x}
 use Rattle.lt_token.specs.Words.{is_among, integer_suffixes}
-use Rattle.lt_token.specs.Pieces.{is_fraction, is_piece_at, is_piece, Longest}
+use Rattle.lt_token.specs.Pieces.{is_piece_at, is_piece, Longest}
 use Rattle.lt_token.specs.Lexemes as lex
 use Rattle.lt_token.specs.Lexemes.{past, is_hexadecimal}
 use Rattle.lt_print.proofs.Written.{is_letter}
-use Rattle.lt_print.proofs.Cutting.{longest, of_class, any_of_all, is_mark, clash}
+use Rattle.lt_print.proofs.Cutting.{longest, of_class, any_of_all, clash}
 
 -- ---- parts
 
@@ -74,9 +74,9 @@ not_digit b h = false_from_ne_true (is_ascii_digit b) (λ is. other_class b clas
 
 not_hexdigit : (b : ℕ) → ends_constant (class_of b) ≡ true → is_ascii_hexdigit b ≡ false
 not_hexdigit b h = false_from_ne_true (is_ascii_hexdigit b) (λ is. elim (or_cases (is_in_range 48 57 b || is_in_range 65 70 b) (is_in_range 97 102 b) is) [
-    | inl x ↦ (elim (or_cases (is_in_range 48 57 b) (is_in_range 65 70 b) x) [ inl y ↦ other_class b class.Digit h refl (digit_class b y) | inr y ↦ other_class b class.Letter h refl (upper_class b y) ])
-    | inr x ↦ other_class b class.Letter h refl (lower_class b x)
-  ])
+  | inl x ↦ (elim (or_cases (is_in_range 48 57 b) (is_in_range 65 70 b) x) [ inl y ↦ other_class b class.Digit h refl (digit_class b y) | inr y ↦ other_class b class.Letter h refl (upper_class b y) ])
+  | inr x ↦ other_class b class.Letter h refl (lower_class b x)
+])
 
 not_word : (b : ℕ) → ends_constant (class_of b) ≡ true → is_word_byte b ≡ false
 not_word b h = step (class_of b) refl h

@@ -1,6 +1,6 @@
 -- Punctuators and blanks stand clear of what follows.
-use Rattle.std.proofs.Common.{◌≡◌, ℕ, suc, ◌+◌, ◌≤◌, Bool, true, false, eqb, List, [], ◌∷◌, ◌++◌, length, Option, Some, None, refl, sym, ap, subst, ◌∙◌, inl, inr, arith, add_assoc}
-use Rattle.std.specs.Prelude.{◌⊎◌, ◌&&◌, ◌||◌, not}
+use Rattle.std.proofs.Common.{◌≡◌, ℕ, Bool, true, false, eqb, List, [], ◌∷◌, ◌++◌, refl, subst, inl, inr}
+use Rattle.std.specs.Prelude.{◌&&◌, not}
 use Rattle.std.specs.List.{list_all}
 use Rattle.std.specs.Char.{is_ascii_digit}
 use Rattle.std.proofs.lemmas.Bool.{and_parts, eq-eqb, not-true}
@@ -9,13 +9,11 @@ use Rattle.lt_token.specs.declared.piece.Class.TheVariants as class
 use Rattle.lt_token.specs.declared.piece.Form.{Form}
 use Rattle.lt_token.specs.declared.piece.Form.TheVariants as form
 use Rattle.lt_token.specs.declared.piece.Part.TheVariants as part
-use Rattle.lt_token.specs.Bytes.{class_of, is_blank, is_in_line}
+use Rattle.lt_token.specs.Bytes.{class_of, is_in_line}
 use Rattle.lt_token.specs.Parts.{is_whole_after}
 use Rattle.lt_token.specs.Words.{is_among, punctuators}
-use Rattle.lt_token.specs.Pieces.{is_fraction, is_line_comment, is_block_comment, is_piece_at, is_piece, Longest, NoPiece}
-use Rattle.lt_token.specs.Lexemes as lex
-use Rattle.lt_token.specs.Lexemes.{Lexeme, Cuts, sort_of, fresh_after}
-use Rattle.lt_print.proofs.Cutting.{longest, longer, of_class, any_of_all, is_mark, marks, marks_all, clash}
+use Rattle.lt_token.specs.Pieces.{is_fraction, is_line_comment, is_block_comment, is_piece_at, is_piece, Longest}
+use Rattle.lt_print.proofs.Cutting.{longest, of_class, any_of_all, marks, marks_all, clash}
 
 -- ---- punctuators
 
@@ -72,10 +70,10 @@ mark_stops_at fresh g k c cs more b e h = cc
 
 mark_stops : (fresh : Bool) (g : Form) (c : ℕ) (cs more : List ℕ) (b : ℕ) → is_clear (c ∷ cs) b ≡ true → is_piece fresh g (c ∷ cs ++ b ∷ more) ≡ true → ⊥
 mark_stops fresh g c cs more b clear h = elim (of_class fresh g (class_of c) c (cs ++ b ∷ more) refl h) [
-    | inl m ↦ (let n = any_of_all (λ q. not (goes_with q (c ∷ cs ++ b ∷ []))) punctuators (c ∷ cs ++ b ∷ more) both.1 m.1 in
-        clash (goes_with (c ∷ cs ++ b ∷ more) (c ∷ cs ++ b ∷ [])) (begins_so (c ∷ cs) more b) (not-true (goes_with (c ∷ cs ++ b ∷ more) (c ∷ cs ++ b ∷ [])) n))
-    | inr p ↦ mark_stops_at fresh g (class_of c) c cs more b both.0 p
-  ]
+  | inl m ↦ (let n = any_of_all (λ q. not (goes_with q (c ∷ cs ++ b ∷ []))) punctuators (c ∷ cs ++ b ∷ more) both.1 m.1 in
+      clash (goes_with (c ∷ cs ++ b ∷ more) (c ∷ cs ++ b ∷ [])) (begins_so (c ∷ cs) more b) (not-true (goes_with (c ∷ cs ++ b ∷ more) (c ∷ cs ++ b ∷ [])) n))
+  | inr p ↦ mark_stops_at fresh g (class_of c) c cs more b both.0 p
+]
   where
     both : (is_second (class_of c) (cs ++ b ∷ []) ≡ true) × (list_all (λ q. not (goes_with q (c ∷ cs ++ b ∷ []))) punctuators ≡ true)
     both = and_parts (is_second (class_of c) (cs ++ b ∷ [])) (list_all (λ q. not (goes_with q (c ∷ cs ++ b ∷ []))) punctuators) clear

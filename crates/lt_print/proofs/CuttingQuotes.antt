@@ -1,9 +1,9 @@
 -- Character constants and strings are closed, so that nothing goes on with them.
-use Rattle.std.proofs.Common.{◌≡◌, ℕ, suc, ◌+◌, ◌-◌, ◌*◌, ◌/◌, ◌%◌, ◌≤◌, ◌<◌, Bool, true, false, eqb, leb, List, [], ◌∷◌, ◌++◌, drop, Some, refl, sym, ap, subst, ◌∙◌, inl, inr, arith, append_assoc}
-use Rattle.std.specs.Prelude.{◌⊎◌, ◌&&◌, ◌||◌, if◌then◌else◌}
+use Rattle.std.proofs.Common.{◌≡◌, ℕ, ◌+◌, ◌/◌, ◌%◌, ◌<◌, Bool, true, false, eqb, leb, List, [], ◌∷◌, ◌++◌, Some, refl, ap, ◌∙◌, inl, inr, arith, append_assoc}
+use Rattle.std.specs.Prelude.{◌&&◌, ◌||◌, if◌then◌else◌}
 use Rattle.std.specs.List.{All, flat_map}
 use Rattle.std.specs.Char.{is_ascii_hexdigit}
-use Rattle.std.proofs.lemmas.Bool.{or_cases, eqb-true, or_right}
+use Rattle.std.proofs.lemmas.Bool.{eqb-true, or_right}
 use Rattle.std.proofs.lemmas.Bool.Decides.{nat_tests}
 use Rattle.std.proofs.lemmas.List.Elements.{All-head, All-tail}
 use Rattle.lt_token.specs.declared.piece.Class.{Class}
@@ -17,7 +17,7 @@ use Rattle.lt_token.specs.Bytes.{class_of, is_octal, is_simple_escape}
 use Rattle.lt_token.specs.Parts.{after, is_whole, is_closed_end, ends_at, is_whole_after}
 use Rattle.lt_token.specs.Pieces.{is_piece_at, is_piece, Longest}
 use Rattle.lt_token.specs.Lexemes.{sort_of}
-use Rattle.lt_tree.specs.Pieces.{octal, quoted_byte, quoted}
+use Rattle.lt_tree.specs.Pieces.{quoted_byte, quoted}
 use Rattle.lt_print.proofs.Cutting.{longest, of_class, clash}
 use Rattle.lt_print.proofs.CuttingConstants.{goes_nowhere, ends_append}
 

@@ -1,19 +1,19 @@
 -- The words of declarations derive them again, C11 6.7 and 6.7.9.
-use Rattle.std.specs.Prelude.{◌≡◌, ℕ, Bool, true, false, List, [], ◌∷◌, ◌++◌, Option, Some, None, refl}
+use Rattle.std.specs.Prelude.{◌≡◌, ℕ, Bool, false, List, [], ◌∷◌, ◌++◌, Option, Some, None, refl}
 use Rattle.lt_tree.specs.declared.terminal.Terminal.{Terminal}
 use Rattle.lt_tree.specs.declared.terminal.Terminal.TheVariants as k
 use Rattle.lt_tree.specs.Tree as c
 use Rattle.lt_tree.specs.Symbols as s
 use Rattle.lt_tree.specs.Symbols.{Symbol}
 use Rattle.lt_tree.specs.Scope.{Scope, after_specifiers, after_declarator, after_initialiser, makes_types}
-use Rattle.lt_tree.specs.Ahead.{Naming, naming_behind, takes_none, same_terminal, sees}
+use Rattle.lt_tree.specs.Ahead.{Naming, naming_behind, same_terminal}
 use Rattle.lt_tree.specs.Grammar as g
 use Rattle.lt_tree.specs.Grammar.{AreSpecifiers, IsDeclarator}
 use Rattle.lt_tree.specs.Declarations as d
 use Rattle.lt_tree.specs.Declarations.{IsInitialiser, AreInitialisers, IsOptionalInitialiser, AreDeclarators, IsDeclaration}
-use Rattle.lt_tree.specs.Canon.{Pieces, sign, spaced, apart, operand, specifiers, declarator}
+use Rattle.lt_tree.specs.Canon.{Pieces, sign, spaced, apart, specifiers, declarator}
 use Rattle.lt_tree.specs.CanonUnits.{initialiser, initialisers, init_declarator, init_declarators, declaration}
-use Rattle.lt_print.proofs.ReadPieces.{Reads, done, a_sign, a_gap, parted, parted_apart, split, split_comma, Ends, by_comma, by_semicolon, by_equal}
+use Rattle.lt_print.proofs.ReadPieces.{Reads, done, a_sign, a_gap, parted, parted_apart, split_comma, Ends, by_comma, by_semicolon, by_equal}
 use Rattle.lt_print.proofs.Claims.{Again, names_type, SpecifiersAgain, DeclaratorFits}
 use Rattle.lt_print.proofs.DeclaratorsAgain.{declarator_again}
 use Rattle.lt_print.proofs.DeclaratorFronts.{Clear, front_clear, behind_clear_after, behind_bare}

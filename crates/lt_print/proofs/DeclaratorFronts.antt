@@ -1,6 +1,6 @@
 -- What begins a declarator begins no specifier, so that specifiers end before it.
-use Rattle.std.proofs.Common.{◌≡◌, ℕ, Bool, true, false, List, [], ◌∷◌, Option, Some, None, refl, sym, ap, subst, ◌∙◌}
-use Rattle.std.specs.Prelude.{not, ◌&&◌, ◌||◌, option_and_then}
+use Rattle.std.proofs.Common.{◌≡◌, ℕ, Bool, true, false, List, ◌∷◌, Option, Some, None, refl, sym, ap, ◌∙◌}
+use Rattle.std.specs.Prelude.{option_and_then}
 use Rattle.std.proofs.lemmas.Bool.{not-true, or_parts}
 use Rattle.lt_tree.specs.declared.specifier.BasicType.{BasicType}
 use Rattle.lt_tree.specs.declared.terminal.Terminal.TheVariants as k
@@ -9,12 +9,12 @@ use Rattle.lt_tree.specs.Symbols as s
 use Rattle.lt_tree.specs.Symbols.{Symbol}
 use Rattle.lt_tree.specs.TypeWords.{spellings, all_words, same_word, basic_of, words_alone, or_as_they_stand, gathered}
 use Rattle.lt_tree.specs.Scope.{Scope, is_type, after_specifiers}
-use Rattle.lt_tree.specs.Ahead.{Naming, named, untyped, nameless, either, naming_behind, takes_name, takes_none, same_terminal, sees, begins_specifier}
+use Rattle.lt_tree.specs.Ahead.{Naming, nameless, either, naming_behind, takes_none, same_terminal, sees, begins_specifier}
 use Rattle.lt_tree.specs.Grammar as g
 use Rattle.lt_tree.specs.Grammar.{AreSpecifiers, AreFurther, IsDeclarator, ArePointers, IsDirect, AreSuffixes}
 use Rattle.lt_tree.specs.Canon.{apart, specifiers, declarator}
 use Rattle.lt_print.proofs.ReadPieces.{Reads, parted_apart, Ends, by_parenthesis}
-use Rattle.lt_print.proofs.Claims.{names_type, is_typed, SpecifiersAgain, NameFits, DeclaratorFits, has_pointer, IsClear, TypeNameAgain}
+use Rattle.lt_print.proofs.Claims.{names_type, is_typed, SpecifiersAgain, DeclaratorFits, has_pointer, IsClear, TypeNameAgain}
 use Rattle.lt_print.proofs.Fronts.{ends_specifier}
 use Rattle.lt_print.proofs.DeclaratorsAgain.{declarator_again}
 use Rattle.lt_print.proofs.TypesAgain.{typed_behind, still_typed}

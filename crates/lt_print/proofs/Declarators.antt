@@ -13,8 +13,8 @@ use Rattle.lt_tree.specs.View.{qualifiers_of, part_before, parameters_of}
 use Rattle.lt_tree.specs.Records.{parts_in, maybe_in}
 use Rattle.lt_tree.specs.declared.terminal.Terminal.TheVariants as t
 use Rattle.lt_tree.specs.Tree as c
-use Rattle.lt_tree.specs.Pieces.{Piece, gap, text_of}
-use Rattle.lt_tree.specs.Canon.{Pieces, sign, apart, gap_if, word_if, in_parentheses, grouped, pointing, name_if, qualifiers_pieces, around, declarator, maybe, parameters}
+use Rattle.lt_tree.specs.Pieces.{Piece, text_of}
+use Rattle.lt_tree.specs.Canon.{Pieces, sign, gap_if, word_if, in_parentheses, grouped, pointing, name_if, qualifiers_pieces, around, declarator, maybe, parameters}
 use Rattle.lt_print.specs.Lists.{stands, behind}
 use Rattle.lt_print.specs.Declarators.{star, is_suffixed, front, back, is_written}
 use Rattle.lt_print.proofs.Lists.{apart_is}

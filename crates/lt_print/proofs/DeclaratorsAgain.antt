@@ -8,7 +8,7 @@ use Rattle.lt_tree.specs.Scope.{Scope}
 use Rattle.lt_tree.specs.Ahead.{Naming, sees, begins_direct, opens_parameters}
 use Rattle.lt_tree.specs.Grammar as g
 use Rattle.lt_tree.specs.Grammar.{AreQualifiers, IsDirect, ArePointers, AreSuffixes, IsDeclarator}
-use Rattle.lt_tree.specs.Canon.{Pieces, sign, name, apart, in_parentheses, word_if, qualifiers_pieces, name_if, pointing, grouped, operand, maybe, parameters, around, declarator}
+use Rattle.lt_tree.specs.Canon.{Pieces, sign, apart, in_parentheses, word_if, qualifiers_pieces, name_if, pointing, grouped, operand, maybe, parameters, around}
 use Rattle.lt_print.proofs.ReadPieces.{Reads, done, a_name, a_sign, a_gap, parted, parted_apart, inside, Ends, by_parenthesis}
 use Rattle.lt_print.proofs.Claims.{MaybeStands, ParametersAgain, PartsFit, NameFits, DeclaratorFits, DeclaratorAgain}
 use Rattle.lt_print.proofs.Fronts.{ends_declarator, ends_suffix, ends_direct, direct_no_star, pointers_unqualified, star_opens, parameters_no_direct}

@@ -1,18 +1,16 @@
 -- The words of an expression's text derive it again, rule by rule of the grammar, C11 6.5.
-use Rattle.std.proofs.Common.{◌≡◌, ℕ, suc, Bool, true, false, List, [], ◌∷◌, ◌++◌, Option, Some, None, refl}
+use Rattle.std.proofs.Common.{◌≡◌, ℕ, suc, false, List, ◌++◌, Option, Some}
 use Rattle.lt_model.specs.declared.operator.Op.{Op}
 use Rattle.lt_tree.specs.declared.expression.UnaryOp.{UnaryOp}
 use Rattle.lt_tree.specs.declared.terminal.Terminal.{Terminal}
-use Rattle.lt_tree.specs.declared.terminal.Terminal.TheVariants as k
 use Rattle.lt_tree.specs.Tree as c
 use Rattle.lt_tree.specs.Comma.{followed_by, is_comma}
-use Rattle.lt_tree.specs.Symbols as s
 use Rattle.lt_tree.specs.Symbols.{Symbol}
 use Rattle.lt_tree.specs.Scope.{Scope, is_type}
 use Rattle.lt_tree.specs.Operators.{Infix, arithmetic, connective, operation, assignment_of}
 use Rattle.lt_tree.specs.Grammar as g
 use Rattle.lt_tree.specs.Grammar.{Level, AreParts, AreArguments}
-use Rattle.lt_tree.specs.Canon.{Pieces, sign, comma_gap, operand, list, marks_pieces, is_integer, tightness, tightness_of_logical}
+use Rattle.lt_tree.specs.Canon.{comma_gap, operand, list, marks_pieces, is_integer, tightness, tightness_of_logical}
 use Rattle.lt_print.proofs.ReadPieces.{Reads, done, parted}
 use Rattle.lt_print.proofs.SignsAgain.{assignment_sign, tight, tight_logical}
 use Rattle.lt_print.proofs.LooserLevels.{DerivesAt, placed_again}
@@ -112,11 +110,17 @@ cast_again {scope} {ss} {d} {e} t a = record { stands = λ n level. placed_again
 pub operation_again : {scope : Scope} (op : Infix) {left right : c.Expression} → Again scope left → Again scope right → Again scope (operation op left right)
 unfolding operand
 operation_again {scope} (arithmetic o) {left} {right} a b =
-    record { stands = λ n level. placed_again scope (g.binary (tightness o)) level _ _ (tight o)
-        (binary_at scope o _ _ left right (a.stands n (g.binary (tightness o))) (b.stands n (g.binary (suc (tightness o))))); parts = tt }
+    record {
+      stands = λ n level. placed_again scope (g.binary (tightness o)) level _ _ (tight o)
+          (binary_at scope o _ _ left right (a.stands n (g.binary (tightness o))) (b.stands n (g.binary (suc (tightness o)))));
+      parts = tt;
+    }
 operation_again {scope} (connective o) {left} {right} a b =
-    record { stands = λ n level. placed_again scope (g.binary (tightness_of_logical o)) level _ _ (tight_logical o)
-        (logical_at scope o _ _ left right (a.stands n (g.binary (tightness_of_logical o))) (b.stands n (g.binary (suc (tightness_of_logical o))))); parts = tt }
+    record {
+      stands = λ n level. placed_again scope (g.binary (tightness_of_logical o)) level _ _ (tight_logical o)
+          (logical_at scope o _ _ left right (a.stands n (g.binary (tightness_of_logical o))) (b.stands n (g.binary (suc (tightness_of_logical o)))));
+      parts = tt;
+    }
 
 pub choice_again : {scope : Scope} {test left right : c.Expression} → Again scope test → Again scope left → Again scope right → Again scope (c.Conditional test left right)
 unfolding operand

@@ -1,5 +1,5 @@
 -- Forms of expressions derive again what their parts derive in their places.
-use Rattle.std.proofs.Common.{◌≡◌, ℕ, suc, true, false, List, [], ◌∷◌, ◌++◌, Some, refl}
+use Rattle.std.proofs.Common.{ℕ, List, [], ◌∷◌, ◌++◌}
 use Rattle.lt_tree.specs.declared.terminal.Terminal.TheVariants as k
 use Rattle.lt_tree.specs.Tree as c
 use Rattle.lt_tree.specs.Symbols as s
@@ -8,7 +8,7 @@ use Rattle.lt_tree.specs.Scope.{Scope}
 use Rattle.lt_tree.specs.Grammar as g
 use Rattle.lt_tree.specs.Grammar.{Level, IsExpression, IsMark, AreMarks, AreArguments}
 use Rattle.lt_tree.specs.Canon.{Pieces, sign, constant, literal, comma_gap, in_parentheses, apart, specifiers, declarator}
-use Rattle.lt_print.proofs.ReadPieces.{Reads, done, a_name, a_constant, a_literal, a_sign, a_gap, parted}
+use Rattle.lt_print.proofs.ReadPieces.{Reads, done, a_constant, a_literal, a_sign, a_gap, parted}
 use Rattle.lt_print.proofs.LooserLevels.{DerivesAt, from_primary}
 use Rattle.lt_print.proofs.Claims.{TypeNameAgain}
 
@@ -92,4 +92,3 @@ pub marked_from : (scope : Scope) (a b : Pieces) (marks : c.Marks) (e : c.Expres
     → ((ts rest : List Symbol) (more : List ℕ) → Reads a ts rest → (spots : List ℕ) × AreMarks scope ts marks rest spots more) → DerivesAt scope g.assignment b e → DerivesAt scope g.marked (a ++ b) (c.Marked marks e)
 marked_from scope a b marks e da db ts rest more r =
     let q = parted a b r in let gb = db _ rest more q.back in let ga = da ts _ gb.0 q.front in (_, g.behind_marks ga.1 gb.1)
-

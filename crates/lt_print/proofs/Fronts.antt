@@ -1,5 +1,5 @@
 -- What stands at the front of declarators, and behind them.
-use Rattle.std.specs.Prelude.{◌≡◌, ℕ, Bool, true, false, not, ◌||◌, List, [], ◌∷◌, Option, Some, None, refl}
+use Rattle.std.specs.Prelude.{◌≡◌, ℕ, Bool, true, false, not, List, ◌∷◌, Option, refl}
 use Rattle.std.proofs.Common.{ap}
 use Rattle.std.proofs.lemmas.Bool.{or_right}
 use Rattle.lt_tree.specs.declared.terminal.Terminal.TheVariants as k

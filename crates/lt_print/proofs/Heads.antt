@@ -1,5 +1,5 @@
 -- What an operand's text begins with.
-use Rattle.std.proofs.Common.{◌≡◌, ◌≤◌, ◌<◌, ◌+◌, Bool, true, false, ltb, List, [], ◌∷◌, ◌++◌, ℕ, if◌then◌else◌, Option, Some, None, is_some, refl, ap, sym, ◌∙◌, append_assoc, arith}
+use Rattle.std.proofs.Common.{◌≡◌, ◌≤◌, ◌+◌, Bool, true, false, ltb, List, [], ◌∷◌, ◌++◌, ℕ, if◌then◌else◌, Option, Some, None, is_some, refl, ap, sym, ◌∙◌, append_assoc, arith}
 use Rattle.std.proofs.lemmas.Bool.{lt-ltb}
 use Rattle.std.proofs.lemmas.List.{append-nil}
 use Rattle.lt_model.specs.declared.operator.Op.{Op}
@@ -14,7 +14,7 @@ use Rattle.lt_tree.specs.Symbols.{spelling}
 use Rattle.lt_tree.specs.Tree as c
 use Rattle.lt_tree.specs.Grammar as g
 use Rattle.lt_tree.specs.Pieces.{text_of, gap}
-use Rattle.lt_tree.specs.Canon.{Pieces, sign, name, is_integer, sign_of_unary, gap_if, rank, tightness, tightness_of_logical, operand, starts_signed, prefixed}
+use Rattle.lt_tree.specs.Canon.{Pieces, sign, name, is_integer, sign_of_unary, gap_if, tightness, tightness_of_logical, operand, starts_signed, prefixed}
 use Rattle.lt_print.specs.Heads.{first_of, or_else, first_byte, is_sign, is_signed, is_signed_operator}
 use Rattle.lt_print.proofs.Texts.{text_append}
 use Rattle.lt_print.proofs.Words.{joined}

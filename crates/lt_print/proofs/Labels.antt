@@ -1,5 +1,5 @@
 -- What begins an expression, a declaration or a statement is no `else`, `case` or `default`.
-use Rattle.std.proofs.Common.{◌≡◌, ℕ, Bool, true, false, List, [], ◌∷◌, Some, refl, subst, rules}
+use Rattle.std.proofs.Common.{◌≡◌, ℕ, true, false, List, [], ◌∷◌, Some, refl, subst, rules}
 use Rattle.std.proofs.lemmas.Bool.{false_from_ne_true}
 use denote.Enum.Bare.{same_true}
 use Rattle.lt_tree.specs.contracts.terminal.Terminal.{the_type}

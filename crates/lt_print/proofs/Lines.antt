@@ -1,5 +1,5 @@
 -- One more part of each list, as its definition goes on.
-use Rattle.std.proofs.Common.{◌≡◌, ◌≤◌, ◌<◌, ◌+◌, ◌-◌, Bool, true, false, ◌||◌, eqb, ltb, length, drop, List, [], ◌∷◌, ◌++◌, ℕ, suc, refl, ap, sym, ◌∙◌, append_assoc, length-drop, arith}
+use Rattle.std.proofs.Common.{◌≡◌, ◌≤◌, ◌<◌, ◌-◌, Bool, true, false, ◌||◌, ltb, length, drop, List, [], ◌∷◌, ◌++◌, ℕ, suc, refl, ap, sym, ◌∙◌, append_assoc, length-drop, arith}
 use Rattle.std.proofs.lemmas.Bool.{lt-ltb, le-ltb, ltb-true, ltb-false}
 use Rattle.lt_tree.specs.declared.terminal.Terminal.TheVariants as k
 use Rattle.lt_tree.specs.declared.specifier.BasicType.TheVariants as basic
@@ -15,7 +15,7 @@ use Rattle.lt_tree.specs.Grammar.{assignment}
 use Rattle.lt_tree.specs.Pieces.{indent, line_end}
 use Rattle.lt_tree.specs.View.{expression_of, mark_of, type_of, member_of, part_before}
 use Rattle.lt_tree.specs.Records.{marks_in, bindings_in, types_in, members_in, enumerators_in, parts_in, maybe_in}
-use Rattle.lt_tree.specs.Canon.{Pieces, sign, name, gap_if, word_if, comma_gap, apart, operand, mark, marks_pieces, bindings, type_specifier, type_specifiers, member_lines, after_sign, enumerator_lines}
+use Rattle.lt_tree.specs.Canon.{Pieces, name, gap_if, word_if, comma_gap, operand, mark, marks_pieces, bindings, type_specifier, type_specifiers, member_lines, after_sign, enumerator_lines}
 use Rattle.lt_print.specs.Lists.{stands, behind}
 use Rattle.lt_print.specs.Declarators.{back, is_pointer}
 use Rattle.lt_print.proofs.Lists.{behind_apart, behind_something}

@@ -1,9 +1,9 @@
 -- Pieces apart, with something between, and behind others.
-use Rattle.std.proofs.Common.{◌≡◌, Bool, true, false, ◌||◌, ◌&&◌, List, [], ◌∷◌, ◌++◌, ℕ, ◌+◌, ◌<◌, eqb, length, get_or, drop, map, if◌then◌else◌, refl, ap, sym, ◌∙◌, append_assoc, arith}
+use Rattle.std.proofs.Common.{◌≡◌, Bool, true, false, ◌||◌, List, [], ◌∷◌, ◌++◌, ℕ, ◌+◌, ◌<◌, eqb, length, get_or, drop, map, if◌then◌else◌, refl, ap, sym, ◌∙◌, append_assoc, arith}
 use Rattle.std.proofs.lemmas.Bool.{ne_eqb}
 use Rattle.std.proofs.lemmas.List.{append-nil, drop_more}
 use Rattle.lt_tree.specs.Pieces.{Piece, gap, text_of}
-use Rattle.lt_tree.specs.Canon.{Pieces, apart, gap_if, comma_gap}
+use Rattle.lt_tree.specs.Canon.{Pieces, apart, gap_if}
 use Rattle.lt_print.specs.Lists.{stands, behind, separated}
 use Rattle.lt_print.proofs.Texts.{text_append}
 

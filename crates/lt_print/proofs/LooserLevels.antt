@@ -1,5 +1,5 @@
 -- What stands at a level stands at each looser one, and in parentheses at any.
-use Rattle.std.proofs.Common.{◌≡◌, ◌≤◌, ◌<◌, ◌+◌, ◌-◌, ℕ, zero, suc, Bool, true, false, ltb, cond, List, [], ◌∷◌, ◌++◌, refl, sym, ap, subst, ◌∙◌, arith}
+use Rattle.std.proofs.Common.{◌≡◌, ◌≤◌, ◌+◌, ◌-◌, ℕ, zero, suc, Bool, true, false, ltb, cond, List, [], ◌∷◌, refl, subst, arith}
 use Rattle.std.proofs.lemmas.Bool.{ltb-false}
 use Rattle.lt_tree.specs.declared.terminal.Terminal.TheVariants as k
 use Rattle.lt_tree.specs.Tree as c

@@ -1,5 +1,5 @@
 -- Marks behind what was written.
-use Rattle.std.proofs.Common.{◌≡◌, suc, Bool, true, false, eqb, length, List, [], ◌∷◌, ◌++◌, ℕ, if◌then◌else◌, refl, ap, sym, ◌∙◌, append_assoc, arith}
+use Rattle.std.proofs.Common.{◌≡◌, suc, false, eqb, length, List, [], ◌∷◌, ◌++◌, ℕ, if◌then◌else◌, ap, sym, ◌∙◌, append_assoc, arith}
 use Rattle.std.proofs.lemmas.Bool.{ne_eqb}
 use Rattle.lt_tree.specs.declared.terminal.Terminal.{Terminal}
 use Rattle.lt_tree.specs.declared.terminal.Terminal.TheVariants as k

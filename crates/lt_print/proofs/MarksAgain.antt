@@ -7,9 +7,8 @@ use Rattle.lt_tree.specs.Symbols.{Symbol}
 use Rattle.lt_tree.specs.Scope.{Scope}
 use Rattle.lt_tree.specs.Grammar as g
 use Rattle.lt_tree.specs.Grammar.{IsMark, AreBindings}
-use Rattle.lt_tree.specs.Canon.{Pieces, sign, name, constant, literal, comma_gap, in_parentheses, operand, mark, marks_pieces, bindings}
+use Rattle.lt_tree.specs.Canon.{name, constant, literal, comma_gap, operand, mark, marks_pieces, bindings}
 use Rattle.lt_print.proofs.ReadPieces.{Reads, done, a_name, a_constant, a_literal, a_sign, a_gap, parted, split_comma, inside}
-use Rattle.lt_print.proofs.LooserLevels.{DerivesAt}
 use Rattle.lt_print.proofs.FormsAgain.{label_from}
 use Rattle.lt_print.proofs.Claims.{Stands, Again, BoundStand, AreBound, MarkAgain, MarksAgain}
 

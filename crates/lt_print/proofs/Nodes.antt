@@ -1,5 +1,5 @@
 -- Nodes with what they hold in lists.
-use Rattle.std.proofs.Common.{◌≡◌, Option, ℕ, List, refl, ap, ◌∙◌}
+use Rattle.std.proofs.Common.{◌≡◌, Option, ℕ, List, ap}
 use Rattle.std.specs.Global.{Box, Vec}
 use Rattle.lt_tree.specs.declared.expression.Expr.{Expr}
 use Rattle.lt_tree.specs.declared.mark.Mark.{Mark}

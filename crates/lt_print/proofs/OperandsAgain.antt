@@ -1,19 +1,17 @@
 -- What each form of expression derives at its own level, from what its parts derive in their places.
-use Rattle.std.proofs.Common.{◌≡◌, ℕ, suc, Bool, true, false, List, [], ◌∷◌, ◌++◌, Option, Some, None, if◌then◌else◌, refl, sym, ap, subst, ◌∙◌}
+use Rattle.std.proofs.Common.{◌≡◌, ℕ, suc, Bool, true, false, List, [], ◌∷◌, ◌++◌, Option, Some, if◌then◌else◌}
 use Rattle.lt_model.specs.declared.operator.Op.{Op}
 use Rattle.lt_tree.specs.declared.expression.UnaryOp.{UnaryOp}
 use Rattle.lt_tree.specs.declared.expression.LogicalOp.{LogicalOp}
-use Rattle.lt_tree.specs.declared.terminal.Terminal.{Terminal}
 use Rattle.lt_tree.specs.declared.terminal.Terminal.TheVariants as k
 use Rattle.lt_tree.specs.Tree as c
-use Rattle.lt_tree.specs.Symbols as s
 use Rattle.lt_tree.specs.Symbols.{Symbol}
 use Rattle.lt_tree.specs.Scope.{Scope, is_type}
 use Rattle.lt_tree.specs.Operators.{assignment_of}
 use Rattle.lt_tree.specs.Grammar as g
 use Rattle.lt_tree.specs.Grammar.{Level, IsExpression, IsLiteral}
-use Rattle.lt_tree.specs.Pieces.{Piece, gap, quoted, text_of}
-use Rattle.lt_tree.specs.Canon.{Pieces, sign, name, constant, literal, spaced, comma_gap, gap_if, in_parentheses, prefixed, starts_signed, sign_of_unary, sign_of_binary, sign_of_logical, sign_of_assignment, tightness, tightness_of_logical}
+use Rattle.lt_tree.specs.Pieces.{gap, text_of}
+use Rattle.lt_tree.specs.Canon.{Pieces, sign, name, constant, literal, spaced, gap_if, prefixed, starts_signed, sign_of_unary, sign_of_binary, sign_of_logical, sign_of_assignment, tightness, tightness_of_logical}
 use Rattle.lt_print.proofs.ReadPieces.{Reads, done, a_name, a_constant, a_literal, a_sign, a_gap, parted}
 use Rattle.lt_print.proofs.SignsAgain.{binary_sign, logical_sign, unary_sign}
 use Rattle.lt_print.proofs.LooserLevels.{DerivesAt}

@@ -1,5 +1,5 @@
 -- The words of parameters derive them again, C11 6.7.6.3.
-use Rattle.std.specs.Prelude.{◌≡◌, ℕ, Bool, true, false, List, [], ◌∷◌, ◌++◌, refl}
+use Rattle.std.specs.Prelude.{◌≡◌, ℕ, Bool, true, false, List, [], ◌∷◌, refl}
 use Rattle.lt_tree.specs.declared.terminal.Terminal.TheVariants as k
 use Rattle.lt_tree.specs.Tree as c
 use Rattle.lt_tree.specs.Symbols as s
@@ -8,7 +8,7 @@ use Rattle.lt_tree.specs.Scope.{Scope, after_specifiers, after_parameter}
 use Rattle.lt_tree.specs.Ahead.{either, same_terminal, sees, is_void_alone}
 use Rattle.lt_tree.specs.Grammar as g
 use Rattle.lt_tree.specs.Grammar.{IsParameterList, AreParameters}
-use Rattle.lt_tree.specs.Canon.{Pieces, sign, apart, operand, specifiers, declarator, parameters, parameter_list}
+use Rattle.lt_tree.specs.Canon.{sign, apart, operand, specifiers, declarator, parameter_list}
 use Rattle.lt_print.proofs.ReadPieces.{Reads, done, a_sign, split_comma, Ends, by_parenthesis, by_comma}
 use Rattle.lt_print.proofs.Claims.{ParametersAgain, ParametersFit, AreListed}
 use Rattle.lt_print.proofs.DeclaratorFronts.{declared_again}

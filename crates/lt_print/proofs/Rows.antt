@@ -1,16 +1,15 @@
 -- Lists of parts, as the printer goes over them.
-use Rattle.std.proofs.Common.{◌≡◌, ◌≤◌, ◌<◌, ◌+◌, Bool, true, false, ◌||◌, eqb, ltb, length, get_or, drop, map, List, [], ◌∷◌, ◌++◌, ℕ, if◌then◌else◌, refl, ap, sym, ◌∙◌, append_assoc, arith}
+use Rattle.std.proofs.Common.{◌≡◌, ◌≤◌, ◌<◌, ◌+◌, true, false, length, get_or, drop, map, List, [], ◌∷◌, ◌++◌, ℕ, refl, ap, sym, ◌∙◌, append_assoc}
 use Rattle.std.proofs.lemmas.List.{append-nil, drop_more, drop_all}
 use Rattle.lt_tree.specs.declared.terminal.Terminal.TheVariants as t
 use Rattle.lt_tree.specs.declared.expression.Expr.{Expr}
 use Rattle.lt_tree.specs.declared.specifier.MemberDeclarator.{MemberDeclarator}
 use Rattle.lt_tree.specs.declared.declarator.Parameter.{Parameter}
-use Rattle.lt_tree.specs.Tree as c
 use Rattle.lt_tree.specs.Grammar.{Level}
-use Rattle.lt_tree.specs.Pieces.{Piece, text_of}
+use Rattle.lt_tree.specs.Pieces.{text_of}
 use Rattle.lt_tree.specs.View.{expression_of}
 use Rattle.lt_tree.specs.Records.{expressions_in, maybe_in, member_declarators_in, specifiers_of, declarator_of, parameter_list_in}
-use Rattle.lt_tree.specs.Canon.{Pieces, comma_gap, apart, operand, list, specifiers, declarator, after_sign, member_declarators, member_lines, parameter_list}
+use Rattle.lt_tree.specs.Canon.{Pieces, comma_gap, apart, operand, list, specifiers, declarator, after_sign, member_declarators, parameter_list}
 use Rattle.lt_print.specs.Lists.{separated}
 use Rattle.lt_print.proofs.Texts.{text_append}
 

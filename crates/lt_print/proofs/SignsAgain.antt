@@ -1,5 +1,5 @@
 -- What a sign is written for is read from it.
-use Rattle.std.proofs.Common.{◌≡◌, ◌≤◌, ℕ, Option, Some, refl, ap, ◌∙◌, arith}
+use Rattle.std.proofs.Common.{◌≡◌, ◌≤◌, Option, Some, ap, ◌∙◌, arith}
 use Rattle.lt_model.specs.declared.operator.Op.{Op}
 use Rattle.lt_model.specs.declared.operator.Op.TheVariants as op
 use Rattle.lt_tree.specs.declared.expression.UnaryOp.{UnaryOp}

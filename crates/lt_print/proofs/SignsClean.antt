@@ -1,5 +1,5 @@
 -- Signs stand clear: brackets and separators of all, and the others of spaces, line ends and what stands behind them.
-use Rattle.std.proofs.Common.{◌≡◌, ℕ, Bool, true, false, eqb, List, [], ◌∷◌, ◌++◌, refl, sym, ap, subst, ◌∙◌}
+use Rattle.std.proofs.Common.{◌≡◌, ℕ, Bool, true, false, eqb, List, [], ◌∷◌, refl, sym, ap, ◌∙◌}
 use Rattle.std.specs.Char.{is_ascii_digit}
 use Rattle.std.proofs.lemmas.Bool.{eqb-true, false_from_ne_true}
 use Rattle.lt_token.specs.declared.piece.Class.{Class}
@@ -13,7 +13,6 @@ use Rattle.lt_tree.specs.declared.terminal.Terminal.TheVariants as k
 use Rattle.lt_tree.specs.Symbols.{spelling}
 use Rattle.lt_tree.specs.Canon.{sign_of_unary}
 use Rattle.lt_print.proofs.Cutting.{clash}
-use Rattle.lt_print.proofs.CuttingMarks.{is_clear}
 use Rattle.lt_print.proofs.CuttingConstants.{digit_class}
 use Rattle.lt_print.proofs.Written.{is_letter, is_other}
 use Rattle.lt_print.proofs.Clean.{ends_sign, EndsSign}

@@ -1,5 +1,5 @@
 -- Trees whose names, constants and strings are read as what they stand for, and symbols of which that holds.
-use Rattle.std.specs.Prelude.{◌≡◌, ℕ, Bool, true, false, List, [], ◌∷◌, Option, Some, None}
+use Rattle.std.specs.Prelude.{◌≡◌, ℕ, false, List, [], ◌∷◌, Option, Some, None}
 use Rattle.std.specs.List.{All}
 use Rattle.lt_tree.specs.Tree as c
 use Rattle.lt_tree.specs.Symbols as s

@@ -1,7 +1,7 @@
 -- The symbols of a text's tokens are read as what they stand for.
-use Rattle.std.proofs.Common.{◌≡◌, ℕ, zero, suc, Bool, true, false, cond, List, [], ◌∷◌, ◌++◌, map, Option, Some, None, refl, sym, ap, subst, ◌∙◌, inl, inr}
+use Rattle.std.proofs.Common.{◌≡◌, ℕ, zero, suc, Bool, true, false, List, [], ◌∷◌, ◌++◌, Option, Some, None, refl, sym, ap, subst, ◌∙◌}
 use Rattle.std.specs.Prelude.{if◌then◌else◌, ◌||◌}
-use Rattle.std.specs.List.{All, list_all}
+use Rattle.std.specs.List.{All}
 use Rattle.std.proofs.lemmas.List.Elements.{All-head, All-tail, All-cons, All-nil}
 use Rattle.lt_token.specs.declared.piece.Class.{Class}
 use Rattle.lt_token.specs.declared.piece.Class.TheVariants as class
@@ -22,11 +22,10 @@ use Rattle.lt_token.specs.Tokens as tok
 use Rattle.lt_token.specs.Tokens.{Token, Refusal, Lexes, role_of, role_of_word, opens, depth_after, after_closing, after_group}
 use Rattle.lt_tree.specs.declared.terminal.Terminal.{Terminal}
 use Rattle.lt_tree.specs.declared.terminal.Terminal.TheVariants as k
-use Rattle.lt_tree.specs.Symbols as s
-use Rattle.lt_tree.specs.Symbols.{Symbol, symbol_of, symbols, spelt, named, reserved}
+use Rattle.lt_tree.specs.Symbols.{symbol_of, symbols, spelt, named, reserved}
 use Rattle.lt_print.proofs.Cutting.{clash}
 use Rattle.lt_print.proofs.CuttingQuotes.{IsByte}
-use Rattle.lt_print.proofs.Clean.{IsIdentifier, IsConstant, integer, character}
+use Rattle.lt_print.proofs.Clean.{IsIdentifier, integer, character}
 use Rattle.lt_print.proofs.Spelt.{IsSpelt, AreSpelt}
 
 -- ---- lexemes

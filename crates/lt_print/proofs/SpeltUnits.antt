@@ -1,5 +1,5 @@
 -- What symbols derive of declarations, statements and units is spelt as they are.
-use Rattle.std.specs.Prelude.{◌≡◌, ℕ, Bool, true, false, List, [], ◌∷◌, Option, Some, None}
+use Rattle.std.specs.Prelude.{ℕ, Bool, List, [], ◌∷◌, Option, Some, None}
 use Rattle.lt_tree.specs.Tree as c
 use Rattle.lt_tree.specs.Symbols.{Symbol}
 use Rattle.lt_tree.specs.Scope.{Scope}

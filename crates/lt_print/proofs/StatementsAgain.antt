@@ -1,7 +1,6 @@
 -- The words of statements derive them again, C11 6.8.
 use Rattle.std.specs.Prelude.{◌≡◌, ℕ, suc, Bool, true, false, List, [], ◌∷◌, ◌++◌, Option, Some, None, refl}
 use Rattle.std.specs.List.{flat_map}
-use Rattle.lt_tree.specs.declared.terminal.Terminal.{Terminal}
 use Rattle.lt_tree.specs.declared.terminal.Terminal.TheVariants as k
 use Rattle.lt_tree.specs.Tree as c
 use Rattle.lt_tree.specs.Symbols as s
@@ -18,7 +17,7 @@ use Rattle.lt_tree.specs.CanonUnits.{declaration, optional, for_start, label_lin
 use Rattle.lt_print.proofs.ReadPieces.{Reads, done, a_sign, a_gap, an_indent, a_line_end, off_line_end, off_indent, parted, Split, split, inside}
 use Rattle.lt_print.proofs.Claims.{Stands, Again, MarkAgain}
 use Rattle.lt_print.proofs.DeclarationsAgain.{DeclarationAgain}
-use Rattle.lt_print.proofs.Labels.{declaration_front, statement_front, mark_front, items_front, cases_front}
+use Rattle.lt_print.proofs.Labels.{statement_front, items_front, cases_front}
 
 -- ---- what is shown
 

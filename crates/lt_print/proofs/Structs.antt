@@ -1,5 +1,5 @@
 -- Structs that lie in a tree, by their fields.
-use Rattle.std.proofs.Common.{◌≡◌, refl, sym, ap, ◌∙◌}
+use Rattle.std.proofs.Common.{◌≡◌, sym, ap, ◌∙◌}
 use Rattle.lt_tree.specs.declared.mark.Mark.{Mark, out-Mark}
 use Rattle.lt_tree.specs.declared.specifier.Member.{Member, out-Member}
 use Rattle.lt_tree.specs.declared.declarator.DeclaratorPart.TheBlock as at

@@ -1,19 +1,18 @@
 -- The words of structs and enums derive them again, C11 6.7.2.1 and 6.7.2.2.
-use Rattle.std.specs.Prelude.{◌≡◌, ℕ, suc, Bool, true, false, List, [], ◌∷◌, ◌++◌, Option, Some, None, refl}
-use Rattle.std.proofs.Common.{subst}
+use Rattle.std.specs.Prelude.{◌≡◌, ℕ, suc, false, List, [], ◌∷◌, ◌++◌, Option, Some, None, refl}
 use Rattle.lt_tree.specs.declared.terminal.Terminal.{Terminal}
 use Rattle.lt_tree.specs.declared.terminal.Terminal.TheVariants as k
 use Rattle.lt_tree.specs.Tree as c
 use Rattle.lt_tree.specs.Symbols as s
 use Rattle.lt_tree.specs.Symbols.{Symbol}
 use Rattle.lt_tree.specs.Scope.{Scope}
-use Rattle.lt_tree.specs.Ahead.{Naming, naming_behind, takes_none, same_terminal, sees}
+use Rattle.lt_tree.specs.Ahead.{Naming, naming_behind, same_terminal}
 use Rattle.lt_tree.specs.Grammar as g
 use Rattle.lt_tree.specs.Grammar.{IsDeclarator, AreMembers, AreMemberDeclarators, IsAfterSign, AreEnumerators, IsTagged}
-use Rattle.lt_tree.specs.Canon.{Pieces, sign, name, comma_gap, apart, operand, specifiers, type_specifier, member_lines, member_declarators, enumerator_lines, after_sign, declarator}
+use Rattle.lt_tree.specs.Canon.{Pieces, sign, apart, operand, specifiers, member_lines, member_declarators, enumerator_lines, after_sign, declarator}
 use Rattle.lt_tree.specs.Pieces.{indent, line_end}
 use Rattle.lt_print.proofs.ReadPieces.{Reads, done, a_name, a_sign, a_gap, an_indent, a_line_end, off_line_end, parted, parted_apart, split, split_comma, Ends, by_comma, by_semicolon, by_colon}
-use Rattle.lt_print.proofs.Claims.{MaybeStands, names_type, DeclaratorFits, TaggedAgain, MemberDeclaratorsFit, MembersFit, EnumeratorsFit, AreEnumerated, IsClear}
+use Rattle.lt_print.proofs.Claims.{MaybeStands, names_type, DeclaratorFits, TaggedAgain, MemberDeclaratorsFit, MembersFit, EnumeratorsFit, AreEnumerated}
 use Rattle.lt_print.proofs.DeclaratorsAgain.{declarator_again}
 use Rattle.lt_print.proofs.DeclaratorFronts.{Clear, front_clear, behind_clear, behind_bare}
 

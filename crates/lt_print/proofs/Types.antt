@@ -1,5 +1,5 @@
 -- Specifiers, members and type names behind what was written.
-use Rattle.std.proofs.Common.{◌≡◌, ◌<◌, ◌+◌, suc, Bool, true, false, not, ◌||◌, ◌&&◌, eqb, ltb, length, get_or, drop, arith, List, [], ◌∷◌, ◌++◌, ℕ, Option, Some, None, is_some, refl, ap, sym, ◌∙◌, append_assoc}
+use Rattle.std.proofs.Common.{◌≡◌, suc, Bool, true, false, not, ◌||◌, ◌&&◌, eqb, length, get_or, arith, List, [], ◌∷◌, ◌++◌, ℕ, Option, Some, None, is_some, refl, ap, sym, ◌∙◌, append_assoc}
 use Rattle.std.proofs.lemmas.List.{append-nil}
 use Rattle.std.proofs.lemmas.Bool.{ne_eqb}
 use Rattle.lt_tree.specs.declared.terminal.Terminal.{Terminal}
@@ -10,7 +10,7 @@ use Rattle.lt_tree.specs.Tree as t
 use Rattle.lt_tree.specs.Pieces.{Piece, gap, indent, line_end, text_of}
 use Rattle.lt_tree.specs.View.{type_of}
 use Rattle.lt_tree.specs.Records.{types_in, maybe_in, declarator_of, member_declarators_in}
-use Rattle.lt_tree.specs.Canon.{Pieces, sign, apart, gap_if, word_if, in_parentheses, name_behind, declarator, specifiers, after_sign, member_lines, member_declarators, type_specifier, type_specifiers}
+use Rattle.lt_tree.specs.Canon.{Pieces, sign, apart, gap_if, name_behind, declarator, specifiers, after_sign, member_lines, member_declarators, type_specifier, type_specifiers}
 use Rattle.lt_print.specs.Lists.{stands, behind}
 use Rattle.lt_print.specs.Declarators.{is_written}
 use Rattle.lt_print.specs.Members.{declarators_stand}

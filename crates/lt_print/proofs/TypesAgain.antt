@@ -1,15 +1,13 @@
 -- The words of specifiers derive them again.
-use Rattle.std.proofs.Common.{◌≡◌, ℕ, Bool, true, false, List, [], ◌∷◌, ◌++◌, Option, Some, None, refl, sym, ap, subst, ◌∙◌, inl, inr}
+use Rattle.std.proofs.Common.{◌≡◌, ℕ, Bool, true, false, List, [], ◌∷◌, Option, Some, None, refl, ap, subst, ◌∙◌, inl, inr}
 use Rattle.std.specs.Prelude.{◌⊎◌, map, option_and_then, option_map}
 use Rattle.lt_tree.specs.declared.specifier.Storage.{Storage}
 use Rattle.lt_tree.specs.declared.specifier.BasicType.{BasicType}
 use Rattle.lt_tree.specs.declared.specifier.TypeWord.{TypeWord}
 use Rattle.lt_tree.specs.declared.specifier.TypeWord.TheVariants as w
-use Rattle.lt_tree.specs.declared.specifier.Storage.TheVariants as storage
 use Rattle.lt_tree.specs.declared.terminal.Terminal.{Terminal}
 use Rattle.lt_tree.specs.declared.terminal.Terminal.TheVariants as k
 use Rattle.lt_tree.specs.Tree as c
-use Rattle.lt_tree.specs.Symbols as s
 use Rattle.lt_tree.specs.Symbols.{Symbol}
 use Rattle.lt_tree.specs.TypeWords.{spellings, all_words, same_word, basic_of, words_alone, or_as_they_stand, gathered}
 use Rattle.lt_tree.specs.Scope.{Scope, is_type}
@@ -17,10 +15,10 @@ use Rattle.lt_tree.specs.Operators.{storage_of, type_word_of}
 use Rattle.lt_tree.specs.Ahead.{same_terminal, sees, begins_specifier, is_specifier_word}
 use Rattle.lt_tree.specs.Grammar as g
 use Rattle.lt_tree.specs.Grammar.{AreSpecifiers, AreFurther, IsTagged, no_words}
-use Rattle.lt_tree.specs.Canon.{Pieces, sign, name, apart, word_if, signs_apart, qualifiers_pieces, words_pieces, sign_of_storage, sign_of_word, words_of, operand, specifiers, type_specifiers, type_specifier}
+use Rattle.lt_tree.specs.Canon.{Pieces, sign, name, apart, word_if, signs_apart, qualifiers_pieces, words_pieces, sign_of_storage, sign_of_word, words_of, operand, type_specifiers, type_specifier}
 use Rattle.lt_print.proofs.ReadPieces.{Reads, done, a_name, a_sign, a_gap, parted_apart}
 use Rattle.lt_print.proofs.SignsAgain.{storage_sign, word_sign, basic_again}
-use Rattle.lt_print.proofs.Claims.{is_typed, names_type, TypeFits, TypesFit, TaggedAgain, SpecifiersAgain}
+use Rattle.lt_print.proofs.Claims.{is_typed, TypeFits, TypesFit, TaggedAgain, SpecifiersAgain}
 
 -- ---- words that are no types
 
@@ -252,7 +250,7 @@ as_one scope words type n ts rest more none brace r =
     let p = parted_apart (words_pieces words) (signs_apart (map sign_of_word (words_of type))) r in
     let back = subst (λ (ps : Pieces). Reads ps p.between rest) (words_written n (words_of type)) p.back in
     let got = types_again false n (as_types (words_of type)) (words_fit scope false (words_of type)) p.between rest more
-        (ap (λ (b : Bool). begins_specifier scope b rest) (behind_basic type) ∙ none) brace back in
+    (ap (λ (b : Bool). begins_specifier scope b rest) (behind_basic type) ∙ none) brace back in
     let some : AreSome words (as_types (words_of type)) = λ e f. (let x = ap (typed_behind false) f in let y = behind_basic type in cc) in
     (got.spots, subst (λ (t : c.TypeSpecifiers). AreSpecifiers scope ts (c.specifiers words t) rest got.spots more) (gathered_again type) (derived_some some (words_again words p.front got.derived)))
 

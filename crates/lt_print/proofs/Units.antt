@@ -1,5 +1,5 @@
 -- Declarations, statements and units behind what was written.
-use Rattle.std.proofs.Common.{◌≡◌, suc, Bool, true, false, not, ◌||◌, ◌&&◌, eqb, length, get_or, cond, if◌then◌else◌, List, [], ◌∷◌, ◌++◌, ℕ, map, Option, Some, None, is_some, option_map, refl, ap, sym, ◌∙◌, append_assoc, arith}
+use Rattle.std.proofs.Common.{◌≡◌, suc, Bool, true, false, not, ◌||◌, ◌&&◌, eqb, length, get_or, if◌then◌else◌, List, [], ◌∷◌, ◌++◌, ℕ, map, Option, Some, None, is_some, option_map, refl, ap, sym, ◌∙◌, append_assoc, arith}
 use Rattle.std.proofs.lemmas.List.{append-nil}
 use Rattle.std.proofs.lemmas.Bool.{ne_eqb}
 use Rattle.std.specs.Global.{Box, Vec}
@@ -15,11 +15,11 @@ use Rattle.lt_tree.specs.declared.statement.Item.{Item}
 use Rattle.lt_tree.specs.declared.statement.Item.TheBlock as at
 use Rattle.lt_tree.specs.declared.statement.SwitchCase.{SwitchCase}
 use Rattle.lt_tree.specs.Tree as t
-use Rattle.lt_tree.specs.Pieces.{Piece, gap, indent, line_end, text_of}
+use Rattle.lt_tree.specs.Pieces.{gap, indent, line_end, text_of}
 use Rattle.lt_tree.specs.View.{expression_of}
 use Rattle.lt_tree.specs.Records.{declarator_of}
 use Rattle.lt_tree.specs.UnitView.{initialiser_of, initialisers_in, init_declarator_of, label_of, statement_of, item_before, items_in, cases_in}
-use Rattle.lt_tree.specs.Canon.{Pieces, sign, apart, gap_if, spaced, comma_gap, in_parentheses, declarator, specifiers, expression}
+use Rattle.lt_tree.specs.Canon.{Pieces, sign, gap_if, spaced, comma_gap, in_parentheses, declarator, specifiers, expression}
 use Rattle.lt_tree.specs.CanonUnits.{initialiser, initialisers, init_declarator, init_declarators, declaration, label_line, lines, item_lines, case_lines}
 use Rattle.lt_tree.proofs.UnitRows as rows
 use Rattle.lt_print.specs.Lists.{stands, behind, separated}

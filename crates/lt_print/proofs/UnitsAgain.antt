@@ -1,21 +1,20 @@
 -- Of declarations, statements and units that symbols derive: the words of their canonical text derive them again, rule by rule of the grammar.
-use Rattle.std.proofs.Common.{◌≡◌, ℕ, Bool, true, false, List, [], ◌∷◌, ◌++◌, Option, Some, None, refl, sym, subst}
+use Rattle.std.proofs.Common.{◌≡◌, ℕ, Bool, true, false, List, [], ◌∷◌, ◌++◌, Option, refl, sym, subst}
 use Rattle.std.specs.List.{flat_map}
 use Rattle.lt_tree.specs.declared.terminal.Terminal.TheVariants as k
 use Rattle.lt_tree.specs.Tree as c
 use Rattle.lt_tree.specs.Symbols as s
 use Rattle.lt_tree.specs.Symbols.{Symbol}
-use Rattle.lt_tree.specs.Scope.{Scope, after_specifiers, after_declaration, after_external, in_body, makes_types}
+use Rattle.lt_tree.specs.Scope.{Scope, after_specifiers, after_declaration, after_external, in_body}
 use Rattle.lt_tree.specs.Ahead.{Naming, naming_behind, takes_none, same_terminal, sees}
-use Rattle.lt_tree.specs.Grammar.{AreSpecifiers, IsDeclarator}
 use Rattle.lt_tree.specs.Declarations as d
 use Rattle.lt_tree.specs.Statements as st
 use Rattle.lt_tree.specs.Units as u
 use Rattle.lt_tree.specs.Units.{AreExternals}
-use Rattle.lt_tree.specs.Pieces.{gap, indent, line_end}
-use Rattle.lt_tree.specs.Canon.{Pieces, sign, apart, specifiers, declarator}
+use Rattle.lt_tree.specs.Pieces.{gap, line_end}
+use Rattle.lt_tree.specs.Canon.{sign, apart, specifiers, declarator}
 use Rattle.lt_tree.specs.CanonUnits.{declaration, item_lines, external}
-use Rattle.lt_print.proofs.ReadPieces.{Reads, done, a_sign, a_gap, a_line_end, off_line_end, parted, by_brace}
+use Rattle.lt_print.proofs.ReadPieces.{Reads, done, a_sign, a_gap, a_line_end, parted, by_brace}
 use Rattle.lt_print.proofs.Claims.{SpecifiersAgain, DeclaratorFits}
 use Rattle.lt_print.proofs.DeclaratorFronts.{declared_again, behind_clear_after, behind_is_named}
 use Rattle.lt_print.proofs.DeclarationsAgain as ds

@@ -1,5 +1,5 @@
 -- A list of parameters that is `void` alone is so as a tree, and the other way round.
-use Rattle.std.proofs.Common.{◌≡◌, ◌≤◌, ◌<◌, ℕ, ◌+◌, Bool, cond, true, false, not, List, [], ◌∷◌, Option, Some, None, refl, sym, ap, subst, ◌∙◌, inl, inr, arith}
+use Rattle.std.proofs.Common.{◌≡◌, ◌≤◌, ◌<◌, ℕ, ◌+◌, Bool, cond, true, false, not, List, [], ◌∷◌, Option, Some, None, refl, ap, ◌∙◌, inl, inr, arith}
 use Rattle.std.specs.Prelude.{◌⊎◌, option_and_then, option_map, if◌then◌else◌, ◌==◌}
 use Rattle.std.specs.List.{list_all, fold}
 use Rattle.std.proofs.lemmas.Bool.{and_parts, eqb-true}
@@ -7,17 +7,9 @@ use Rattle.lt_tree.specs.declared.specifier.BasicType.{BasicType}
 use Rattle.lt_tree.specs.declared.specifier.BasicType.TheVariants as basic
 use Rattle.lt_tree.specs.declared.specifier.TypeWord.{TypeWord}
 use Rattle.lt_tree.specs.declared.specifier.TypeWord.TheVariants as w
-use Rattle.lt_tree.specs.declared.terminal.Terminal.{Terminal}
-use Rattle.lt_tree.specs.declared.terminal.Terminal.TheVariants as k
 use Rattle.lt_tree.specs.Tree as c
-use Rattle.lt_tree.specs.Symbols as s
-use Rattle.lt_tree.specs.Symbols.{Symbol}
 use Rattle.lt_tree.specs.TypeWords.{Spelling, by, spellings, all_words, same_word, occurrences, same_words, named_among, basic_of, words_alone, or_as_they_stand, gathered}
-use Rattle.lt_tree.specs.Scope.{Scope}
-use Rattle.lt_tree.specs.Operators.{type_word_of}
-use Rattle.lt_tree.specs.Ahead.{Naming, same_terminal, terminal_at, sees, is_void_alone}
-use Rattle.lt_tree.specs.Grammar as g
-use Rattle.lt_tree.specs.Grammar.{IsParameterList, AreSpecifiers, AreFurther, IsTagged, IsDeclarator, ArePointers, IsDirect, AreSuffixes, no_words, is_missing}
+use Rattle.lt_tree.specs.Grammar.{no_words}
 use Rattle.lt_print.proofs.TypesAgain.{as_types}
 
 abbrev pub void_specifiers : c.Specifiers

@@ -1,6 +1,5 @@
 -- A list of parameters that is `void` alone is so in its symbols and as a tree.
-use Rattle.std.proofs.Common.{◌≡◌, ℕ, Bool, true, false, List, [], ◌∷◌, Option, Some, None, refl, sym, ap, subst, ◌∙◌, inl, inr}
-use Rattle.std.specs.Prelude.{◌⊎◌}
+use Rattle.std.proofs.Common.{◌≡◌, ℕ, Bool, true, false, List, ◌∷◌, Option, Some, None, refl, sym, ap, subst, ◌∙◌, inl, inr}
 use Rattle.lt_tree.specs.declared.specifier.BasicType.{BasicType}
 use Rattle.lt_tree.specs.declared.specifier.BasicType.TheVariants as basic
 use Rattle.lt_tree.specs.declared.specifier.TypeWord.{TypeWord}
@@ -12,7 +11,7 @@ use Rattle.lt_tree.specs.Symbols as s
 use Rattle.lt_tree.specs.Symbols.{Symbol}
 use Rattle.lt_tree.specs.TypeWords.{spellings, all_words, same_word, gathered}
 use Rattle.lt_tree.specs.Scope.{Scope, after_specifiers}
-use Rattle.lt_tree.specs.Operators.{storage_of, type_word_of}
+use Rattle.lt_tree.specs.Operators.{type_word_of}
 use Rattle.lt_tree.specs.Ahead.{Naming, either, same_terminal, terminal_at, sees, is_void_alone}
 use Rattle.lt_tree.specs.Grammar as g
 use Rattle.lt_tree.specs.Grammar.{IsParameterList, AreSpecifiers, AreFurther, IsTagged, IsDeclarator, IsDirect, AreSuffixes, no_words, is_missing}

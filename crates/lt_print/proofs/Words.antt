@@ -3,7 +3,7 @@ use Rattle.std.proofs.Common.{◌≡◌, Bool, true, false, ◌||◌, ◌+◌, �
 use Rattle.std.proofs.lemmas.List.{append-nil, drop_more, drop_all}
 use Rattle.std.proofs.lemmas.Bool.{lt-ltb, ne_eqb}
 use Rattle.lt_tree.specs.declared.terminal.Terminal.{Terminal}
-use Rattle.lt_tree.specs.Pieces.{Piece, text_of}
+use Rattle.lt_tree.specs.Pieces.{text_of}
 use Rattle.lt_tree.specs.Canon.{Pieces, sign, apart, gap_if, word_if, signs_apart}
 use Rattle.lt_print.specs.Lists.{stands, behind}
 use Rattle.lt_print.proofs.Lists.{behind_apart}

@@ -1,5 +1,5 @@
 -- Each terminal but the one for what is none is written as a punctuator, a keyword or the name of a mark, and read back.
-use Rattle.std.specs.Prelude.{◌≡◌, ℕ, Bool, true, false, refl, List, [], ◌∷◌, if◌then◌else◌}
+use Rattle.std.specs.Prelude.{◌≡◌, ℕ, Bool, true, false, refl, List, [], ◌∷◌}
 use Rattle.lt_token.specs.declared.piece.Class.{Class}
 use Rattle.lt_token.specs.declared.piece.Class.TheVariants as class
 use Rattle.lt_token.specs.declared.piece.Form.TheVariants as form

@@ -1,5 +1,5 @@
 -- A declarator's text from left to right: what stands before the name, the name, and what stands behind it.
-use Rattle.std.specs.Prelude.{ℕ, Bool, true, false, ◌&&◌, List, [], ◌∷◌, ◌++◌, Option, Some, None}
+use Rattle.std.specs.Prelude.{ℕ, Bool, true, false, ◌&&◌, [], ◌∷◌, ◌++◌, Some, None}
 use Rattle.lt_tree.specs.declared.terminal.Terminal.TheVariants as t
 use Rattle.lt_tree.specs.Tree as c
 use Rattle.lt_tree.specs.Canon.{Pieces, sign, gap_if, word_if, in_parentheses, qualifiers_pieces, maybe, parameters}

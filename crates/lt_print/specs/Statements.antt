@@ -1,5 +1,5 @@
 -- Parts of declarations and statements.
-use Rattle.std.specs.Prelude.{ℕ, suc, Bool, true, false, ◌||◌, if◌then◌else◌, List, [], ◌∷◌, ◌++◌, Option, Some, None, is_some}
+use Rattle.std.specs.Prelude.{ℕ, suc, Bool, true, false, ◌||◌, List, [], ◌∷◌, ◌++◌, Option, Some, None, is_some}
 use Rattle.std.specs.Global.{Box}
 use Rattle.lt_tree.specs.declared.statement.Stmt.{Stmt}
 use Rattle.lt_tree.specs.declared.terminal.Terminal.TheVariants as t

@@ -1,6 +1,5 @@
-use Rattle.std.proofs.Common.{◌≡◌, ◌+◌, ◌++◌, ◌∷◌, ◌||◌, ◌&&◌, not, if◌then◌else◌, [], ℕ, List, Bool, true, false, eqb, ltb, map, drop, length, refl, ap, sym, ◌∙◌, append_assoc, arith}
+use Rattle.std.proofs.Common.{◌≡◌, ◌+◌, ◌++◌, ◌∷◌, ◌||◌, ◌&&◌, not, if◌then◌else◌, [], ℕ, List, Bool, true, eqb, ltb, map, drop, refl, ap, sym, ◌∙◌, arith}
 use Rattle.std.proofs.lemmas.List.{append-nil}
-use Rattle.std.proofs.lemmas.Bool.{lt-ltb}
 use Rattle.lt_tree.specs.declared.terminal.Terminal.TheVariants as k
 use Rattle.lt_tree.specs.declared.expression.Expr.{Expr}
 use Rattle.lt_tree.specs.declared.mark.Mark.{Mark, out-Mark}
@@ -13,7 +12,7 @@ use Rattle.lt_tree.specs.declared.declarator.DeclaratorPart.{DeclaratorPart}
 use Rattle.lt_tree.specs.declared.declarator.Parameter.{Parameter}
 use Rattle.lt_tree.specs.Tree as tree
 use Rattle.lt_tree.specs.Pieces.{text_of, indent, line_end}
-use Rattle.lt_tree.specs.View.{words_of, expression_of, type_of, mark_of, member_of, parameters_of, part_before}
+use Rattle.lt_tree.specs.View.{words_of, expression_of, type_of, parameters_of, part_before}
 use Rattle.lt_tree.specs.Records.{expressions_in, marks_in, bindings_in, types_in, members_in, enumerators_in, parts_in, parameter_list_in, specifiers_of, declarator_of, member_declarators_in}
 use Rattle.lt_tree.specs.Canon.{Pieces, apart, words_pieces, name_behind, mark, member_declarators, operand, expression, comma_gap, marks_pieces, bindings, member_lines, enumerator_lines, type_specifier, type_specifiers, parameters, sign, word_if, gap_if}
 use Rattle.lt_tree.proofs.Rows.{sizeof_is, cast_is}

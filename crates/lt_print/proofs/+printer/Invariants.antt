@@ -1,10 +1,5 @@
 use Rattle.std.proofs.Common.{◌≡◌, ◌++◌, ◌||◌, drop, map, eqb, ltb, false}
-use Rattle.lt_tree.specs.declared.terminal.Terminal.TheVariants as t
-use Rattle.lt_tree.specs.declared.expression.Expr.{Expr}
-use Rattle.lt_tree.specs.declared.specifier.MemberDeclarator.{MemberDeclarator}
-use Rattle.lt_tree.specs.declared.declarator.Parameter.{Parameter}
 use Rattle.lt_tree.specs.Pieces.{text_of}
-use Rattle.lt_tree.specs.View.{expression_of}
 use Rattle.lt_tree.specs.Records.{expressions_in, marks_in, bindings_in, types_in, members_in, member_declarators_in, enumerators_in, parts_in, parameter_list_in}
 use Rattle.lt_tree.specs.Canon.{comma_gap, list, marks_pieces, bindings, type_specifiers, member_lines, member_declarators, enumerator_lines, parameter_list}
 use Rattle.lt_print.specs.Lists.{separated, behind}

@@ -1,4 +1,4 @@
-use Rattle.std.proofs.Common.{[], ◌∷◌, ◌++◌, true, false, subst, sym}
+use Rattle.std.proofs.Common.{[], true, false}
 use Rattle.std.proofs.Common.{None}
 use Rattle.lt_tree.specs.Symbols.{symbols}
 use Rattle.lt_tree.specs.CanonUnits.{pieces}

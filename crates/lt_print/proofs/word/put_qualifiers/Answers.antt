@@ -1,5 +1,5 @@
 use Rattle.lt_tree.specs.Canon.{word_if}
-use Rattle.std.proofs.Common.{Bool, refl, ◌∙◌, ap, sym, ◌||◌}
+use Rattle.std.proofs.Common.{Bool, ◌∙◌, ap, sym, ◌||◌}
 use Rattle.lt_tree.specs.declared.terminal.Terminal.TheVariants as t
 use Rattle.lt_print.proofs.Words.{behind_two, stands_word}
 use Rattle.lt_print.proofs.word.put_qualifiers.Goals as goal

@@ -2,7 +2,7 @@ use Rattle.std.proofs.Common.{refl, ap, ◌∙◌, ◌++◌, ◌∷◌, [], arit
 use Rattle.lt_tree.specs.declared.terminal.Terminal.{Terminal}
 use Rattle.lt_tree.specs.Pieces.{text_of}
 use Rattle.lt_tree.specs.Canon.{sign, sign_of_word}
-use Rattle.lt_print.proofs.Words.{one_word, words_end, signs_stand}
+use Rattle.lt_print.proofs.Words.{one_word, words_end}
 use Rattle.lt_print.proofs.word.put_type_words.Goals as goal
 
 pub loop-at-preserved : goal.loop-at-preserved

@@ -1,7 +1,7 @@
-use Rattle.std.proofs.Common.{◌||◌, map, false}
+use Rattle.std.proofs.Common.{map}
 use Rattle.lt_tree.specs.declared.terminal.Terminal.TheVariants as t
 use Rattle.lt_tree.specs.View.{qualifiers_of}
-use Rattle.lt_tree.specs.Canon.{word_if, sign_of_storage, signs_apart, qualifiers_pieces}
+use Rattle.lt_tree.specs.Canon.{sign_of_storage, signs_apart, qualifiers_pieces}
 use Rattle.lt_print.proofs.Words.{four_words}
 use Rattle.lt_print.proofs.word.put_words.Goals as goal
 
