@@ -94,48 +94,48 @@ read_as {w} {ps} x y {us} {rest} e = subst (λ (z : Symbol). Reads (word w ∷ p
 
 cut_name : (w t : List ℕ) (fresh trails : Bool) → IsIdentifier w → EndsWord t → Cut (p.name w) t fresh trails
 cut_name w t fresh trails good ends = record {
-    piece_form = form.Word;
-    piece_sort = sort.Word;
-    token_kind = kind.Identifier;
-    long = word_longest fresh w t (good.is_word fresh) ends;
-    sort_is = refl;
-    role_is = good.is_name trails;
-    reads = λ at ps us rest r. read_as (s.name w at) (named (spelt reserved w) (record { kind = kind.Identifier; text = w; at = at }))
-        (ap (λ (x : Terminal). named x (record { kind = kind.Identifier; text = w; at = at })) (sym good.unreserved)) (a_name r);
-  }
+  piece_form = form.Word;
+  piece_sort = sort.Word;
+  token_kind = kind.Identifier;
+  long = word_longest fresh w t (good.is_word fresh) ends;
+  sort_is = refl;
+  role_is = good.is_name trails;
+  reads = λ at ps us rest r. read_as (s.name w at) (named (spelt reserved w) (record { kind = kind.Identifier; text = w; at = at }))
+      (ap (λ (x : Terminal). named x (record { kind = kind.Identifier; text = w; at = at })) (sym good.unreserved)) (a_name r);
+}
 
 cut_integer : (w t : List ℕ) (fresh trails : Bool) → ((fresh : Bool) → is_piece fresh form.Number w ≡ true) → lex.is_integer w ≡ true → IfDigit (begins_digit w) t → Cut (p.constant w) t fresh trails
 cut_integer w t fresh trails is i ends = record {
-    piece_form = form.Number;
-    piece_sort = sort.Integer;
-    token_kind = kind.Integer;
-    long = integer_longest fresh w t (is fresh) i (subst (λ (b : Bool). IfDigit b t) (integer_begins fresh w (is fresh) i) ends);
-    sort_is = ap (λ (b : Bool). Some (if b then sort.Integer else (if lex.is_floating w then sort.Foreign else sort.Malformed))) i;
-    role_is = refl;
-    reads = λ at ps us rest r. a_constant r;
-  }
+  piece_form = form.Number;
+  piece_sort = sort.Integer;
+  token_kind = kind.Integer;
+  long = integer_longest fresh w t (is fresh) i (subst (λ (b : Bool). IfDigit b t) (integer_begins fresh w (is fresh) i) ends);
+  sort_is = ap (λ (b : Bool). Some (if b then sort.Integer else (if lex.is_floating w then sort.Foreign else sort.Malformed))) i;
+  role_is = refl;
+  reads = λ at ps us rest r. a_constant r;
+}
 
 cut_character : (w t : List ℕ) (fresh trails : Bool) → ((fresh : Bool) → is_piece fresh form.Character w ≡ true) → Cut (p.constant w) t fresh trails
 cut_character w t fresh trails is = record {
-    piece_form = form.Character;
-    piece_sort = sort.Character;
-    token_kind = kind.Character;
-    long = character_longest fresh w t (is fresh);
-    sort_is = refl;
-    role_is = refl;
-    reads = λ at ps us rest r. a_constant r;
-  }
+  piece_form = form.Character;
+  piece_sort = sort.Character;
+  token_kind = kind.Character;
+  long = character_longest fresh w t (is fresh);
+  sort_is = refl;
+  role_is = refl;
+  reads = λ at ps us rest r. a_constant r;
+}
 
 cut_literal : (bytes t : List ℕ) (fresh trails : Bool) → All IsByte bytes → Cut (p.literal bytes) t fresh trails
 cut_literal bytes t fresh trails good = record {
-    piece_form = form.Text;
-    piece_sort = sort.Text;
-    token_kind = kind.Text;
-    long = string_longest fresh bytes t good;
-    sort_is = string_sort bytes good;
-    role_is = refl;
-    reads = λ at ps us rest r. a_literal (read_back bytes good) r;
-  }
+  piece_form = form.Text;
+  piece_sort = sort.Text;
+  token_kind = kind.Text;
+  long = string_longest fresh bytes t good;
+  sort_is = string_sort bytes good;
+  role_is = refl;
+  reads = λ at ps us rest r. a_literal (read_back bytes good) r;
+}
 
 ends_mark : (w t : List ℕ) → begins_word w ≡ false → EndsSign w t → IsClearOf w t
 ends_mark w [] e h = tt
@@ -147,32 +147,32 @@ ends_keyword w (b ∷ t) e h = ap (λ (v : Bool). if v then ends_word (class_of 
 
 cut_sign : (x : Terminal) (t : List ℕ) (fresh trails : Bool) → IsWritten x → EndsSign (spelling x) t → Cut (p.sign x) t fresh trails
 cut_sign x t fresh trails (a_punctuator b is back) ends = record {
-    piece_form = form.Punctuator;
-    piece_sort = sort.Punctuator;
-    token_kind = kind.Punctuator;
-    long = mark_longest fresh (spelling x) t is (ends_mark (spelling x) t b ends);
-    sort_is = refl;
-    role_is = refl;
-    reads = λ at ps us rest r. read_as (s.sign x at) (s.sign (spelt punctuators (spelling x)) at) (ap (λ (y : Terminal). s.sign y at) (sym back)) (a_sign r);
-  }
+  piece_form = form.Punctuator;
+  piece_sort = sort.Punctuator;
+  token_kind = kind.Punctuator;
+  long = mark_longest fresh (spelling x) t is (ends_mark (spelling x) t b ends);
+  sort_is = refl;
+  role_is = refl;
+  reads = λ at ps us rest r. read_as (s.sign x at) (s.sign (spelt punctuators (spelling x)) at) (ap (λ (y : Terminal). s.sign y at) (sym back)) (a_sign r);
+}
 cut_sign x t fresh trails (a_keyword b is role back) ends = record {
-    piece_form = form.Word;
-    piece_sort = sort.Word;
-    token_kind = kind.Keyword;
-    long = word_longest fresh (spelling x) t (is fresh) (ends_keyword (spelling x) t b ends);
-    sort_is = refl;
-    role_is = role trails;
-    reads = λ at ps us rest r. read_as (s.sign x at) (s.sign (spelt keywords (word_of (spelling x))) at) (ap (λ (y : Terminal). s.sign y at) (sym back)) (a_sign r);
-  }
+  piece_form = form.Word;
+  piece_sort = sort.Word;
+  token_kind = kind.Keyword;
+  long = word_longest fresh (spelling x) t (is fresh) (ends_keyword (spelling x) t b ends);
+  sort_is = refl;
+  role_is = role trails;
+  reads = λ at ps us rest r. read_as (s.sign x at) (s.sign (spelt keywords (word_of (spelling x))) at) (ap (λ (y : Terminal). s.sign y at) (sym back)) (a_sign r);
+}
 cut_sign x t fresh trails (a_mark_name b is role back) ends = record {
-    piece_form = form.Word;
-    piece_sort = sort.Word;
-    token_kind = kind.Identifier;
-    long = word_longest fresh (spelling x) t (is fresh) (ends_keyword (spelling x) t b ends);
-    sort_is = refl;
-    role_is = role trails;
-    reads = λ at ps us rest r. read_as (s.sign x at) (named (spelt reserved (spelling x)) (record { kind = kind.Identifier; text = spelling x; at = at })) (sym (back (record { kind = kind.Identifier; text = spelling x; at = at }))) (a_sign r);
-  }
+  piece_form = form.Word;
+  piece_sort = sort.Word;
+  token_kind = kind.Identifier;
+  long = word_longest fresh (spelling x) t (is fresh) (ends_keyword (spelling x) t b ends);
+  sort_is = refl;
+  role_is = role trails;
+  reads = λ at ps us rest r. read_as (s.sign x at) (named (spelt reserved (spelling x)) (record { kind = kind.Identifier; text = spelling x; at = at })) (sym (back (record { kind = kind.Identifier; text = spelling x; at = at }))) (a_sign r);
+}
 
 cut_word : (w : Word) (t : List ℕ) (fresh trails : Bool) → IsGood w → Ends w t → Cut w t fresh trails
 cut_word (p.name w) t fresh trails good ends = cut_name w t fresh trails good ends

@@ -155,9 +155,10 @@ pointing_inner q a h t soft =
 
 pub indexed_inner : (a b : Pieces) → Inner a → Runs b → Inner (a ++ sign k.OpenIndex ∷ b ++ sign k.CloseIndex ∷ [])
 unfolding text_of
-indexed_inner a b h rb t soft =
-    (f.index_clean a b t (λ u s. (h u s).0) rb,
-    no_equal_append (a ++ sign k.OpenIndex ∷ b) (sign k.CloseIndex ∷ []) t (no_equal_append a (sign k.OpenIndex ∷ b) (93 ∷ t) (h (91 ∷ (text_of b ++ 93 ∷ t)) refl).1))
+indexed_inner a b h rb t soft = (
+  f.index_clean a b t (λ u s. (h u s).0) rb,
+  no_equal_append (a ++ sign k.OpenIndex ∷ b) (sign k.CloseIndex ∷ []) t (no_equal_append a (sign k.OpenIndex ∷ b) (93 ∷ t) (h (91 ∷ (text_of b ++ 93 ∷ t)) refl).1),
+)
 
 pub applied_inner : (a b : Pieces) → Inner a → Runs b → Inner (a ++ in_parentheses b)
 unfolding text_of
@@ -180,4 +181,3 @@ behind_name (Some w) good x other e t soft = (other, space_ends x ((w ++ []) ++ 
 -- lines in braces
 pub braced_clean : (n : ℕ) (a : Pieces) (t : List ℕ) → ((u : List ℕ) → Clean a u) → Clean (sign k.OpenBrace ∷ line_end ∷ a ++ indent n ∷ sign k.CloseBrace ∷ []) t
 braced_clean n a t h = closed_cons k.OpenBrace (line_end ∷ a ++ indent n ∷ sign k.CloseBrace ∷ []) t refl (clean_append a (indent n ∷ sign k.CloseBrace ∷ []) t (h _) (closed_cons k.CloseBrace [] t refl tt))
-

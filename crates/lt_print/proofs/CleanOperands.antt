@@ -167,7 +167,7 @@ decide_clean a yes_id no_id tag t runs yes_good no_good bytes =
     word_parentheses k.Decide (a ++ comma_gap ++ constant yes_id ∷ comma_gap ++ constant no_id ∷ comma_gap ++ literal tag ∷ []) t refl (λ u. refl)
     (in_parentheses_clean (a ++ comma_gap ++ constant yes_id ∷ comma_gap ++ constant no_id ∷ comma_gap ++ literal tag ∷ []) t
     (λ u soft. with_literal (a ++ comma_gap ++ constant yes_id ∷ comma_gap ++ constant no_id ∷ comma_gap) tag
-        (with_constant (a ++ comma_gap ++ constant yes_id ∷ comma_gap) no_id (with_constant (a ++ comma_gap) yes_id (λ v. before_comma a v runs) yes_good) no_good) bytes u))
+    (with_constant (a ++ comma_gap ++ constant yes_id ∷ comma_gap) no_id (with_constant (a ++ comma_gap) yes_id (λ v. before_comma a v runs) yes_good) no_good) bytes u))
 
 -- a label that binds names, of which the first is this
 pub binding_clean : (a : Pieces) (id tag w : List ℕ) (b d : Pieces) (t : List ℕ) → Runs a → IsConstant id → All IsByte tag → IsIdentifier w → Runs b → Runs d → ((u : List ℕ) → Soft u → Soft (text_of d ++ u))
@@ -176,11 +176,11 @@ binding_clean a id tag w b d t runs good bytes name_good rb rd soft_behind =
     word_parentheses k.LabelBind (a ++ comma_gap ++ constant id ∷ comma_gap ++ literal tag ∷ comma_gap ++ name w ∷ comma_gap ++ b ++ d) t refl (λ u. refl)
     (in_parentheses_clean (a ++ comma_gap ++ constant id ∷ comma_gap ++ literal tag ∷ comma_gap ++ name w ∷ comma_gap ++ b ++ d) t
     (λ u soft. clean_append (a ++ comma_gap ++ constant id ∷ comma_gap ++ literal tag ∷ comma_gap ++ name w ∷ comma_gap ++ b) d u
-      (clean_append (a ++ comma_gap ++ constant id ∷ comma_gap ++ literal tag ∷ comma_gap ++ name w ∷ comma_gap) b (text_of d ++ u)
-        (with_name (a ++ comma_gap ++ constant id ∷ comma_gap ++ literal tag ∷ comma_gap) w
-          (with_literal_comma (a ++ comma_gap ++ constant id ∷ comma_gap) tag (with_constant (a ++ comma_gap) id (λ v. before_comma a v runs) good) bytes) name_good (text_of b ++ (text_of d ++ u)))
-        (rb (text_of d ++ u) (soft_behind u soft)))
-      (rd u soft)))
+    (clean_append (a ++ comma_gap ++ constant id ∷ comma_gap ++ literal tag ∷ comma_gap ++ name w ∷ comma_gap) b (text_of d ++ u)
+    (with_name (a ++ comma_gap ++ constant id ∷ comma_gap ++ literal tag ∷ comma_gap) w
+    (with_literal_comma (a ++ comma_gap ++ constant id ∷ comma_gap) tag (with_constant (a ++ comma_gap) id (λ v. before_comma a v runs) good) bytes) name_good (text_of b ++ (text_of d ++ u)))
+    (rb (text_of d ++ u) (soft_behind u soft)))
+    (rd u soft)))
 
 -- up to a semicolon
 pub before_semicolon : (a b : Pieces) (t : List ℕ) → Runs a → Clean b t → Clean (a ++ sign k.Semicolon ∷ b) t

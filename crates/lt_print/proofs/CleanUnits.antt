@@ -144,9 +144,9 @@ mutual
   lines_clean (c.IfElse test x y) s n t =
       clean_append (sign k.If ∷ gap ∷ in_parentheses (expression n test) ++ body n x (lines n x) (lines (suc n) x)) (indent n ∷ sign k.Else ∷ body n y (lines n y) (lines (suc n) y)) t
       (clean_append (sign k.If ∷ gap ∷ in_parentheses (expression n test)) (body n x (lines n x) (lines (suc n) x)) (text_of (indent n ∷ sign k.Else ∷ body n y (lines n y) (lines (suc n) y)) ++ t)
-        (header_clean k.If (expression n test) (text_of (body n x (lines n x) (lines (suc n) x)) ++ (text_of (indent n ∷ sign k.Else ∷ body n y (lines n y) (lines (suc n) y)) ++ t)) refl (operand_runs test s.0 n g.comma))
-        (body_clean n x (text_of (indent n ∷ sign k.Else ∷ body n y (lines n y) (lines (suc n) y)) ++ t) (lines_clean x s.1 n (text_of (indent n ∷ sign k.Else ∷ body n y (lines n y) (lines (suc n) y)) ++ t))
-          (lines_clean x s.1 (suc n) (text_of (indent n ∷ sign k.Else ∷ body n y (lines n y) (lines (suc n) y)) ++ t))))
+      (header_clean k.If (expression n test) (text_of (body n x (lines n x) (lines (suc n) x)) ++ (text_of (indent n ∷ sign k.Else ∷ body n y (lines n y) (lines (suc n) y)) ++ t)) refl (operand_runs test s.0 n g.comma))
+      (body_clean n x (text_of (indent n ∷ sign k.Else ∷ body n y (lines n y) (lines (suc n) y)) ++ t) (lines_clean x s.1 n (text_of (indent n ∷ sign k.Else ∷ body n y (lines n y) (lines (suc n) y)) ++ t))
+      (lines_clean x s.1 (suc n) (text_of (indent n ∷ sign k.Else ∷ body n y (lines n y) (lines (suc n) y)) ++ t))))
       (before_body k.Else refl refl n y t (body_clean n y t (lines_clean y s.2 n t) (lines_clean y s.2 (suc n) t)))
   lines_clean (c.While test x) s n t =
       clean_append (sign k.While ∷ gap ∷ in_parentheses (expression n test)) (body n x (lines n x) (lines (suc n) x)) t
@@ -155,21 +155,21 @@ mutual
   lines_clean (c.Do x test) s n t =
       before_semicolon (sign k.Do ∷ body n x (lines n x) (lines (suc n) x) ++ indent n ∷ sign k.While ∷ gap ∷ in_parentheses (expression n test)) (line_end ∷ []) t
       (λ u soft. clean_append (sign k.Do ∷ body n x (lines n x) (lines (suc n) x)) (indent n ∷ sign k.While ∷ gap ∷ in_parentheses (expression n test)) u
-        (before_body k.Do refl refl n x (text_of (indent n ∷ sign k.While ∷ gap ∷ in_parentheses (expression n test)) ++ u)
-          (body_clean n x (text_of (indent n ∷ sign k.While ∷ gap ∷ in_parentheses (expression n test)) ++ u)
-            (lines_clean x s.0 n (text_of (indent n ∷ sign k.While ∷ gap ∷ in_parentheses (expression n test)) ++ u)) (lines_clean x s.0 (suc n) (text_of (indent n ∷ sign k.While ∷ gap ∷ in_parentheses (expression n test)) ++ u))))
-        (header_clean k.While (expression n test) u refl (operand_runs test s.1 n g.comma)))
+      (before_body k.Do refl refl n x (text_of (indent n ∷ sign k.While ∷ gap ∷ in_parentheses (expression n test)) ++ u)
+      (body_clean n x (text_of (indent n ∷ sign k.While ∷ gap ∷ in_parentheses (expression n test)) ++ u)
+      (lines_clean x s.0 n (text_of (indent n ∷ sign k.While ∷ gap ∷ in_parentheses (expression n test)) ++ u)) (lines_clean x s.0 (suc n) (text_of (indent n ∷ sign k.While ∷ gap ∷ in_parentheses (expression n test)) ++ u))))
+      (header_clean k.While (expression n test) u refl (operand_runs test s.1 n g.comma)))
       tt
   lines_clean (c.For start test step x) s n t =
       clean_append (sign k.For ∷ gap ∷ in_parentheses (for_start n start ++ optional n test ++ sign k.Semicolon ∷ optional n step)) (body n x (lines n x) (lines (suc n) x)) t
       (header_clean k.For (for_start n start ++ optional n test ++ sign k.Semicolon ∷ optional n step) (text_of (body n x (lines n x) (lines (suc n) x)) ++ t) refl
-        (for_runs (for_start n start) (optional n test) (optional n step) (start_clean start s.0 n) (optional_runs test s.1 n) (optional_runs step s.2 n)))
+      (for_runs (for_start n start) (optional n test) (optional n step) (start_clean start s.0 n) (optional_runs test s.1 n) (optional_runs step s.2 n)))
       (body_clean n x t (lines_clean x s.3 n t) (lines_clean x s.3 (suc n) t))
   lines_clean (c.Switch e inside) s n t =
       clean_append (sign k.Switch ∷ gap ∷ in_parentheses (expression n e) ++ gap ∷ sign k.OpenBrace ∷ line_end ∷ case_lines (suc n) inside) (indent n ∷ sign k.CloseBrace ∷ line_end ∷ []) t
       (clean_append (sign k.Switch ∷ gap ∷ in_parentheses (expression n e)) (gap ∷ sign k.OpenBrace ∷ line_end ∷ case_lines (suc n) inside) (text_of (indent n ∷ sign k.CloseBrace ∷ line_end ∷ []) ++ t)
-        (header_clean k.Switch (expression n e) (text_of (gap ∷ sign k.OpenBrace ∷ line_end ∷ case_lines (suc n) inside) ++ (text_of (indent n ∷ sign k.CloseBrace ∷ line_end ∷ []) ++ t)) refl (operand_runs e s.0 n g.comma))
-        (closed_cons k.OpenBrace (line_end ∷ case_lines (suc n) inside) (text_of (indent n ∷ sign k.CloseBrace ∷ line_end ∷ []) ++ t) refl (cases_clean inside s.1 (suc n) (text_of (indent n ∷ sign k.CloseBrace ∷ line_end ∷ []) ++ t))))
+      (header_clean k.Switch (expression n e) (text_of (gap ∷ sign k.OpenBrace ∷ line_end ∷ case_lines (suc n) inside) ++ (text_of (indent n ∷ sign k.CloseBrace ∷ line_end ∷ []) ++ t)) refl (operand_runs e s.0 n g.comma))
+      (closed_cons k.OpenBrace (line_end ∷ case_lines (suc n) inside) (text_of (indent n ∷ sign k.CloseBrace ∷ line_end ∷ []) ++ t) refl (cases_clean inside s.1 (suc n) (text_of (indent n ∷ sign k.CloseBrace ∷ line_end ∷ []) ++ t))))
       (closed_cons k.CloseBrace (line_end ∷ []) t refl tt)
   lines_clean c.Break s n t = word_line k.Break t refl refl
   lines_clean c.Continue s n t = word_line k.Continue t refl refl
@@ -187,7 +187,7 @@ mutual
   cases_clean (c.a_case labels x cases) s n t =
       clean_append (flat_map (label_line n) labels ++ indent n ∷ lines n x) (case_lines n cases) t
       (clean_append (flat_map (label_line n) labels) (indent n ∷ lines n x) (text_of (case_lines n cases) ++ t) (labels_clean labels s.0 n (text_of (indent n ∷ lines n x) ++ (text_of (case_lines n cases) ++ t)))
-        (lines_clean x s.1 n (text_of (case_lines n cases) ++ t)))
+      (lines_clean x s.1 n (text_of (case_lines n cases) ++ t)))
       (cases_clean cases s.2 n t)
 
 -- ---- units
@@ -199,11 +199,11 @@ unit_clean [] s t = tt
 unit_clean (c.Defines ss x body ∷ unit) s t =
     clean_append (external (c.Defines ss x body)) (flat_map external unit) t
     (clean_append (apart (specifiers 0 ss) (declarator 0 x) ++ gap ∷ sign k.OpenBrace ∷ line_end ∷ item_lines 1 body) (sign k.CloseBrace ∷ line_end ∷ []) (text_of (flat_map external unit) ++ t)
-      (clean_append (apart (specifiers 0 ss) (declarator 0 x)) (gap ∷ sign k.OpenBrace ∷ line_end ∷ item_lines 1 body) (text_of (sign k.CloseBrace ∷ line_end ∷ []) ++ (text_of (flat_map external unit) ++ t))
-        (apart_runs (specifiers 0 ss) (declarator 0 x) (specifiers_run ss s.0 0) (declarator_runs x s.1 0) (text_of (gap ∷ sign k.OpenBrace ∷ line_end ∷ item_lines 1 body) ++ (text_of (sign k.CloseBrace ∷ line_end ∷ []) ++ (text_of (flat_map external unit) ++ t))) refl)
-        (closed_cons k.OpenBrace (line_end ∷ item_lines 1 body) (text_of (sign k.CloseBrace ∷ line_end ∷ []) ++ (text_of (flat_map external unit) ++ t)) refl
-          (items_clean body s.2 1 (text_of (sign k.CloseBrace ∷ line_end ∷ []) ++ (text_of (flat_map external unit) ++ t)))))
-      (closed_cons k.CloseBrace (line_end ∷ []) (text_of (flat_map external unit) ++ t) refl tt))
+    (clean_append (apart (specifiers 0 ss) (declarator 0 x)) (gap ∷ sign k.OpenBrace ∷ line_end ∷ item_lines 1 body) (text_of (sign k.CloseBrace ∷ line_end ∷ []) ++ (text_of (flat_map external unit) ++ t))
+    (apart_runs (specifiers 0 ss) (declarator 0 x) (specifiers_run ss s.0 0) (declarator_runs x s.1 0) (text_of (gap ∷ sign k.OpenBrace ∷ line_end ∷ item_lines 1 body) ++ (text_of (sign k.CloseBrace ∷ line_end ∷ []) ++ (text_of (flat_map external unit) ++ t))) refl)
+    (closed_cons k.OpenBrace (line_end ∷ item_lines 1 body) (text_of (sign k.CloseBrace ∷ line_end ∷ []) ++ (text_of (flat_map external unit) ++ t)) refl
+    (items_clean body s.2 1 (text_of (sign k.CloseBrace ∷ line_end ∷ []) ++ (text_of (flat_map external unit) ++ t)))))
+    (closed_cons k.CloseBrace (line_end ∷ []) (text_of (flat_map external unit) ++ t) refl tt))
     (unit_clean unit s.3 t)
 unit_clean (c.Declared x ∷ unit) s t =
     clean_append (external (c.Declared x)) (flat_map external unit) t

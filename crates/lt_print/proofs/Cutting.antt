@@ -47,9 +47,9 @@ longest fresh f piece t is never = record { parts = refl; is_one = is; none_long
         → (g : Form) (other rest : List ℕ) → piece ++ t ≡ other ++ rest → is_piece fresh g other ≡ true → length other ≤ length piece
     step [] never g other rest e h = whole other rest e
     step (b ∷ t) never g other rest e h = elim (longer piece other t rest b e) [
-        | inl le ↦ le
-        | inr m ↦ absurd (never b t refl g m.0 (ap (is_piece fresh g) (sym m.1) ∙ h))
-      ]
+      | inl le ↦ le
+      | inr m ↦ absurd (never b t refl g m.0 (ap (is_piece fresh g) (sym m.1) ∙ h))
+    ]
 
 -- ---- classes of bytes
 
@@ -127,16 +127,16 @@ run_stops p (x ∷ xs) more b all stops =
 
 no_literal : (b : ℕ) (more : List ℕ) → ends_word (class_of b) ≡ true → is_literal (b ∷ more) ≡ true → ⊥
 no_literal b more h e = elim (or_cases (eqb b quote && is_closed_after part.Text more) (eqb b apostrophe && is_whole_after part.Character more) e) [
-    | inl x ↦ (let q = eqb-true b quote (and_parts (eqb b quote) (is_closed_after part.Text more) x).0 in let i : ends_word (class_of quote) ≡ true = subst (λ (z : ℕ). ends_word (class_of z) ≡ true) q h in cc)
-    | inr x ↦ (let q = eqb-true b apostrophe (and_parts (eqb b apostrophe) (is_whole_after part.Character more) x).0 in let i : ends_word (class_of apostrophe) ≡ true = subst (λ (z : ℕ). ends_word (class_of z) ≡ true) q h in cc)
-  ]
+  | inl x ↦ (let q = eqb-true b quote (and_parts (eqb b quote) (is_closed_after part.Text more) x).0 in let i : ends_word (class_of quote) ≡ true = subst (λ (z : ℕ). ends_word (class_of z) ≡ true) q h in cc)
+  | inr x ↦ (let q = eqb-true b apostrophe (and_parts (eqb b apostrophe) (is_whole_after part.Character more) x).0 in let i : ends_word (class_of apostrophe) ≡ true = subst (λ (z : ℕ). ends_word (class_of z) ≡ true) q h in cc)
+]
 
 word_stops : (fresh : Bool) (g : Form) (c : ℕ) (cs more : List ℕ) (b : ℕ) → class_of c ≡ class.Letter → list_all is_word_byte cs ≡ true → ends_word (class_of b) ≡ true
     → is_piece fresh g (c ∷ cs ++ b ∷ more) ≡ true → ⊥
 word_stops fresh g c cs more b letter all ends h = elim (of_class fresh g class.Letter c (cs ++ b ∷ more) letter h) [
-    | inl m ↦ (let x = m.0 in cc)
-    | inr p ↦ step g p
-  ]
+  | inl m ↦ (let x = m.0 in cc)
+  | inr p ↦ step g p
+]
   where
     stop : is_word_byte b ≡ false
     stop = no_word_byte b ends

@@ -74,9 +74,9 @@ not_digit b h = false_from_ne_true (is_ascii_digit b) (λ is. other_class b clas
 
 not_hexdigit : (b : ℕ) → ends_constant (class_of b) ≡ true → is_ascii_hexdigit b ≡ false
 not_hexdigit b h = false_from_ne_true (is_ascii_hexdigit b) (λ is. elim (or_cases (is_in_range 48 57 b || is_in_range 65 70 b) (is_in_range 97 102 b) is) [
-    | inl x ↦ (elim (or_cases (is_in_range 48 57 b) (is_in_range 65 70 b) x) [ inl y ↦ other_class b class.Digit h refl (digit_class b y) | inr y ↦ other_class b class.Letter h refl (upper_class b y) ])
-    | inr x ↦ other_class b class.Letter h refl (lower_class b x)
-  ])
+  | inl x ↦ (elim (or_cases (is_in_range 48 57 b) (is_in_range 65 70 b) x) [ inl y ↦ other_class b class.Digit h refl (digit_class b y) | inr y ↦ other_class b class.Letter h refl (upper_class b y) ])
+  | inr x ↦ other_class b class.Letter h refl (lower_class b x)
+])
 
 not_word : (b : ℕ) → ends_constant (class_of b) ≡ true → is_word_byte b ≡ false
 not_word b h = step (class_of b) refl h

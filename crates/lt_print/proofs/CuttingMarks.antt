@@ -72,10 +72,10 @@ mark_stops_at fresh g k c cs more b e h = cc
 
 mark_stops : (fresh : Bool) (g : Form) (c : ℕ) (cs more : List ℕ) (b : ℕ) → is_clear (c ∷ cs) b ≡ true → is_piece fresh g (c ∷ cs ++ b ∷ more) ≡ true → ⊥
 mark_stops fresh g c cs more b clear h = elim (of_class fresh g (class_of c) c (cs ++ b ∷ more) refl h) [
-    | inl m ↦ (let n = any_of_all (λ q. not (goes_with q (c ∷ cs ++ b ∷ []))) punctuators (c ∷ cs ++ b ∷ more) both.1 m.1 in
-        clash (goes_with (c ∷ cs ++ b ∷ more) (c ∷ cs ++ b ∷ [])) (begins_so (c ∷ cs) more b) (not-true (goes_with (c ∷ cs ++ b ∷ more) (c ∷ cs ++ b ∷ [])) n))
-    | inr p ↦ mark_stops_at fresh g (class_of c) c cs more b both.0 p
-  ]
+  | inl m ↦ (let n = any_of_all (λ q. not (goes_with q (c ∷ cs ++ b ∷ []))) punctuators (c ∷ cs ++ b ∷ more) both.1 m.1 in
+      clash (goes_with (c ∷ cs ++ b ∷ more) (c ∷ cs ++ b ∷ [])) (begins_so (c ∷ cs) more b) (not-true (goes_with (c ∷ cs ++ b ∷ more) (c ∷ cs ++ b ∷ [])) n))
+  | inr p ↦ mark_stops_at fresh g (class_of c) c cs more b both.0 p
+]
   where
     both : (is_second (class_of c) (cs ++ b ∷ []) ≡ true) × (list_all (λ q. not (goes_with q (c ∷ cs ++ b ∷ []))) punctuators ≡ true)
     both = and_parts (is_second (class_of c) (cs ++ b ∷ [])) (list_all (λ q. not (goes_with q (c ∷ cs ++ b ∷ []))) punctuators) clear

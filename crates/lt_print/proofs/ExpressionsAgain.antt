@@ -112,11 +112,17 @@ cast_again {scope} {ss} {d} {e} t a = record { stands = λ n level. placed_again
 pub operation_again : {scope : Scope} (op : Infix) {left right : c.Expression} → Again scope left → Again scope right → Again scope (operation op left right)
 unfolding operand
 operation_again {scope} (arithmetic o) {left} {right} a b =
-    record { stands = λ n level. placed_again scope (g.binary (tightness o)) level _ _ (tight o)
-        (binary_at scope o _ _ left right (a.stands n (g.binary (tightness o))) (b.stands n (g.binary (suc (tightness o))))); parts = tt }
+    record {
+      stands = λ n level. placed_again scope (g.binary (tightness o)) level _ _ (tight o)
+          (binary_at scope o _ _ left right (a.stands n (g.binary (tightness o))) (b.stands n (g.binary (suc (tightness o)))));
+      parts = tt;
+    }
 operation_again {scope} (connective o) {left} {right} a b =
-    record { stands = λ n level. placed_again scope (g.binary (tightness_of_logical o)) level _ _ (tight_logical o)
-        (logical_at scope o _ _ left right (a.stands n (g.binary (tightness_of_logical o))) (b.stands n (g.binary (suc (tightness_of_logical o))))); parts = tt }
+    record {
+      stands = λ n level. placed_again scope (g.binary (tightness_of_logical o)) level _ _ (tight_logical o)
+          (logical_at scope o _ _ left right (a.stands n (g.binary (tightness_of_logical o))) (b.stands n (g.binary (suc (tightness_of_logical o)))));
+      parts = tt;
+    }
 
 pub choice_again : {scope : Scope} {test left right : c.Expression} → Again scope test → Again scope left → Again scope right → Again scope (c.Conditional test left right)
 unfolding operand

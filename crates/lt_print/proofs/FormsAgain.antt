@@ -92,4 +92,3 @@ pub marked_from : (scope : Scope) (a b : Pieces) (marks : c.Marks) (e : c.Expres
     → ((ts rest : List Symbol) (more : List ℕ) → Reads a ts rest → (spots : List ℕ) × AreMarks scope ts marks rest spots more) → DerivesAt scope g.assignment b e → DerivesAt scope g.marked (a ++ b) (c.Marked marks e)
 marked_from scope a b marks e da db ts rest more r =
     let q = parted a b r in let gb = db _ rest more q.back in let ga = da ts _ gb.0 q.front in (_, g.behind_marks ga.1 gb.1)
-

@@ -252,7 +252,7 @@ as_one scope words type n ts rest more none brace r =
     let p = parted_apart (words_pieces words) (signs_apart (map sign_of_word (words_of type))) r in
     let back = subst (λ (ps : Pieces). Reads ps p.between rest) (words_written n (words_of type)) p.back in
     let got = types_again false n (as_types (words_of type)) (words_fit scope false (words_of type)) p.between rest more
-        (ap (λ (b : Bool). begins_specifier scope b rest) (behind_basic type) ∙ none) brace back in
+    (ap (λ (b : Bool). begins_specifier scope b rest) (behind_basic type) ∙ none) brace back in
     let some : AreSome words (as_types (words_of type)) = λ e f. (let x = ap (typed_behind false) f in let y = behind_basic type in cc) in
     (got.spots, subst (λ (t : c.TypeSpecifiers). AreSpecifiers scope ts (c.specifiers words t) rest got.spots more) (gathered_again type) (derived_some some (words_again words p.front got.derived)))
 

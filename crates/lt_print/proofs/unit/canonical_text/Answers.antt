@@ -25,7 +25,7 @@ use Rattle.lt_print.proofs.Lists.{one_more}
 use Rattle.lt_print.proofs.Rows.{next, ended}
 use Rattle.lt_print.proofs.Types.{apart_text}
 use Rattle.lt_print.proofs.Units.{initialiser_at, init_declarator_at, initialisers_are, init_declarators_are, braces_is, one_declared, several_declared, declaration_text, body_behind, body_below, compound_is, switch_is, if_is, block_text, items_step, cases_step}
-use Rattle.lt_print.proofs.unit.print_unit.Goals as goal
+use Rattle.lt_print.proofs.unit.canonical_text.Goals as goal
 
 pub loop-external-init : goal.loop-external-init
 loop-external-init c = ap (λ (x : List ℕ). x ++ text_of (flat_map external (map external_of c.deref-external-items.result.now))) c.new-out.ensures.items
