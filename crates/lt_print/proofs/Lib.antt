@@ -50,3 +50,4 @@ pub mod CleanLeaves
 pub mod CleanTrees
 pub mod SpeltUnits
 pub mod CleanUnits
+pub mod Alone

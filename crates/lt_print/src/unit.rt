@@ -4,6 +4,8 @@ ghost use Rattle.std.specs.Prelude.{◌≡◌, ◌++◌, IfOk, OnOk};
 ghost use Rattle.lt_tree.specs.Pieces.{text_of};
 ghost use Rattle.lt_tree.specs.CanonUnits as spec;
 ghost use Rattle.lt_tree.specs.UnitView.{external_of, unit_of};
+ghost use Rattle.lt_tree.specs.Units.{IsWellMade};
+ghost use Rattle.lt_print.specs.Laws.{IsOfUnitAlone};
 ghost use Rattle.lt_print.specs.Statements.{definition_of};
 
 use crate::declaration::put_declaration;
@@ -14,8 +16,17 @@ use crate::text::{end_line, put_sign};
 use lt_tree::{External, FunctionDefinition, Terminal, Unit};
 use std::alloc::{AllocError, Global};
 
-/// The canonical text of a unit, in bytes. It takes time in proportion to the text, and fails only where memory ends.
+/// The canonical text of a unit, in bytes. Where some text has this unit, the tokens of the canonical one derive it, and no other.
+/// It takes time in proportion to the text, and fails only where memory ends.
+#[tactic(auto, using(crate::proofs::Alone::alone_as_canonical))]
 pub fn print_unit(alloc: Global, unit: &Unit) -> Result<Vec<u8>, AllocError>
+    ensures canonical { IfOk result (λ bytes. bytes.items ≡ spec.canon (unit_of unit.now)) }
+    ensures alone { IfOk result (λ bytes. IsWellMade (unit_of unit.now) → IsOfUnitAlone bytes.items (unit_of unit.now)) }
+{
+    canonical_text(alloc, unit)
+}
+
+fn canonical_text(alloc: Global, unit: &Unit) -> Result<Vec<u8>, AllocError>
     ensures { IfOk result (λ bytes. bytes.items ≡ spec.canon (unit_of unit.now)) }
 {
     let mut out = Vec::new(alloc);

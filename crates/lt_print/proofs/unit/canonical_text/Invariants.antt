@@ -3,7 +3,7 @@ use Rattle.std.specs.List.{flat_map}
 use Rattle.lt_tree.specs.Pieces.{text_of}
 use Rattle.lt_tree.specs.UnitView.{external_of}
 use Rattle.lt_tree.specs.CanonUnits.{external}
-use Rattle.lt_print.proofs.unit.print_unit.Given as goal
+use Rattle.lt_print.proofs.unit.canonical_text.Given as goal
 
 abbrev pub invariant-loop-external : goal.invariant-loop-external
 invariant-loop-external l =

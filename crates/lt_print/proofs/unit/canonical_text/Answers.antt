@@ -5,7 +5,7 @@ use Rattle.lt_tree.specs.Pieces.{text_of}
 use Rattle.lt_tree.specs.UnitView.{external_of}
 use Rattle.lt_tree.specs.CanonUnits.{external}
 use Rattle.lt_print.proofs.Rows.{next, ended}
-use Rattle.lt_print.proofs.unit.print_unit.Goals as goal
+use Rattle.lt_print.proofs.unit.canonical_text.Goals as goal
 
 pub loop-external-init : goal.loop-external-init
 loop-external-init c = ap (λ (x : List ℕ). x ++ text_of (flat_map external (map external_of c.deref-external-items.result.now))) c.new-out.ensures.items
