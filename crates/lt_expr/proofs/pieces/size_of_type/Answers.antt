@@ -1,0 +1,8 @@
+use Rattle.lt_tree.specs.Tree as t
+use Rattle.lt_expr.proofs.Rows.{type_name_is}
+use Rattle.lt_expr.proofs.pieces.size_of_type.Goals as goal
+
+pub returns : goal.returns
+returns c =
+    let name = c.args.name.value in
+    type_name_is name.specifiers.storage name.specifiers.inline name.specifiers.noreturn name.specifiers.quals name.specifiers.types name.declarator.name name.declarator.parts t.SizeofType
