@@ -75,9 +75,9 @@ unfolding reading.expression
 says e start zero scope r = says_none e start
 says e start (suc n) scope r =
     says_marked e start (reading.marked n scope r) (parts_behind n scope) (λ x.
-      says_if e start (sees t.Comma x.1.0) (reading.parts n scope (behind x.1) >>= put_first x.0) (Some (c.an_expression x.0 c.no_expressions, x.1))
-      (says_more e start x.0 (reading.parts n scope (behind x.1)))
-      (says_some e start x.0 c.no_expressions x.1))
+    says_if e start (sees t.Comma x.1.0) (reading.parts n scope (behind x.1) >>= put_first x.0) (Some (c.an_expression x.0 c.no_expressions, x.1))
+    (says_more e start x.0 (reading.parts n scope (behind x.1)))
+    (says_some e start x.0 c.no_expressions x.1))
 
 -- what is read behind the first part of a comma expression
 pub comma_of_parts : (e : c.Expression) (start n : ℕ) (scope : Scope) (r rest : Rest) (ps : c.Expressions)

@@ -32,8 +32,8 @@ declared_once : (type : Bool) (name : Option (List ℕ)) (parts : t.Parts) (p : 
     → Hides p (record p { inner = new }) (after_declarator type (t.declarator name parts) (scope_of p))
 declared_once type name parts p new is =
     hides_when (after_declarator type (t.declarator name parts) (scope_of p)) new p
-      (ap (λ names. names ++ p.outer) is ∙ declaring_around type name (hiding (enumerators_in_parts parts) p.inner) p.outer ∙ ap (declaring type name) (hiding_around (enumerators_in_parts parts) p.inner p.outer))
-      (subst (Below p.inner) (sym is) (below_declaring type name p.inner (hiding (enumerators_in_parts parts) p.inner) (below_hiding (enumerators_in_parts parts) p.inner)))
+    (ap (λ names. names ++ p.outer) is ∙ declaring_around type name (hiding (enumerators_in_parts parts) p.inner) p.outer ∙ ap (declaring type name) (hiding_around (enumerators_in_parts parts) p.inner p.outer))
+    (subst (Below p.inner) (sym is) (below_declaring type name p.inner (hiding (enumerators_in_parts parts) p.inner) (below_hiding (enumerators_in_parts parts) p.inner)))
 
 -- the enumerators and the name of a declarator
 pub declared : {X : Type 0} (type : Bool) (name : Option (List ℕ)) (parts : t.Parts) (before p : Parsing) (new : Scope) (result : Result X AllocError) → p ≡ before

@@ -110,10 +110,10 @@ commas_read depth n e first parts start before later opened at done deep begin o
     let same : scope_of at ≡ scope = same_scope opened at on'' ∙ same_scope later opened on' ∙ same_scope before later on in
     let place : rest_of at ≡ behind (reopened e (rest_of later)) = rest ∙ ap behind opens in
     let given : after (followed_by (front_of e)) read_parts ≡ Some (expressions_in parts, rest_of done) =
-      ap (λ xs. after (followed_by xs) read_parts) (sym front)
-      ∙ ap (λ r. after (followed_by (expressions_in first)) (reading.parts n scope r)) (sym place)
-      ∙ ap (λ s. after (followed_by (expressions_in first)) (reading.parts n s (rest_of at))) (sym same)
-      ∙ read in
+    ap (λ xs. after (followed_by xs) read_parts) (sym front)
+    ∙ ap (λ r. after (followed_by (expressions_in first)) (reading.parts n scope r)) (sym place)
+    ∙ ap (λ s. after (followed_by (expressions_in first)) (reading.parts n s (rest_of at))) (sym same)
+    ∙ read in
     ap (λ k. reading.expression k scope (rest_of before)) deep
     ∙ expression_is n scope (rest_of before) (rest_of later) e one
     ∙ ap (λ b. cond b (read_parts >>= λ y. Some (comma_of e y.0, ended (start_of (rest_of before).0) y.1)) (Some (e, rest_of later))) more

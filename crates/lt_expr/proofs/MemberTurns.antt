@@ -95,7 +95,7 @@ pub one_declarator : (n : ℕ) (naming : Naming) (before at later : Parsing) (d 
     → OneDeclarator n naming before later d
 one_declarator n naming before at later d first on second on' = record {
   read =
-    declarators_are n (scope_of before) naming (rest_of before) (rest_of at) (rest_of later) (declarator_of d.declarator) (maybe_in d.width) first
+      declarators_are n (scope_of before) naming (rest_of before) (rest_of at) (rest_of later) (declarator_of d.declarator) (maybe_in d.width) first
       (ap (λ scope. reading.after_sign n scope t.Colon (rest_of at)) (sym (same_scope before at on)) ∙ second);
   on = record { symbols = on'.symbols ∙ on.symbols; inner = on'.inner ∙ on.inner; outer = on'.outer ∙ on.outer };
 }
@@ -156,10 +156,10 @@ pub one_enumerator : (n : ℕ) (start : ℕ) (before at done later : Parsing) (e
     → OneEnumerator n before later e
 one_enumerator n start before at done later e begin first on second on' end on'' = record {
   read =
-    enumerators_are n (scope_of before) (rest_of before) (rest_of at) (rest_of done) e.name (maybe_in e.value) first
+      enumerators_are n (scope_of before) (rest_of before) (rest_of at) (rest_of done) e.name (maybe_in e.value) first
       (ap (λ scope. reading.after_sign n scope t.Equal (rest_of at)) (sym (same_scope before at on)) ∙ second)
-    ∙ ap (λ k. enumerators_behind n (scope_of before) e.name (maybe_in e.value) (ended k (rest_of done))) (sym begin)
-    ∙ ap (enumerators_behind n (scope_of before) e.name (maybe_in e.value)) (sym end);
+      ∙ ap (λ k. enumerators_behind n (scope_of before) e.name (maybe_in e.value) (ended k (rest_of done))) (sym begin)
+      ∙ ap (enumerators_behind n (scope_of before) e.name (maybe_in e.value)) (sym end);
   on = record { symbols = on''.symbols ∙ on'.symbols ∙ on.symbols; inner = on''.inner ∙ on'.inner ∙ on.inner; outer = on''.outer ∙ on'.outer ∙ on.outer };
 }
 

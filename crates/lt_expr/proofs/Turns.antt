@@ -77,15 +77,15 @@ pub record OneParameter (n : ℕ) (before later : Parsing) (s : c.Specifiers) (d
 below_same : (a b : Scope) → b ≡ a → Below a b
 below_same a b e = record {
   longer = (let same : length b ≡ length a = ap length e in omega arith);
-  same = (let none : length b - length a ≡ 0 = (let same : length b ≡ length a = ap length e in omega arith) in ap (λ k. drop k b) none ∙ e)
+  same = (let none : length b - length a ≡ 0 = (let same : length b ≡ length a = ap length e in omega arith) in ap (λ k. drop k b) none ∙ e);
 }
 
 below_through : (a b d : Scope) → Below a b → Below b d → Below a d
 below_through a b d p q = record {
   longer = (let h = p.longer in let k = q.longer in omega arith);
   same =
-    (let count : length d - length a ≡ (length d - length b) + (length b - length a) = (let h = p.longer in let k = q.longer in omega arith) in
-    ap (λ k. drop k d) count ∙ sym (drop-drop (length b - length a) (length d - length b) d) ∙ ap (drop (length b - length a)) q.same ∙ p.same)
+      (let count : length d - length a ≡ (length d - length b) + (length b - length a) = (let h = p.longer in let k = q.longer in omega arith) in
+      ap (λ k. drop k d) count ∙ sym (drop-drop (length b - length a) (length d - length b) d) ∙ ap (drop (length b - length a)) q.same ∙ p.same);
 }
 
 pub one_parameter : (n : ℕ) (start at hidden behind later : Parsing) (s : c.Specifiers) (d : c.Declarator)
@@ -95,21 +95,21 @@ pub one_parameter : (n : ℕ) (start at hidden behind later : Parsing) (s : c.Sp
 one_parameter n start at hidden behind later s d first on hides second on' hides' =
     let scope : scope_of hidden ≡ after_specifiers s (scope_of start) = hides.scope ∙ ap (after_specifiers s) (same_scope start at on) in
     let declared : reading.declarator n (after_specifiers s (scope_of start)) either (rest_of at) ≡ Some (d, rest_of later) =
-      ap (λ names. reading.declarator n names either (rest_of at)) (sym scope)
-      ∙ ap (λ r. reading.declarator n (scope_of hidden) either r) (sym hides.rest)
-      ∙ second
-      ∙ ap (λ r. Some (d, r)) (sym hides'.rest) in
+    ap (λ names. reading.declarator n names either (rest_of at)) (sym scope)
+    ∙ ap (λ r. reading.declarator n (scope_of hidden) either r) (sym hides.rest)
+    ∙ second
+    ∙ ap (λ r. Some (d, r)) (sym hides'.rest) in
     record {
       read = parameter_list_is n (scope_of start) (rest_of start) (rest_of at) s (d, rest_of later) first declared;
       scope = hides'.scope ∙ ap (after_declarator false d) (same_scope hidden behind on' ∙ scope);
       symbols = hides'.symbols ∙ on'.symbols ∙ hides.symbols ∙ on.symbols;
       outer = hides'.outer ∙ on'.outer ∙ hides.outer ∙ on.outer;
       below =
-        below_through start.inner behind.inner later.inner
+          below_through start.inner behind.inner later.inner
           (below_through start.inner hidden.inner behind.inner
-            (below_through start.inner at.inner hidden.inner (below_same start.inner at.inner on.inner) hides.below)
-            (below_same hidden.inner behind.inner on'.inner))
-          hides'.below
+          (below_through start.inner at.inner hidden.inner (below_same start.inner at.inner on.inner) hides.below)
+          (below_same hidden.inner behind.inner on'.inner))
+          hides'.below;
     }
 
 pub parameters_turn : (front all : List Parameter) (p : Parameter) (s : c.Specifiers) (d : c.Declarator) (depth n : ℕ) (start later next : Parsing)

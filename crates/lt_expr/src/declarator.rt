@@ -74,7 +74,11 @@ impl<'a> Parser<'a> {
     // suffix*, behind what was read of a declarator
     #[cycle(parser)]
     #[tactic(auto, using(crate::proofs::Joins::more_parts, crate::proofs::Joins::all_parts), unfolding(crate::specs::Reading::expression))]
-    fn suffixes(&mut self, mut depth: usize, mut parts: Vec<DeclaratorPart>) -> Result<Vec<DeclaratorPart>, Stop>
+    fn suffixes(
+        &mut self,
+        mut depth: usize,
+        mut parts: Vec<DeclaratorPart>,
+    ) -> Result<Vec<DeclaratorPart>, Stop>
         ensures { Gives (λ xs. parts_in xs.items) self.old self.new result (after (reading.joined (parts_in parts.items)) (reading.suffixes depth (scope_of self.old) (rest_of self.old))) }
     {
         'more: loop {

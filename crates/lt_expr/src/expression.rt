@@ -116,7 +116,13 @@ impl<'a> Parser<'a> {
     // operators that bind at least so tightly, and their operands, behind the left operand
     #[cycle(parser)]
     #[tactic(auto, unfolding(crate::specs::Reading::expression))]
-    fn climb(&mut self, mut depth: usize, start: u32, least: usize, mut left: Box<Expr>) -> Result<Box<Expr>, Stop>
+    fn climb(
+        &mut self,
+        mut depth: usize,
+        start: u32,
+        least: usize,
+        mut left: Box<Expr>,
+    ) -> Result<Box<Expr>, Stop>
         ensures { Gives boxed self.old self.new result (reading.climb depth (scope_of self.old) start least (boxed left) (rest_of self.old)) }
     {
         'more: loop {

@@ -32,7 +32,12 @@ pub(crate) fn named(parser: &mut Parser, predicate: Box<Expr>) -> Result<Labelle
 }
 
 // ')'
-pub(crate) fn mark(parser: &mut Parser, start: u32, label: Labelled, bound: Vec<Binding>) -> Result<Mark, Stop>
+pub(crate) fn mark(
+    parser: &mut Parser,
+    start: u32,
+    label: Labelled,
+    bound: Vec<Binding>,
+) -> Result<Mark, Stop>
     ensures { Gives mark_of parser.old parser.new result (ends.mark_end start (labelled_of label) (bindings_in bound.items) (rest_of parser.old)) }
 {
     parser.expect(Terminal::CloseParen)?;
@@ -44,7 +49,10 @@ pub(crate) fn mark(parser: &mut Parser, start: u32, label: Labelled, bound: Vec<
 pub(crate) fn bind(list: &mut Vec<Binding>, name: Name, value: Box<Expr>) -> Result<(), AllocError>
     ensures { IfOk result (λ _. list.new.items ≡ list.old.items ++ record { name = name; value = value.value } ∷ []) }
 {
-    list.push(Binding { name, value: Box::into_inner(value) })?;
+    list.push(Binding {
+        name,
+        value: Box::into_inner(value),
+    })?;
     Ok(())
 }
 

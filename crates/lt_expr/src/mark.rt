@@ -7,10 +7,9 @@ ghost use Rattle.lt_expr.specs.Parsing.{rest_of, scope_of, Gives};
 ghost use Rattle.lt_expr.specs.Labels.{labelled_of};
 ghost use Rattle.lt_expr.specs.Reading as reading;
 
-use crate::label;
 use crate::label::Labelled;
-use crate::nodes;
 use crate::parser::{Parser, deeper};
+use crate::{label, nodes};
 use lt_tree::{Binding, Expr, Mark, Stop, Terminal};
 
 impl<'a> Parser<'a> {

@@ -54,7 +54,11 @@ impl<'a> Parser<'a> {
     // (declarator (':' cond)?),+ ';'
     #[cycle(parser)]
     #[tactic(auto, using(crate::proofs::Joins::more_member_declarators, crate::proofs::Joins::last_member_declarators, crate::proofs::Joins::no_member_declarators), unfolding(crate::specs::Reading::expression))]
-    fn member_declarators(&mut self, mut depth: usize, naming: Naming) -> Result<Vec<MemberDeclarator>, Stop>
+    fn member_declarators(
+        &mut self,
+        mut depth: usize,
+        naming: Naming,
+    ) -> Result<Vec<MemberDeclarator>, Stop>
         ensures { Gives (λ xs. member_declarators_in xs.items) self.old self.new result (reading.member_declarators depth (scope_of self.old) (naming_of naming) (rest_of self.old)) }
     {
         let mut declarators = Vec::new(self.alloc);

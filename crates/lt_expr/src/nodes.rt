@@ -33,7 +33,11 @@ pub(crate) fn put(list: &mut Vec<Expr>, e: Box<Expr>) -> Result<(), AllocError>
 // ---- suffixes, which end with what they stand behind
 
 // ']'
-pub(crate) fn index(parser: &mut Parser, whole: Box<Expr>, index: Box<Expr>) -> Result<Box<Expr>, Stop>
+pub(crate) fn index(
+    parser: &mut Parser,
+    whole: Box<Expr>,
+    index: Box<Expr>,
+) -> Result<Box<Expr>, Stop>
     ensures { Gives boxed parser.old parser.new result (ends.index_end (boxed whole) (boxed index) (rest_of parser.old)) }
 {
     parser.expect(Terminal::CloseIndex)?;
@@ -41,7 +45,11 @@ pub(crate) fn index(parser: &mut Parser, whole: Box<Expr>, index: Box<Expr>) -> 
 }
 
 // ')'
-pub(crate) fn call(parser: &mut Parser, callee: Box<Expr>, arguments: Vec<Expr>) -> Result<Box<Expr>, Stop>
+pub(crate) fn call(
+    parser: &mut Parser,
+    callee: Box<Expr>,
+    arguments: Vec<Expr>,
+) -> Result<Box<Expr>, Stop>
     ensures { Gives boxed parser.old parser.new result (ends.call_end (boxed callee) (expressions_in arguments.items) (rest_of parser.old)) }
 {
     parser.expect(Terminal::CloseParen)?;
@@ -84,21 +92,34 @@ pub(crate) fn post_decrement(parser: &mut Parser, target: Box<Expr>) -> Result<B
 
 // ---- nodes that begin at a byte, and end here
 
-pub(crate) fn pre_increment(parser: &mut Parser, start: u32, target: Box<Expr>) -> Result<Box<Expr>, Stop>
+pub(crate) fn pre_increment(
+    parser: &mut Parser,
+    start: u32,
+    target: Box<Expr>,
+) -> Result<Box<Expr>, Stop>
     ensures { Gives boxed parser.old parser.new result (Some (t.PreInc (boxed target), ended start (rest_of parser.old))) }
 {
     parser.end(start)?;
     Ok(Box::new(parser.alloc, Expr::PreInc(target))?)
 }
 
-pub(crate) fn pre_decrement(parser: &mut Parser, start: u32, target: Box<Expr>) -> Result<Box<Expr>, Stop>
+pub(crate) fn pre_decrement(
+    parser: &mut Parser,
+    start: u32,
+    target: Box<Expr>,
+) -> Result<Box<Expr>, Stop>
     ensures { Gives boxed parser.old parser.new result (Some (t.PreDec (boxed target), ended start (rest_of parser.old))) }
 {
     parser.end(start)?;
     Ok(Box::new(parser.alloc, Expr::PreDec(target))?)
 }
 
-pub(crate) fn unary(parser: &mut Parser, start: u32, op: UnaryOp, operand: Box<Expr>) -> Result<Box<Expr>, Stop>
+pub(crate) fn unary(
+    parser: &mut Parser,
+    start: u32,
+    op: UnaryOp,
+    operand: Box<Expr>,
+) -> Result<Box<Expr>, Stop>
     ensures { Gives boxed parser.old parser.new result (Some (t.Unary op (boxed operand), ended start (rest_of parser.old))) }
 {
     parser.end(start)?;
@@ -106,7 +127,11 @@ pub(crate) fn unary(parser: &mut Parser, start: u32, op: UnaryOp, operand: Box<E
 }
 
 // ')'
-pub(crate) fn size_of_type(parser: &mut Parser, start: u32, name: Box<TypeName>) -> Result<Box<Expr>, Stop>
+pub(crate) fn size_of_type(
+    parser: &mut Parser,
+    start: u32,
+    name: Box<TypeName>,
+) -> Result<Box<Expr>, Stop>
     ensures { Gives boxed parser.old parser.new result (ends.size_end start (boxed_type name).0 (boxed_type name).1 (rest_of parser.old)) }
 {
     parser.expect(Terminal::CloseParen)?;
@@ -114,14 +139,23 @@ pub(crate) fn size_of_type(parser: &mut Parser, start: u32, name: Box<TypeName>)
     Ok(Box::new(parser.alloc, pieces::size_of_type(name))?)
 }
 
-pub(crate) fn size_of_expression(parser: &mut Parser, start: u32, operand: Box<Expr>) -> Result<Box<Expr>, Stop>
+pub(crate) fn size_of_expression(
+    parser: &mut Parser,
+    start: u32,
+    operand: Box<Expr>,
+) -> Result<Box<Expr>, Stop>
     ensures { Gives boxed parser.old parser.new result (Some (t.SizeofExpr (boxed operand), ended start (rest_of parser.old))) }
 {
     parser.end(start)?;
     Ok(Box::new(parser.alloc, Expr::SizeofExpr(operand))?)
 }
 
-pub(crate) fn cast(parser: &mut Parser, start: u32, name: Box<TypeName>, operand: Box<Expr>) -> Result<Box<Expr>, Stop>
+pub(crate) fn cast(
+    parser: &mut Parser,
+    start: u32,
+    name: Box<TypeName>,
+    operand: Box<Expr>,
+) -> Result<Box<Expr>, Stop>
     ensures { Gives boxed parser.old parser.new result (Some (t.Cast (boxed_type name).0 (boxed_type name).1 (boxed operand), ended start (rest_of parser.old))) }
 {
     parser.end(start)?;
@@ -129,7 +163,13 @@ pub(crate) fn cast(parser: &mut Parser, start: u32, name: Box<TypeName>, operand
 }
 
 // An operator between two operands.
-pub(crate) fn operates(parser: &mut Parser, start: u32, op: Infix, left: Box<Expr>, right: Box<Expr>) -> Result<Box<Expr>, Stop>
+pub(crate) fn operates(
+    parser: &mut Parser,
+    start: u32,
+    op: Infix,
+    left: Box<Expr>,
+    right: Box<Expr>,
+) -> Result<Box<Expr>, Stop>
     ensures { Gives boxed parser.old parser.new result (Some (operation (infix_shown op) (boxed left) (boxed right), ended start (rest_of parser.old))) }
 {
     parser.end(start)?;
@@ -139,14 +179,26 @@ pub(crate) fn operates(parser: &mut Parser, start: u32, op: Infix, left: Box<Exp
     }
 }
 
-pub(crate) fn conditional(parser: &mut Parser, start: u32, test: Box<Expr>, left: Box<Expr>, right: Box<Expr>) -> Result<Box<Expr>, Stop>
+pub(crate) fn conditional(
+    parser: &mut Parser,
+    start: u32,
+    test: Box<Expr>,
+    left: Box<Expr>,
+    right: Box<Expr>,
+) -> Result<Box<Expr>, Stop>
     ensures { Gives boxed parser.old parser.new result (Some (t.Conditional (boxed test) (boxed left) (boxed right), ended start (rest_of parser.old))) }
 {
     parser.end(start)?;
     Ok(Box::new(parser.alloc, Expr::Conditional(test, left, right))?)
 }
 
-pub(crate) fn assign(parser: &mut Parser, start: u32, op: Option<Op>, target: Box<Expr>, value: Box<Expr>) -> Result<Box<Expr>, Stop>
+pub(crate) fn assign(
+    parser: &mut Parser,
+    start: u32,
+    op: Option<Op>,
+    target: Box<Expr>,
+    value: Box<Expr>,
+) -> Result<Box<Expr>, Stop>
     ensures { Gives boxed parser.old parser.new result (Some (t.Assign op (boxed target) (boxed value), ended start (rest_of parser.old))) }
 {
     parser.end(start)?;
@@ -161,7 +213,12 @@ pub(crate) fn comma(parser: &mut Parser, start: u32, parts: Vec<Expr>) -> Result
 }
 
 // An expression behind marks.
-pub(crate) fn marked(parser: &mut Parser, start: u32, marks: Vec<Mark>, value: Box<Expr>) -> Result<Box<Expr>, Stop>
+pub(crate) fn marked(
+    parser: &mut Parser,
+    start: u32,
+    marks: Vec<Mark>,
+    value: Box<Expr>,
+) -> Result<Box<Expr>, Stop>
     ensures { Gives boxed parser.old parser.new result (Some (t.Marked (marks_in marks.items) (boxed value), ended start (rest_of parser.old))) }
 {
     parser.end(start)?;
@@ -177,7 +234,10 @@ pub(crate) fn decide(parser: &mut Parser, start: u32, operand: Box<Expr>) -> Res
     let tag = parser.tag()?;
     parser.expect(Terminal::CloseParen)?;
     parser.end(start)?;
-    Ok(Box::new(parser.alloc, Expr::Decide(operand, when_true, when_false, tag))?)
+    Ok(Box::new(
+        parser.alloc,
+        Expr::Decide(operand, when_true, when_false, tag),
+    )?)
 }
 
 // ')'
@@ -186,7 +246,10 @@ pub(crate) fn after(parser: &mut Parser, start: u32, label: Labelled) -> Result<
 {
     parser.expect(Terminal::CloseParen)?;
     parser.end(start)?;
-    Ok(Box::new(parser.alloc, Expr::After(label.predicate, label.id, label.tag))?)
+    Ok(Box::new(
+        parser.alloc,
+        Expr::After(label.predicate, label.id, label.tag),
+    )?)
 }
 
 // Something in parentheses, behind which ')' stands.

@@ -45,10 +45,20 @@ pub(crate) fn marked(marks: Vec<Mark>, value: Box<Expr>) -> Expr
 }
 
 // The name of a type.
-pub(crate) fn type_name(alloc: Global, specifiers: Specifiers, declarator: Declarator) -> Result<Box<TypeName>, Stop>
+pub(crate) fn type_name(
+    alloc: Global,
+    specifiers: Specifiers,
+    declarator: Declarator,
+) -> Result<Box<TypeName>, Stop>
     ensures { Reads boxed_type result (Some (specifiers_of specifiers, declarator_of declarator)) }
 {
-    Ok(Box::new(alloc, TypeName { specifiers, declarator })?)
+    Ok(Box::new(
+        alloc,
+        TypeName {
+            specifiers,
+            declarator,
+        },
+    )?)
 }
 
 pub fn mark(predicate: Expr, id: Name, tag: Name, bound: Vec<Binding>) -> Mark

@@ -118,7 +118,11 @@ impl<'a> Parser<'a> {
     // (SIGN cond)?
     #[cycle(parser)]
     #[tactic(auto, unfolding(crate::specs::Reading::expression))]
-    pub(crate) fn after_sign(&mut self, depth: usize, sign: Terminal) -> Result<Option<Box<Expr>>, Stop>
+    pub(crate) fn after_sign(
+        &mut self,
+        depth: usize,
+        sign: Terminal,
+    ) -> Result<Option<Box<Expr>>, Stop>
         ensures { Gives maybe_in self.old self.new result (reading.after_sign depth (scope_of self.old) sign (rest_of self.old)) }
     {
         let depth = deeper(depth)?;

@@ -163,10 +163,7 @@ fn symbol_of<'a>(token: &Token<'a>) -> Symbol<'a>
 
 /// Tokens as the grammar sees them.
 #[tactic(auto, using(crate::proofs::Tables::pushed))]
-pub fn symbols_of<'a>(
-    alloc: Global,
-    tokens: &[Token<'a>],
-) -> Result<Vec<Symbol<'a>>, AllocError>
+pub fn symbols_of<'a>(alloc: Global, tokens: &[Token<'a>]) -> Result<Vec<Symbol<'a>>, AllocError>
     ensures { IfOk result (λ list. map shown list.items ≡ s.symbols (map token_of tokens.now)) }
 {
     let mut symbols = Vec::new(alloc);

@@ -65,7 +65,12 @@ impl<'a> Parser<'a> {
     // ('[' expr ']' | '(' assign,* ')' | '.' NAME | '->' NAME | '++' | '--')*
     #[cycle(parser)]
     #[tactic(auto, unfolding(crate::specs::Reading::expression))]
-    fn postfix(&mut self, mut depth: usize, start: u32, mut left: Box<Expr>) -> Result<Box<Expr>, Stop>
+    fn postfix(
+        &mut self,
+        mut depth: usize,
+        start: u32,
+        mut left: Box<Expr>,
+    ) -> Result<Box<Expr>, Stop>
         ensures { Gives boxed self.old self.new result (reading.postfix depth (scope_of self.old) start (boxed left) (rest_of self.old)) }
     {
         'more: loop {

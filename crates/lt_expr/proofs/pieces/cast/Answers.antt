@@ -7,4 +7,4 @@ pub returns : goal.returns
 returns c =
     let name = c.args.name.value in
     type_name_is name.specifiers.storage name.specifiers.inline name.specifiers.noreturn name.specifiers.quals name.specifiers.types name.declarator.name name.declarator.parts
-      (λ s d. t.Cast s d (boxed c.args.operand))
+    (λ s d. t.Cast s d (boxed c.args.operand))

@@ -131,7 +131,7 @@ abbrev pub invariant-arguments-more : goal.invariant-arguments-more
 invariant-arguments-more l = record {
   read : after (followed_by (expressions_in l.arguments.items)) (reading.arguments l.depth (scope_of l.self) (rest_of l.self)) ≡ reading.arguments l.fn.depth (scope_of l.fn.self) (rest_of l.fn.self);
   within : l.depth ≤ l.fn.depth;
-  on : GoesOn l.fn.self l.self
+  on : GoesOn l.fn.self l.self;
 }
 
 abbrev pub decreases-bindings-more : goal.decreases-bindings-more
@@ -141,7 +141,7 @@ abbrev pub invariant-bindings-more : goal.invariant-bindings-more
 invariant-bindings-more l = record {
   read : after (bindings_before (bindings_in l.bound.items)) (reading.bindings l.depth (scope_of l.self) (rest_of l.self)) ≡ reading.bindings l.fn.depth (scope_of l.fn.self) (rest_of l.fn.self);
   within : l.depth ≤ l.fn.depth;
-  on : GoesOn l.fn.self l.self
+  on : GoesOn l.fn.self l.self;
 }
 
 abbrev pub decreases-climb-more : goal.decreases-climb-more
@@ -151,7 +151,7 @@ abbrev pub invariant-climb-more : goal.invariant-climb-more
 invariant-climb-more l = record {
   read : reading.climb l.depth (scope_of l.self) l.start l.least (boxed l.left) (rest_of l.self) ≡ reading.climb l.fn.depth (scope_of l.fn.self) l.start l.least (boxed l.fn.left) (rest_of l.fn.self);
   within : l.depth ≤ l.fn.depth;
-  on : GoesOn l.fn.self l.self
+  on : GoesOn l.fn.self l.self;
 }
 
 abbrev pub decreases-enumerators-more : goal.decreases-enumerators-more
@@ -161,7 +161,7 @@ abbrev pub invariant-enumerators-more : goal.invariant-enumerators-more
 invariant-enumerators-more l = record {
   read : after (enumerators_before (enumerators_in l.enumerators.items)) (reading.enumerators l.depth (scope_of l.self) (rest_of l.self)) ≡ reading.enumerators l.fn.depth (scope_of l.fn.self) (rest_of l.fn.self);
   within : l.depth ≤ l.fn.depth;
-  on : GoesOn l.fn.self l.self
+  on : GoesOn l.fn.self l.self;
 }
 
 abbrev pub decreases-further-more : goal.decreases-further-more
@@ -171,7 +171,7 @@ abbrev pub invariant-further-more : goal.invariant-further-more
 invariant-further-more l = record {
   read : after (found_before (found_of l.found)) (reading.further l.depth (scope_of l.self) l.typed (rest_of l.self)) ≡ reading.further l.fn.depth (scope_of l.fn.self) false (rest_of l.fn.self);
   within : l.depth ≤ l.fn.depth;
-  on : GoesOn l.fn.self l.self
+  on : GoesOn l.fn.self l.self;
 }
 
 abbrev pub decreases-marks-more : goal.decreases-marks-more
@@ -181,7 +181,7 @@ abbrev pub invariant-marks-more : goal.invariant-marks-more
 invariant-marks-more l = record {
   read : after (marks_before (marks_in l.marks.items)) (reading.marks l.depth (scope_of l.self) (rest_of l.self)) ≡ reading.marks l.fn.depth (scope_of l.fn.self) (rest_of l.fn.self);
   within : l.depth ≤ l.fn.depth;
-  on : GoesOn l.fn.self l.self
+  on : GoesOn l.fn.self l.self;
 }
 
 abbrev pub decreases-member_declarators-more : goal.decreases-member_declarators-more
@@ -191,7 +191,7 @@ abbrev pub invariant-member_declarators-more : goal.invariant-member_declarators
 invariant-member_declarators-more l = record {
   read : after (member_declarators_before (member_declarators_in l.declarators.items)) (reading.member_declarators l.depth (scope_of l.self) (naming_of l.naming) (rest_of l.self)) ≡ reading.member_declarators l.fn.depth (scope_of l.fn.self) (naming_of l.naming) (rest_of l.fn.self);
   within : l.depth ≤ l.fn.depth;
-  on : GoesOn l.fn.self l.self
+  on : GoesOn l.fn.self l.self;
 }
 
 abbrev pub decreases-members-more : goal.decreases-members-more
@@ -201,7 +201,7 @@ abbrev pub invariant-members-more : goal.invariant-members-more
 invariant-members-more l = record {
   read : after (members_before (members_in l.members.items)) (reading.members l.depth (scope_of l.self) (rest_of l.self)) ≡ reading.members l.fn.depth (scope_of l.fn.self) (rest_of l.fn.self);
   within : l.depth ≤ l.fn.depth;
-  on : GoesOn l.fn.self l.self
+  on : GoesOn l.fn.self l.self;
 }
 
 abbrev pub decreases-parameter_list-more : goal.decreases-parameter_list-more
@@ -214,7 +214,7 @@ invariant-parameter_list-more l = record {
   outer : l.self.outer ≡ l.fn.self.outer;
   within : l.depth ≤ l.fn.depth;
   around : l.around ≡ length l.fn.self.inner;
-  below : Below l.fn.self.inner l.self.inner
+  below : Below l.fn.self.inner l.self.inner;
 }
 
 abbrev pub decreases-parts-more : goal.decreases-parts-more
@@ -224,7 +224,7 @@ abbrev pub invariant-parts-more : goal.invariant-parts-more
 invariant-parts-more l = record {
   read : after (followed_by (expressions_in l.parts.items)) (reading.parts l.depth (scope_of l.self) (rest_of l.self)) ≡ after (followed_by (expressions_in l.fn.parts.items)) (reading.parts l.fn.depth (scope_of l.fn.self) (rest_of l.fn.self));
   within : l.depth ≤ l.fn.depth;
-  on : GoesOn l.fn.self l.self
+  on : GoesOn l.fn.self l.self;
 }
 
 abbrev pub decreases-postfix-more : goal.decreases-postfix-more
@@ -234,7 +234,7 @@ abbrev pub invariant-postfix-more : goal.invariant-postfix-more
 invariant-postfix-more l = record {
   read : reading.postfix l.depth (scope_of l.self) l.start (boxed l.left) (rest_of l.self) ≡ reading.postfix l.fn.depth (scope_of l.fn.self) l.start (boxed l.fn.left) (rest_of l.fn.self);
   within : l.depth ≤ l.fn.depth;
-  on : GoesOn l.fn.self l.self
+  on : GoesOn l.fn.self l.self;
 }
 
 abbrev pub decreases-suffixes-more : goal.decreases-suffixes-more
@@ -244,5 +244,5 @@ abbrev pub invariant-suffixes-more : goal.invariant-suffixes-more
 invariant-suffixes-more l = record {
   read : after (joined (parts_in l.parts.items)) (reading.suffixes l.depth (scope_of l.self) (rest_of l.self)) ≡ after (joined (parts_in l.fn.parts.items)) (reading.suffixes l.fn.depth (scope_of l.fn.self) (rest_of l.fn.self));
   within : l.depth ≤ l.fn.depth;
-  on : GoesOn l.fn.self l.self
+  on : GoesOn l.fn.self l.self;
 }
