@@ -9,6 +9,7 @@ mod Numbers
 mod Pure
 pub mod Rows
 pub mod UnitRows
+pub mod TypedRows
 mod SmallRows
 mod Spots
 mod SpotsOfExpressions

@@ -30,6 +30,12 @@ pub mod Programs
 pub mod UnitTyping
 -- what lies in memory
 pub mod Shapes
+pub mod TypeRows
+pub mod ConstancyView
+pub mod ValueView
+pub mod StatementView
+pub mod EntityView
+pub mod ProgramView
 pub mod TypeView
 -- examples
 pub mod ExampleTexts

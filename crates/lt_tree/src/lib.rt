@@ -17,6 +17,7 @@ mod specifier;
 mod statement;
 mod stop;
 mod terminal;
+pub mod typed;
 mod unit;
 
 pub use declaration::{Declaration, InitDeclarator, Initialiser};

@@ -1,0 +1,29 @@
+use crate::typed::entity::{Declared, Fact, Frame, Function, LabelInfo, Object, StructType};
+use crate::typed::types::{TypeId, TypeRow};
+use crate::unit::Unit;
+use lt_model::DataModel;
+
+/// A typed program, with the unit of which it is.
+#[derive(Drop)]
+pub struct Program {
+    pub unit: Unit,
+    pub model: DataModel,
+    pub structs: Vec<StructType>,
+    /// In the order in which the text first declares them, string literals among them.
+    pub objects: Vec<Object>,
+    /// The functions that are declared, with or without a body, in the order of their first declarations.
+    pub declared: Vec<Declared>,
+    /// The functions with bodies, in the order of these.
+    pub functions: Vec<Function>,
+    /// The names and tags of file scope.
+    pub file: Frame,
+    /// The types without qualifiers, each once.
+    pub types: Vec<TypeId>,
+    /// In the order of the text.
+    pub labels: Vec<LabelInfo>,
+    /// What is known of each expression, in the order in which they end.
+    pub facts: Vec<Fact>,
+    /// The table in which each type of the program has a row; the rows of the types of which a type is made stand before its
+    /// own.
+    pub table: Vec<TypeRow>,
+}
