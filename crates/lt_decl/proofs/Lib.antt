@@ -1,3 +1,12 @@
+pub mod Fronts
+pub mod Joins
+pub mod Scopes
+pub mod Loops
+pub mod Turns
+pub mod NameRows
+pub mod Failures
+pub mod WalkRows
+pub mod Parses
 pub mod Walks
 pub mod CompleteStarts
 pub mod CompleteDeclarations

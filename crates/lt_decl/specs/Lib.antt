@@ -2,3 +2,8 @@ pub mod Items
 pub mod Reading
 pub mod Walk
 pub mod Laws
+pub mod Declares
+pub mod Singles
+pub mod ItemView
+pub mod HeadView
+pub mod Parsed
