@@ -215,4 +215,93 @@ int conditional(int a, int b) {
   return a ? b, a : b ? a : (b, a);
 }
 unsigned long long big = 18446744073709551615ull;
+struct none {
+};
+typedef struct list {
+  struct list *next;
+  enum { EMPTY, FULL, } state;
+  int (*visit)(struct list *, int);
+  const char *const name;
+} list;
+static list *heads[4], tail = {0, EMPTY, 0, \"tail\"};
+static int count_of(list *from, int (*accepts)(const list *)) {
+  int count = 0;
+  for (list *at = from; at != 0; at = at->next)
+    if (accepts == 0 || accepts(at))
+      count++;
+    else {
+      continue;
+    }
+  return count;
+}
+int shadows(list *list, int n) {
+  enum { LOCAL = 2, NEXT } kind = LOCAL, other = NEXT;
+  (list)->next = 0, (list->state) = EMPTY;
+  for (enum { LAST = 3 } k = 0; k < LAST; k++)
+    n += LAST;
+  while (sizeof(enum { ONE = 1 }) > n)
+    n = n + ONE;
+  do {
+    typedef int list;
+    n += (list)n;
+  } while (n < 0);
+  switch (n) {
+    case LOCAL:
+    default:
+      if (n) {
+        ;
+      } else
+        return kind;
+      for (;;) {
+        break;
+      }
+      while (0)
+        ;
+      do
+        n--;
+      while (n);
+    case (int)'a':
+      switch (other) {
+        default:
+          return 0;
+      }
+  }
+  return 0;
+}
+int marks(int a, int b) {
+  pc_label(a < b, 20, \"BEFORE\");
+  pc_label_bind(a == b, 21, \"VALUES\", left, a, right, b, both, a + b);
+  pc_label(a, 22, \"X\"), pc_label_bind(b, 23, \"Y\", low, a * 2), a = b, pc_label(!a, 24, \"Z\"), b = a;
+  {
+    pc_label(1, 25, \"LAST\");
+  }
+  for (pc_label(1, 26, \"S\"), a = 0; pc_decide(a < b, 27, 28, \"DC\"); pc_label(a, 29, \"T\"), a++)
+    pc_after(b -= a, 30, \"AU\");
+  do
+    a = !pc_decide(a && pc_decide(b, 31, 32, \"CC\"), 33, 34, \"DC\");
+  while ((pc_label(a, 35, \"DC\"), a) && pc_after(b, 36, \"AU\"));
+  switch (pc_label(b, 37, \"S\"), b) {
+    case 1:
+      pc_label(a, 38, \"T\"), a = 1;
+    default:
+      {
+        pc_label(b, 39, \"U\");
+      }
+  }
+  (a, b), a = 1, b = 2;
+  (((a, b), a), b);
+  return (a, b), (a, b);
+}
+int (*(*table_of(int n))[2])(void);
+void (*signal(int number, void (*handler)(int)))(int);
+extern int print(const char *, ...), put(const char *text);
+char *(*const fixed[])(void) = {0,};
+unsigned short int small_one = (unsigned short)-1;
+long long signed int wide = 1LL << 3;
+static const volatile _Bool flag = !0;
+double (*half)(float);
+int cube[2][2][1] = {{{1}, {2}}, {{3,}, {4}}};
+const char *const days[] = {\"mon\" \"day\", \"tue\", };
+struct { int x; } unnamed = {1}, *to_unnamed = &unnamed;
+int x, (y), *(z), ((w))[2];
 ";
