@@ -5,6 +5,8 @@ mod message;
 mod status;
 #[cfg(test)]
 mod tests;
+#[cfg(test)]
+mod texts;
 mod top;
 mod words;
 
