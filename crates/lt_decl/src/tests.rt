@@ -163,14 +163,14 @@ fn every_production_has_its_spots(rt: HostRuntime) {
         panic!(rt; "a unit");
     };
     assert_eq!(rt; unit.spots.len(), 1461);
-    // each spot times its place, all modulo a prime
+    // each spot times its place, which counts from 1
     let mut sum = 0_u64;
-    let mut factor = 0_u64;
+    let mut place = 0_u64;
     for spot in &unit.spots {
-        factor = (factor + 1) % 1_000_003;
-        sum = (sum + factor * u64::from(*spot)) % 1_000_003;
+        place = place.wrapping_add(1);
+        sum = sum.wrapping_add(place.wrapping_mul(u64::from(*spot)));
     }
-    assert_eq!(rt; sum, 929_982);
+    assert_eq!(rt; sum, 5_263_945_771);
 }
 
 // a front, so many times a text, a middle, so many times another, and a back, with the count of nodes
