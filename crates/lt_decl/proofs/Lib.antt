@@ -2,6 +2,7 @@ pub mod Fronts
 pub mod Joins
 pub mod Scopes
 pub mod Loops
+pub mod Heads
 pub mod Turns
 pub mod NameRows
 pub mod Failures
