@@ -3,6 +3,7 @@ pub mod Joins
 pub mod Scopes
 pub mod Loops
 pub mod Heads
+pub mod OnMarks
 pub mod Turns
 pub mod NameRows
 pub mod Failures
