@@ -1,0 +1,8 @@
+//! Names in nested scopes, C11 6.2.1; `specs/Names.antt` says what a name stands for.
+#![tactic(auto)]
+
+mod scopes;
+#[cfg(test)]
+mod tests;
+
+pub use scopes::{Frame, Scopes};
