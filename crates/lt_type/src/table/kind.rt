@@ -27,6 +27,7 @@ pub struct RowFacts {
 }
 
 impl Kind {
+    /// The integer type that it is.
     pub fn scalar(self) -> Option<Scalar>
         ensures { result ≡ kind_scalar self }
     {
@@ -36,6 +37,7 @@ impl Kind {
         }
     }
 
+    /// What a pointer points to.
     pub fn target(self) -> Option<TypeId>
         ensures { result ≡ kind_target self }
     {
@@ -45,6 +47,7 @@ impl Kind {
         }
     }
 
+    /// The number of the struct that it is.
     pub fn struct_number(self) -> Option<u32>
         ensures { result ≡ kind_struct self }
     {
@@ -54,42 +57,49 @@ impl Kind {
         }
     }
 
+    /// Whether it is `void`.
     pub fn is_void(self) -> bool
         ensures { result ≡ kind_is_void self }
     {
         matches!(self, Kind::Void)
     }
 
+    /// Whether it is an integer type.
     pub fn is_integer(self) -> bool
         ensures { result ≡ kind_is_integer self }
     {
         matches!(self, Kind::Num(_))
     }
 
+    /// Whether it is a pointer.
     pub fn is_pointer(self) -> bool
         ensures { result ≡ kind_is_pointer self }
     {
         matches!(self, Kind::Pointer(_))
     }
 
+    /// Whether it is a struct.
     pub fn is_struct(self) -> bool
         ensures { result ≡ kind_is_struct self }
     {
         matches!(self, Kind::Struct(_))
     }
 
+    /// Whether it is an array.
     pub fn is_array(self) -> bool
         ensures { result ≡ kind_is_array self }
     {
         matches!(self, Kind::Array(..))
     }
 
+    /// Whether it is a function.
     pub fn is_function(self) -> bool
         ensures { result ≡ kind_is_function self }
     {
         matches!(self, Kind::Function)
     }
 
+    /// Whether it is a floating type.
     pub fn is_floating(self) -> bool
         ensures { result ≡ kind_is_floating self }
     {

@@ -13,6 +13,7 @@ use std::alloc::AllocError;
 /// The ids of types, which become rows where they aren't yet. There are no more than 2^32 rows, and of an id of no row no type is made: both end as
 /// want of memory does.
 impl TypeTable {
+    /// `void`.
     pub fn void(&mut self) -> Result<TypeId, AllocError>
         ensures grows { Grows self.old self.new }
         ensures made { Makes self.new result (λ types. Void) }
@@ -20,6 +21,7 @@ impl TypeTable {
         self.put(TypeRow::Void)
     }
 
+    /// An integer type.
     pub fn num(&mut self, scalar: Scalar) -> Result<TypeId, AllocError>
         ensures grows { Grows self.old self.new }
         ensures made { Makes self.new result (λ types. Num scalar) }
@@ -27,6 +29,7 @@ impl TypeTable {
         self.put(TypeRow::Num(scalar))
     }
 
+    /// A pointer to this type.
     pub fn pointer(&mut self, t: TypeId) -> Result<TypeId, AllocError>
         ensures grows { Grows self.old self.new }
         ensures made { Makes self.new result (λ types. Pointer (type_in types t)) }
@@ -35,6 +38,7 @@ impl TypeTable {
         self.put(TypeRow::Pointer(t))
     }
 
+    /// So many elements of this type; 0 as long as the number is to come.
     pub fn array(&mut self, t: TypeId, length: u32) -> Result<TypeId, AllocError>
         ensures grows { Grows self.old self.new }
         ensures made { Makes self.new result (λ types. Array (type_in types t) length) }
@@ -51,6 +55,7 @@ impl TypeTable {
         self.put(TypeRow::Struct(number))
     }
 
+    /// A function with this result and these parameters.
     pub fn function(
         &mut self,
         returned: TypeId,
@@ -69,6 +74,7 @@ impl TypeTable {
         }))
     }
 
+    /// The one floating type.
     pub fn floating(&mut self) -> Result<TypeId, AllocError>
         ensures grows { Grows self.old self.new }
         ensures made { Makes self.new result (λ types. Floating) }

@@ -30,6 +30,7 @@ impl TypeTable {
         Some(t == u)
     }
 
+    /// Whether two types are the same, each without its own qualifiers.
     pub fn alike(&self, t: TypeId, u: TypeId) -> Option<bool>
         ensures rows { IsSome result ↔ ((t.place < length self.now) × (u.place < length self.now)) }
         ensures value { IfSome result (λ b. Stays self.now (λ types. b ≡ alike (type_in types t) (type_in types u))) }
@@ -39,6 +40,7 @@ impl TypeTable {
         self.same(a, b)
     }
 
+    /// Whether both are integers.
     pub fn are_integers(&self, t: TypeId, u: TypeId) -> Option<bool>
         ensures rows { IsSome result ↔ ((t.place < length self.now) × (u.place < length self.now)) }
         ensures value { IfSome result (λ b. Stays self.now (λ types. b ≡ are_integers (type_in types t) (type_in types u))) }
@@ -48,6 +50,7 @@ impl TypeTable {
         Some(a && b)
     }
 
+    /// Whether it is a pointer to void.
     pub fn is_pointer_to_void(&self, t: TypeId) -> Option<bool>
         ensures row { IsSome result ↔ (t.place < length self.now) }
         ensures value { IfSome result (λ b. Stays self.now (λ types. b ≡ is_pointer_to_void (type_in types t))) }
@@ -58,6 +61,7 @@ impl TypeTable {
         }
     }
 
+    /// Whether it is a pointer to an object, of a complete type or not.
     pub fn is_pointer_to_object(&self, t: TypeId) -> Option<bool>
         ensures row { IsSome result ↔ (t.place < length self.now) }
         ensures value { IfSome result (λ b. Stays self.now (λ types. b ≡ is_pointer_to_object (type_in types t))) }
@@ -87,6 +91,7 @@ impl TypeTable {
         Some(Some((a, b)))
     }
 
+    /// Whether both are pointers to one type, its own qualifiers aside.
     pub fn point_alike(&self, t: TypeId, u: TypeId) -> Option<bool>
         ensures rows { IsSome result ↔ ((t.place < length self.now) × (u.place < length self.now)) }
         ensures value { IfSome result (λ b. Stays self.now (λ types. b ≡ point_alike (type_in types t) (type_in types u))) }
@@ -97,6 +102,7 @@ impl TypeTable {
         }
     }
 
+    /// Whether these can be the operands of `a < b`, C11 6.5.8.
     pub fn can_be_ordered(&self, t: TypeId, u: TypeId) -> Option<bool>
         ensures rows { IsSome result ↔ ((t.place < length self.now) × (u.place < length self.now)) }
         ensures value { IfSome result (λ b. Stays self.now (λ types. b ≡ can_be_ordered (type_in types t) (type_in types u))) }
@@ -106,6 +112,7 @@ impl TypeTable {
         Some(integers || alike)
     }
 
+    /// Whether the second is a pointer, and the first a null pointer constant or a pointer to void.
     pub fn goes_with_any_pointer(&self, t: TypeId, c: Constancy, u: TypeId) -> Option<bool>
         ensures rows { IsSome result ↔ ((t.place < length self.now) × (u.place < length self.now)) }
         ensures value { IfSome result (λ b. Stays self.now (λ types. b ≡ goes_with_any_pointer (type_in types t) (constancy_of c) (type_in types u))) }
@@ -115,6 +122,7 @@ impl TypeTable {
         Some(pointer && (is_null_constant(c) || void))
     }
 
+    /// Whether these can be the operands of `a == b`, C11 6.5.9.
     pub fn can_be_compared(&self, t: TypeId, c: Constancy, u: TypeId, d: Constancy) -> Option<bool>
         ensures rows { IsSome result ↔ ((t.place < length self.now) × (u.place < length self.now)) }
         ensures value { IfSome result (λ b. Stays self.now (λ types. b ≡ can_be_compared (type_in types t) (constancy_of c) (type_in types u) (constancy_of d))) }
@@ -125,6 +133,7 @@ impl TypeTable {
         Some(ordered || left || right)
     }
 
+    /// Whether both are one struct.
     pub fn are_structs_alike(&self, t: TypeId, u: TypeId) -> Option<bool>
         ensures rows { IsSome result ↔ ((t.place < length self.now) × (u.place < length self.now)) }
         ensures value { IfSome result (λ b. Stays self.now (λ types. b ≡ are_structs_alike (type_in types t) (type_in types u))) }
@@ -134,6 +143,7 @@ impl TypeTable {
         Some(structs && alike)
     }
 
+    /// Whether these can be the last operands of `a ? b : c`, C11 6.5.15.
     pub fn can_be_chosen_from(
         &self,
         t: TypeId,
@@ -153,6 +163,7 @@ impl TypeTable {
         Some(ordered || (first && second) || structs || left || right)
     }
 
+    /// Whether what the first points to has all the qualifiers of what the second points to.
     pub fn keeps_qualifiers(&self, t: TypeId, u: TypeId) -> Option<bool>
         ensures rows { IsSome result ↔ ((t.place < length self.now) × (u.place < length self.now)) }
         ensures value { IfSome result (λ b. Stays self.now (λ types. b ≡ keeps_qualifiers (type_in types t) (type_in types u))) }
@@ -167,6 +178,7 @@ impl TypeTable {
         }
     }
 
+    /// Whether the second pointer can be assigned to the first, C11 6.5.16.1.
     pub fn are_pointers_assignable(&self, t: TypeId, u: TypeId) -> Option<bool>
         ensures rows { IsSome result ↔ ((t.place < length self.now) × (u.place < length self.now)) }
         ensures value { IfSome result (λ b. Stays self.now (λ types. b ≡ are_pointers_assignable (type_in types t) (type_in types u))) }
@@ -223,6 +235,7 @@ impl TypeTable {
         Some(integers || structs || pointers || (pointer && null) || (truth && from_pointer))
     }
 
+    /// Whether the second type can be cast to the first, C11 6.5.4.
     pub fn can_be_cast(&self, t: TypeId, u: TypeId, c: Constancy) -> Option<bool>
         ensures rows { IsSome result ↔ ((t.place < length self.now) × (u.place < length self.now)) }
         ensures value { IfSome result (λ b. Stays self.now (λ types. b ≡ can_be_cast (type_in types t) (type_in types u) (constancy_of c))) }

@@ -75,6 +75,7 @@ impl TypeTable {
         }
     }
 
+    /// What a pointer points to.
     pub fn target_of(&self, t: TypeId) -> Option<Option<TypeId>>
         ensures row { IsSome result ↔ (t.place < length self.now) }
         ensures within { IfSome result (λ target. IfSome target (λ u. u.place < length self.now)) }
@@ -84,6 +85,7 @@ impl TypeTable {
         Some(kind.target())
     }
 
+    /// The integer type that it is.
     pub fn scalar_of(&self, t: TypeId) -> Option<Option<Scalar>>
         ensures row { IsSome result ↔ (t.place < length self.now) }
         ensures value { IfSome result (λ a. Stays self.now (λ types. a ≡ scalar_of (type_in types t))) }
@@ -92,6 +94,7 @@ impl TypeTable {
         Some(kind.scalar())
     }
 
+    /// The number of the struct that it is.
     pub fn struct_of(&self, t: TypeId) -> Option<Option<u32>>
         ensures row { IsSome result ↔ (t.place < length self.now) }
         ensures value { IfSome result (λ a. Stays self.now (λ types. a ≡ struct_of (type_in types t))) }
@@ -100,6 +103,7 @@ impl TypeTable {
         Some(kind.struct_number())
     }
 
+    /// Whether it is `void`.
     pub fn is_void(&self, t: TypeId) -> Option<bool>
         ensures row { IsSome result ↔ (t.place < length self.now) }
         ensures value { IfSome result (λ a. Stays self.now (λ types. a ≡ is_void (type_in types t))) }
@@ -108,6 +112,7 @@ impl TypeTable {
         Some(kind.is_void())
     }
 
+    /// Whether it is an integer type.
     pub fn is_integer(&self, t: TypeId) -> Option<bool>
         ensures row { IsSome result ↔ (t.place < length self.now) }
         ensures value { IfSome result (λ a. Stays self.now (λ types. a ≡ is_integer (type_in types t))) }
@@ -116,6 +121,7 @@ impl TypeTable {
         Some(kind.is_integer())
     }
 
+    /// Whether it is a pointer.
     pub fn is_pointer(&self, t: TypeId) -> Option<bool>
         ensures row { IsSome result ↔ (t.place < length self.now) }
         ensures value { IfSome result (λ a. Stays self.now (λ types. a ≡ is_pointer (type_in types t))) }
@@ -124,6 +130,7 @@ impl TypeTable {
         Some(kind.is_pointer())
     }
 
+    /// Whether it is a struct.
     pub fn is_struct(&self, t: TypeId) -> Option<bool>
         ensures row { IsSome result ↔ (t.place < length self.now) }
         ensures value { IfSome result (λ a. Stays self.now (λ types. a ≡ is_struct (type_in types t))) }
@@ -132,6 +139,7 @@ impl TypeTable {
         Some(kind.is_struct())
     }
 
+    /// Whether it is an array.
     pub fn is_array(&self, t: TypeId) -> Option<bool>
         ensures row { IsSome result ↔ (t.place < length self.now) }
         ensures value { IfSome result (λ a. Stays self.now (λ types. a ≡ is_array (type_in types t))) }
@@ -140,6 +148,7 @@ impl TypeTable {
         Some(kind.is_array())
     }
 
+    /// Whether it is a function.
     pub fn is_function(&self, t: TypeId) -> Option<bool>
         ensures row { IsSome result ↔ (t.place < length self.now) }
         ensures value { IfSome result (λ a. Stays self.now (λ types. a ≡ is_function (type_in types t))) }
@@ -148,6 +157,7 @@ impl TypeTable {
         Some(kind.is_function())
     }
 
+    /// Whether it is a floating type.
     pub fn is_floating(&self, t: TypeId) -> Option<bool>
         ensures row { IsSome result ↔ (t.place < length self.now) }
         ensures value { IfSome result (λ a. Stays self.now (λ types. a ≡ is_floating (type_in types t))) }
@@ -165,6 +175,7 @@ impl TypeTable {
         Some(kind.is_integer() || kind.is_pointer())
     }
 
+    /// Whether it is a pointer to a function.
     pub fn is_pointer_to_function(&self, t: TypeId) -> Option<bool>
         ensures row { IsSome result ↔ (t.place < length self.now) }
         ensures value { IfSome result (λ a. Stays self.now (λ types. a ≡ is_pointer_to_function (type_in types t))) }
