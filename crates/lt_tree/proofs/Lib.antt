@@ -26,3 +26,7 @@ pub mod QuotedStrings
 pub mod SpelledBytes
 mod TypedExpressions
 mod TypedUnits
+mod NodeSteps
+mod NumberedExpressions
+mod NumberedDeclarations
+mod NumberedUnits

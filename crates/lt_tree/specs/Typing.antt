@@ -28,6 +28,7 @@ pub mod DeclarationTyping
 pub mod StatementTyping
 pub mod Programs
 pub mod UnitTyping
+pub mod NodeNumbers
 -- what lies in memory
 pub mod Shapes
 pub mod TypeRows

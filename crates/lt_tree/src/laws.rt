@@ -49,6 +49,7 @@ ghost use Rattle.lt_tree.specs.Typing.ProgramExamples.{
   InitialisersAreSpread,
   ObjectsHaveCells,
 };
+ghost use Rattle.lt_tree.specs.Typing.NodeNumbers.{PartsAreNumbered, BrokenNodesAreThere};
 
 /// Each node of a unit has one spot.
 pub fn nodes_have_spots()
@@ -165,4 +166,10 @@ pub fn programs_are_typed()
     ensures calls_and_marks { CallsAndMarksStay }
     ensures spread { InitialisersAreSpread }
     ensures cells { ObjectsHaveCells }
+{}
+
+/// Typing gives to nodes the numbers of the walk from parent to child, so a rule is broken at a node of the unit.
+pub fn nodes_are_numbered()
+    ensures parts { PartsAreNumbered }
+    ensures broken { BrokenNodesAreThere }
 {}

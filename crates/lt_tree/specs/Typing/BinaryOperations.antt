@@ -88,7 +88,7 @@ operand_faults structs O.Ne x y = unless (can_be_compared (own_type x) x.constan
 operand_faults structs op x y = unless (are_integers (own_type x) (own_type y)) operand_not_integer
 
 -- `x op y`
-abbrev pub judge_binary : Op → Typed → Typed → Known → Judged
+unfoldable pub judge_binary : Op → Typed → Typed → Known → Judged
 judge_binary op x y known =
     judgement (operand_faults known.structs op x y)
     (if are_integers (own_type x) (own_type y) then on_integers known op x y else on_pointers known op x y)
@@ -100,7 +100,7 @@ abbrev pub settles : LogicalOp → ℤ → Bool
 settles logical.And z = is_false z
 settles logical.Or z = is_true z
 
-abbrev pub judge_logical : LogicalOp → Typed → Typed → Judged
+unfoldable pub judge_logical : LogicalOp → Typed → Typed → Judged
 judge_logical op x y =
     judgement (unless (is_scalar (own_type x) && is_scalar (own_type y)) not_scalar)
     (valued (e.Logical (Num S.Int) op (value_in x) (value_in y)) (connected (settles op) x.constancy y.constancy) (connected (settles op) x.erased y.erased))
@@ -122,7 +122,7 @@ chosen_type known x y =
     if are_integers (own_type x) (own_type y) then Num (usual_of known.model (scalar_in x) (scalar_in y))
     else (if is_pointer (own_type x) || is_pointer (own_type y) then chosen_pointer x y else own_type x)
 
-abbrev pub judge_conditional : Typed → Typed → Typed → Known → Judged
+unfoldable pub judge_conditional : Typed → Typed → Typed → Known → Judged
 judge_conditional test x y known =
     judgement
     (unless (is_scalar (own_type test)) not_scalar
@@ -135,7 +135,7 @@ judge_conditional test x y known =
 
 -- ---- assignment, C11 6.5.16
 
-abbrev pub judge_assign : Typed → Typed → Known → Judged
+unfoldable pub judge_assign : Typed → Typed → Known → Judged
 judge_assign x y known =
     judgement (unless (fits (value_type (own_type x)) y) bad_assignment ++ write_faults known.structs x)
     (varies (e.Assign (unqualified (own_type x)) (place_in x) (converted_to (unqualified (own_type x)) (value_in y))))
@@ -152,7 +152,7 @@ updated known op x y =
     else e.Update (unqualified (own_type x)) op (operation_type known op x y) (place_in x) (converted_to (Num (right_type known op x y)) (value_in y))
 
 -- `x op= y`
-abbrev pub judge_update : Op → Typed → Typed → Known → Judged
+unfoldable pub judge_update : Op → Typed → Typed → Known → Judged
 judge_update op x y known =
     judgement (update_faults known.structs op (value_type (own_type x)) (own_type y) ++ write_faults known.structs x) (varies (updated known op x y))
 
@@ -170,5 +170,5 @@ abbrev pub last_of : CType → List Typed → CType
 last_of t [] = t
 last_of t (x ∷ xs) = last_of (own_type x) xs
 
-abbrev pub judge_comma : List Typed → Judged
+unfoldable pub judge_comma : List Typed → Judged
 judge_comma xs = judgement [] (varies (e.Comma (last_of Void xs) (values_of xs)))

@@ -143,7 +143,7 @@ abbrev pub judgement : List Rule → Typed → Judged
 judgement faults typed = record { faults = faults; typed = typed }
 
 -- the end of an expression's node
-abbrev pub finish : ℕ → Use → Judged → Walk Typed
+unfoldable pub finish : ℕ → Use → Judged → Walk Typed
 finish node role judged = do
   known ← here
   settle node (judged.faults ++ faults_of_any known.structs role judged.typed)

@@ -94,7 +94,7 @@ is_good_decision role known x when_true when_false tag =
     && is_scalar (own_type x)
     && is_good_id known when_true && is_good_id known when_false && not (number_of_id when_true == number_of_id when_false) && is_tag tag
 
-abbrev pub judge_decide : Use → Typed → List ℕ → List ℕ → List ℕ → Known → Judged
+unfoldable pub judge_decide : Use → Typed → List ℕ → List ℕ → List ℕ → Known → Judged
 judge_decide role x when_true when_false tag known =
     judgement (unless (is_good_decision role known x when_true when_false tag) bad_mark)
     (valued (e.Decide (Num S.Int) (value_in x) (number_of_id when_true) (number_of_id when_false)) varying x.erased)
@@ -122,12 +122,12 @@ is_lvalue_in_use _ x = false
 abbrev pub after_of : Typed → ℕ → Typed
 after_of x id = record (valued (e.After (own_type x) (value_in x) id) varying x.erased) { is_after = true }
 
-abbrev pub judge_after : Use → Typed → List ℕ → List ℕ → Known → Judged
+unfoldable pub judge_after : Use → Typed → List ℕ → List ℕ → Known → Judged
 judge_after role x id tag known =
     judgement (unless (not (is_lvalue_in_use role x) && not known.is_unmarked && is_good_id known id && is_tag tag) bad_mark)
     (after_of (as_it_is_read x) (number_of_id id))
 
 -- ---- an expression behind marks
 
-abbrev pub judge_marked : e.Marks → Typed → Judged
+unfoldable pub judge_marked : e.Marks → Typed → Judged
 judge_marked marks x = judgement [] (valued (e.Marked (own_type x) marks (value_in x)) varying x.erased)

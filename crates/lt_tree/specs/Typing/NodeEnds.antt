@@ -26,7 +26,7 @@ text_object node known bytes = record {
   start = Some (record { zeroed = true; parts = letters 0 S.Char bytes ∷ [] });
 }
 
-abbrev pub text_at : Known → List ℕ → ℕ → Judged
+unfoldable pub text_at : Known → List ℕ → ℕ → Judged
 text_at known bytes n = judgement [] (placed (e.Object (text_type bytes) n) (address n 0))
 
 abbrev pub judge_unary : UnaryOp → Typed → Known → Judged

@@ -39,14 +39,14 @@ abbrev pub function_named : Known → List ℕ → Typed
 function_named known name =
     record { form = a_designator name (unwrap_or (declared_among name known.declared) Void); is_register = false; is_after = false; constancy = varying; erased = varying }
 
-abbrev pub judge_name : Use → List ℕ → Option Entity → Known → Judged
+unfoldable pub judge_name : Use → List ℕ → Option Entity → Known → Judged
 judge_name role name None known = judgement (undeclared_name ∷ []) nothing
 judge_name role name (Some (a_typedef t)) known = judgement (undeclared_name ∷ []) nothing
 judge_name role name (Some (an_object n is_register)) known = judgement [] (object_named known n is_register)
 judge_name role name (Some a_function) known = judgement (unless (is_callee role) function_as_value) (function_named known name)
 judge_name role name (Some (an_enumerator z)) known = judgement [] (constant S.Int z)
 
-abbrev pub judge_constant : Option TypedConstant → Judged
+unfoldable pub judge_constant : Option TypedConstant → Judged
 judge_constant None = judgement (constant_too_large ∷ []) nothing
 judge_constant (Some c) = judgement [] (constant c.type c.value)
 
@@ -64,13 +64,13 @@ abbrev pub promoted_constancy : DataModel → Typed → Constancy → Constancy
 promoted_constancy m x c = converted m (promoted m (scalar_in x)) c
 
 -- `+x` is a conversion to the promoted type
-abbrev pub judge_plus : Typed → Known → Judged
+unfoldable pub judge_plus : Typed → Known → Judged
 judge_plus x known =
     judgement (unless (is_integer (own_type x)) operand_not_integer)
     (valued (cast_to (Num (promoted known.model (scalar_in x))) (value_in x)) (promoted_constancy known.model x x.constancy) (promoted_constancy known.model x x.erased))
 
 -- `-x` is `0 - x` in the promoted type
-abbrev pub judge_minus : Typed → Known → Judged
+unfoldable pub judge_minus : Typed → Known → Judged
 judge_minus x known =
     judgement (unless (is_integer (own_type x)) operand_not_integer)
     (valued (e.Minus (Num s) (promoted_value known.model x)) (from_zero x.constancy) (from_zero x.erased))
@@ -82,7 +82,7 @@ judge_minus x known =
     from_zero c = applied known.model O.Sub s (number (pos 0)) (converted known.model s c)
 
 -- `~x` is `-1 - x` in a signed type, and the greatest value less x in an unsigned one
-abbrev pub judge_complement : Typed → Known → Judged
+unfoldable pub judge_complement : Typed → Known → Judged
 judge_complement x known =
     judgement (unless (is_integer (own_type x)) operand_not_integer)
     (valued (e.Complement (Num s) (promoted_value known.model x)) (turned x.constancy) (turned x.erased))
@@ -94,12 +94,12 @@ judge_complement x known =
     turned c = applied known.model O.Xor s (converted known.model s (number (pos 0 -ℤ pos 1))) (converted known.model s c)
 
 -- `!x`
-abbrev pub judge_not : Typed → Judged
+unfoldable pub judge_not : Typed → Judged
 judge_not x =
     judgement (unless (is_scalar (own_type x)) not_scalar) (valued (e.Not (Num S.Int) (value_in x)) (negated x.constancy) (negated x.erased))
 
 -- `&x`
-abbrev pub judge_address_of : Typed → Judged
+unfoldable pub judge_address_of : Typed → Judged
 judge_address_of x =
     judgement (unless (is_lvalue x && not x.is_register) bad_address) (valued (e.AddressOf (Pointer (own_type x)) (place_in x)) x.constancy x.constancy)
 
@@ -111,7 +111,7 @@ constant_address (address object offset) = address object offset
 constant_address _ = varying
 
 -- `*x`
-abbrev pub judge_dereference : Typed → Known → Judged
+unfoldable pub judge_dereference : Typed → Known → Judged
 judge_dereference x known =
     judgement (unless (points_to (is_complete known.structs) (own_type x)) bad_address)
     (placed (e.Pointed (target_in x) (value_in x)) (constant_address x.constancy))
@@ -132,13 +132,13 @@ stepped known gives op x =
     else e.Step (unqualified (own_type x)) gives op (promoted known.model (scalar_in x)) (place_in x)
 
 -- `x++`, `x--`, `++x` and `--x`
-abbrev pub judge_step : When → Op → Typed → Known → Judged
+unfoldable pub judge_step : When → Op → Typed → Known → Judged
 judge_step gives op x known =
     judgement (unless (can_be_changed_by known.structs (value_type (own_type x)) (Num S.Int)) bad_sum ++ write_faults known.structs x)
     (varies (stepped known gives op x))
 
 -- the size of a type, of the type that sizes have
-abbrev pub judge_size : CType → Known → Judged
+unfoldable pub judge_size : CType → Known → Judged
 judge_size t known =
     judgement (unless (has_size known.structs t) no_size) (constant (size_type known.model) (pos (size_of known.model known.structs t)))
 
@@ -161,11 +161,11 @@ abbrev pub member_in : Known → CType → List ℕ → Option Placed
 member_in known t name = option_and_then (λ k. member_of known.model known.structs k name) (struct_of t)
 
 -- `x.m`
-abbrev pub judge_member : Typed → List ℕ → Known → Judged
+unfoldable pub judge_member : Typed → List ℕ → Known → Judged
 judge_member x name known = judge_part x (member_in known (own_type x) name)
 
 -- `x->m` is `(*x).m`
-abbrev pub judge_arrow : Typed → List ℕ → Known → Judged
+unfoldable pub judge_arrow : Typed → List ℕ → Known → Judged
 judge_arrow x name known =
     judge_part (placed (e.Pointed (target_in x) (value_in x)) (constant_address x.constancy)) (option_and_then (λ t. member_in known t name) (target_of (own_type x)))
 
@@ -186,7 +186,7 @@ abbrev pub element_size : Known → Typed → Typed → ℕ
 element_size known x y = size_of known.model known.structs (target_in (pointer_among x y))
 
 -- `x[y]`
-abbrev pub judge_index : Typed → Typed → Known → Judged
+unfoldable pub judge_index : Typed → Typed → Known → Judged
 judge_index x y known =
     judgement (unless (can_be_subscripted known.structs (own_type x) (own_type y)) bad_sum)
     (record (placed (e.Element (target_in (pointer_among x y)) (element_size known x y) (side_of x) (value_in x) (value_in y))
@@ -249,7 +249,7 @@ abbrev pub takes_or_gives : (CType → Bool) → CType → CTypes → Bool
 takes_or_gives test result ts = test result || has_type test ts
 
 -- a call of a function of this type
-abbrev pub judge_function : Known → List ℕ → CType → List Typed → Judged
+unfoldable pub judge_function : Known → List ℕ → CType → List Typed → Judged
 judge_function known name (Function result ts dots) xs =
     judgement
     (broken_if floating_type (takes_or_gives has_floating result ts)
@@ -261,13 +261,13 @@ judge_function known name (Function result ts dots) xs =
 judge_function known name _ xs = judgement (bad_call ∷ []) nothing
 
 -- `f(..)`
-abbrev pub judge_call : Typed → List Typed → Known → Judged
+unfoldable pub judge_call : Typed → List Typed → Known → Judged
 judge_call f xs known =
     elim (f.form) [ a_value v ↦ judgement (bad_call ∷ []) nothing | a_place place ↦ judgement (bad_call ∷ []) nothing | a_designator name type ↦ judge_function known name type xs ]
 
 -- ---- casts, C11 6.5.4
 
-abbrev pub judge_cast : CType → Typed → Known → Judged
+unfoldable pub judge_cast : CType → Typed → Known → Judged
 judge_cast t x known =
     judgement (unless (can_be_cast t (own_type x) x.constancy) bad_cast)
     (valued (cast_to (unqualified t) (value_in x)) (constancy_to known.model (unqualified t) x.constancy) (constancy_to known.model (unqualified t) x.erased))

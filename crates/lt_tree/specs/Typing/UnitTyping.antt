@@ -7,8 +7,12 @@ use Rattle.lt_tree.specs.Typing.Rules.{Rule}
 use Rattle.lt_tree.specs.Typing.TypedTree.{Items}
 use Rattle.lt_tree.specs.Typing.Entities.{Known, Frame, no_names, at_start}
 use Rattle.lt_tree.specs.Typing.Steps.{Outcome, Goes, Breaks, Walk, ◌>>=◌, ◌>>◌, gives, enter, settle, changes, within}
-use Rattle.lt_tree.specs.Typing.Expressions.{Typed, as_place}
+use Rattle.lt_tree.specs.Typing.Expressions.{Typed, as_place, finish}
 use Rattle.lt_tree.specs.Typing.Declarators.{Declares, Parameters}
+use Rattle.lt_tree.specs.Typing.Operations.{judge_name, judge_constant, judge_plus, judge_minus, judge_complement, judge_not, judge_address_of, judge_dereference, judge_step, judge_size, judge_member, judge_arrow, judge_index, judge_function, judge_call, judge_cast}
+use Rattle.lt_tree.specs.Typing.BinaryOperations.{judge_binary, judge_logical, judge_conditional, judge_assign, judge_update, judge_comma}
+use Rattle.lt_tree.specs.Typing.MarkRules.{judge_decide, judge_after, judge_marked}
+use Rattle.lt_tree.specs.Typing.NodeEnds.{text_at}
 use Rattle.lt_tree.specs.Typing.ExpressionTyping.{expression, specifiers, declarator}
 use Rattle.lt_tree.specs.Typing.Declaring.{definition_faults, declare_function}
 use Rattle.lt_tree.specs.Typing.DeclarationTyping.{declaration}
@@ -68,6 +72,7 @@ answer unit (Breaks rule node) = broken rule node
 
 -- the typed program of a unit, or the first rule that it breaks
 unfoldable pub typing : DataModel → c.Unit → Typing
+unfolding judge_name judge_constant judge_plus judge_minus judge_complement judge_not judge_address_of judge_dereference judge_step judge_size judge_member judge_arrow judge_index judge_function judge_call judge_cast judge_binary judge_logical judge_conditional judge_assign judge_update judge_comma judge_decide judge_after judge_marked text_at finish
 typing model unit = answer unit (externals unit (at_start model (filter_map defined_in unit)))
 
 -- this program is the unit's
@@ -80,4 +85,5 @@ BreaksFirst model unit rule node = typing model unit ≡ broken rule node
 
 -- An expression where this is known, as it stands there; its nodes are numbered from 0.
 unfoldable pub typing_of : Known → c.Expression → Outcome Typed
+unfolding judge_name judge_constant judge_plus judge_minus judge_complement judge_not judge_address_of judge_dereference judge_step judge_size judge_member judge_arrow judge_index judge_function judge_call judge_cast judge_binary judge_logical judge_conditional judge_assign judge_update judge_comma judge_decide judge_after judge_marked text_at finish
 typing_of known it = expression it as_place (record known { next = 0 })
