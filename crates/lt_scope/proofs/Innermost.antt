@@ -65,7 +65,7 @@ agree_more fs k v p b m n name s end is pushed a same hides stands h =
 
 -- ---- the names of a frame, one after the other
 
-names_more : {T : Type 0} (bs : List (Binder T)) (i : ℕ) (b : Binder T) → i < length bs → b ≡ get_or bs i b → names_in (take (i + 1) bs) ≡ bound_of b ∷ names_in (take i bs)
+pub names_more : {T : Type 0} (bs : List (Binder T)) (i : ℕ) (b : Binder T) → i < length bs → b ≡ get_or bs i b → names_in (take (i + 1) bs) ≡ bound_of b ∷ names_in (take i bs)
 names_more bs i b within is =
     ap names_in (take_more bs i b within ∙ ap (λ x. take i bs ++ x ∷ []) (sym is)) ∙ ap (map bound_of) (reverse-append (take i bs) (b ∷ []))
 
@@ -77,3 +77,12 @@ pub one_more : {T : Type 0} (bs : List (Binder T)) (i : ℕ) (b : Binder T) (nam
     → after ≡ binding name b.what before → after ≡ names_in (take (i + 1) bs) ∷ outer
 one_more bs i b name before after outer within is same had adds =
     adds ∙ ap (binding name b.what) had ∙ ap (λ w. (record { name = w; what = b.what } ∷ names_in (take i bs)) ∷ outer) same ∙ ap (λ names. names ∷ outer) (sym (names_more bs i b within is))
+
+-- one more copy behind those of the binders before it
+pub one_copied : {T : Type 0} (bs : List (Binder T)) (i : ℕ) (b copy : Binder T) (before after : List (Binder T)) → i < length bs → b ≡ get_or bs i b → after ≡ before ++ copy ∷ [] → copy.name ≡ b.name → copy.what ≡ b.what
+    → names_in before ≡ names_in (take i bs) → names_in after ≡ names_in (take (i + 1) bs)
+one_copied bs i b copy before after within is adds same_name same_what had =
+    ap names_in adds ∙ ap (map bound_of) (reverse-append before (copy ∷ []))
+    ∙ ap (λ name. record { name = name; what = copy.what } ∷ names_in before) same_name
+    ∙ ap (λ what. record { name = b.name; what = what } ∷ names_in before) same_what
+    ∙ ap (λ names. bound_of b ∷ names) had ∙ sym (names_more bs i b within is)

@@ -1,2 +1,2 @@
-mod Standings
+pub mod Standings
 mod Innermost

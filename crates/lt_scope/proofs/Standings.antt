@@ -70,14 +70,14 @@ unfolding KeepsOthers
 other_entries eq test old new h = h
 
 -- what a map has behind a change at one name
-pub changed : {T S : Type 0} (name : List ℕ) (m n : HashMap (Vec ℕ) (Standing T) S) (at : Option (Standing T)) → hash.UpdatesBy same_keys (λ key. bytes_eq name key.items) m n at
-    → (w : List ℕ) → standing_in n w ≡ cond (bytes_eq name w) at (standing_in m w)
+pub changed : {V S : Type 0} (name : List ℕ) (m n : HashMap (Vec ℕ) V S) (at : Option V) → hash.UpdatesBy same_keys (λ key. bytes_eq name key.items) m n at
+    → (w : List ℕ) → hash.get_by (λ key. bytes_eq w key.items) n ≡ cond (bytes_eq name w) at (hash.get_by (λ key. bytes_eq w key.items) m)
 changed name m n at h w =
     ⊎_elim
-    (λ y. subst (λ l. standing_in n l ≡ at) ((bytes_decides name w).0 y) h.1 ∙ sym (cond-true (bytes_eq name w) at (standing_in m w) y))
+    (λ y. subst (λ l. hash.get_by (λ key. bytes_eq l key.items) n ≡ at) ((bytes_decides name w).0 y) h.1 ∙ sym (cond-true (bytes_eq name w) at (hash.get_by (λ key. bytes_eq w key.items) m) y))
     (λ e. other_entries same_keys (λ key. bytes_eq name key.items) m.entries n.entries h.3 (λ key. bytes_eq w key.items)
     (λ x y. nat_list_eq_equiv.congr w x.items y.items) (λ key. apart name w key.items e)
-    ∙ sym (cond-false (bytes_eq name w) at (standing_in m w) e))
+    ∙ sym (cond-false (bytes_eq name w) at (hash.get_by (λ key. bytes_eq w key.items) m) e))
     (cases_Bool (bytes_eq name w))
 
 -- what one more name changes

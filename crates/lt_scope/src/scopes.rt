@@ -1,7 +1,7 @@
-ghost use Rattle.std.specs.Prelude.{◌≡◌, [], ◌∷◌, length, drop, reverse, List, IfOk};
+ghost use Rattle.std.specs.Prelude.{◌≡◌, [], ◌∷◌, length, drop, reverse, List, IfOk, IfSome, IfNone};
 ghost use Rattle.std.specs.Result.{OnErr};
 ghost use Rattle.lt_scope.specs.Names.{bound_among, bound_in, innermost, binding};
-ghost use Rattle.lt_scope.specs.Binders.{Forgets, ForgetsAll};
+ghost use Rattle.lt_scope.specs.Binders.{names_in, Forgets, ForgetsAll};
 
 use lt_model::Name;
 use std::alloc::{AllocError, Global};
@@ -74,6 +74,35 @@ impl<T: Drop> Frame<T> {
             binders: Vec::new(alloc),
         }
     }
+
+    /// Takes off the latest name, and gives it with what it stands for.
+    pub fn pop(&mut self) -> Option<(Name, T)>
+        ensures latest { IfSome result (λ b. self.old ≡ record { name = b.0; what = b.1 } ∷ self.new) }
+        ensures none { IfNone result (self.old ≡ []) }
+    {
+        let Binder {
+            name,
+            what,
+            hidden: _,
+        } = self.binders.pop()?;
+        Some((name, what))
+    }
+}
+
+// The names of a frame again.
+fn copied<T: Copy + Drop>(alloc: Global, binders: &[Binder<T>]) -> Result<Frame<T>, AllocError>
+    ensures { IfOk result (λ frame. frame ≡ names_in binders.now) }
+{
+    let mut copies = Vec::new(alloc);
+    for binder in binders {
+        let name = Name::new(alloc, binder.name.as_slice())?;
+        copies.push(Binder {
+            name,
+            what: binder.what,
+            hidden: None,
+        })?;
+    }
+    Ok(Frame { binders: copies })
 }
 
 // Makes a name stand for what it stood for before.
@@ -161,6 +190,16 @@ impl<T: Copy + Drop> Scopes<T> {
         };
         forget_all(&mut self.newest, &binders);
         Frame { binders }
+    }
+
+    /// A copy of the innermost frame; no names where no frame is open.
+    pub fn innermost(&self, alloc: Global) -> Result<Frame<T>, AllocError>
+        ensures { IfOk result (λ frame. frame ≡ innermost self.now) }
+    {
+        match self.frames.last() {
+            None => Ok(Frame::new(alloc)),
+            Some(binders) => copied(alloc, binders),
+        }
     }
 
     /// Declares a name in the innermost frame, if one is open.

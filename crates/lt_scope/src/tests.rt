@@ -22,6 +22,10 @@ fn the_innermost_and_latest_name_is_found(rt: HostRuntime) -> Result<(), Fail> {
     scopes.bind(b"x", 3)?;
     scopes.bind(b"x", 4)?;
     assert!(rt; seen(&scopes) == [Some(4), Some(2), Some(4), None]);
+    let mut copy = scopes.innermost(rt.alloc())?;
+    assert!(rt;
+        copy.pop().is_some_and(|(name, what)| name.as_slice() == b"x".as_slice() && what == 4)
+    );
     let frame = scopes.close();
     assert!(rt; seen(&scopes) == [Some(1), Some(2), Some(1), Some(2)]);
     scopes.open()?;
