@@ -1,10 +1,11 @@
 -- What is found and bound in the frames of two scopes.
-use Rattle.std.proofs.Common.{◌≡◌, refl, ap, ◌∙◌, ℕ, suc, Bool, true, false, cond, List, [], ◌∷◌, length, Option, Some, None, arith}
+use Rattle.std.proofs.Common.{◌≡◌, refl, sym, ap, ◌∙◌, ℕ, suc, Bool, true, false, cond, List, [], ◌∷◌, ◌++◌, length, map, Option, Some, None, append_assoc, arith}
+use Rattle.std.proofs.lemmas.List.{append-nil, map-append}
 use Rattle.std.specs.Prelude.{option_map}
 use Rattle.std.specs.Str.{bytes_eq}
 use Rattle.lt_scope.specs.Names as scope
 use Rattle.lt_tree.specs.Typing.Entities.{Entity, Tagged, bound_among, tagged_among, bound_in, tagged_in, or_else, innermost, no_names, binding, tagging}
-use Rattle.lt_type.specs.ScopeFrames.{names_of, tags_of, frames_of}
+use Rattle.lt_type.specs.ScopeFrames.{names_of, tags_of, frame_of, frames_of}
 
 -- ---- one frame
 
@@ -79,3 +80,24 @@ tag_bound f g w x (frame ∷ names) (others ∷ tags) same = refl
 
 pub frame_opened : {T U : Type 0} (f : T → Entity) (g : U → Tagged) (names : List (List (scope.Bound T))) (tags : List (List (scope.Bound U))) → frames_of f g ([] ∷ names) ([] ∷ tags) ≡ no_names ∷ frames_of f g names tags
 frame_opened f g names tags = refl
+
+pub frame_innermost : {T U : Type 0} (f : T → Entity) (g : U → Tagged) (names : List (List (scope.Bound T))) (tags : List (List (scope.Bound U))) → length names ≡ length tags
+    → frame_of f g (scope.innermost names) (scope.innermost tags) ≡ innermost (frames_of f g names tags)
+frame_innermost f g [] [] same = refl
+frame_innermost f g [] (others ∷ tags) same = absurd (omega arith)
+frame_innermost f g (frame ∷ names) [] same = absurd (omega arith)
+frame_innermost f g (frame ∷ names) (others ∷ tags) same = refl
+
+-- ---- a list of what a frame has, the latest first
+
+pub one_listed : {X B E : Type 0} (shows : X → E) (shown : B → E) (x : X) (b : B) (list longer : List X) (names fewer whole : List B) → longer ≡ list ++ x ∷ [] → names ≡ b ∷ fewer → shows x ≡ shown b
+    → map shows list ++ map shown names ≡ map shown whole → map shows longer ++ map shown fewer ≡ map shown whole
+one_listed shows shown x b list longer names fewer whole adds takes same had =
+    ap (λ l. map shows l ++ map shown fewer) adds
+    ∙ ap (λ l. l ++ map shown fewer) (map-append shows list (x ∷ []))
+    ∙ append_assoc (map shows list) (shows x ∷ []) (map shown fewer)
+    ∙ ap (λ e. map shows list ++ e ∷ map shown fewer) same
+    ∙ ap (λ l. map shows list ++ map shown l) (sym takes) ∙ had
+
+pub all_listed : {X B E : Type 0} (shows : X → E) (shown : B → E) (list : List X) (names whole : List B) → names ≡ [] → map shows list ++ map shown names ≡ map shown whole → map shows list ≡ map shown whole
+all_listed shows shown list names whole none had = sym (append-nil (map shows list)) ∙ ap (λ l. map shows list ++ map shown l) (sym none) ∙ had

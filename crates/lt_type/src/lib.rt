@@ -1,16 +1,25 @@
-//! Types of C's expressions. Types stand in a table, each once; constants are values and addresses.
+//! Types of C's expressions, and of the declarations inside them; `specs/Going.antt` says what going over a part of a unit gives.
 #![tactic(auto)]
 
-mod constants;
-mod table;
+mod declaring;
+mod faults;
+mod judge;
+mod stop;
+mod symbols;
+mod typed;
+mod values;
+mod walk;
+mod walker;
 
-pub use constants::{
-    TypedConstant, applied, chosen, complement, connected, constancy_as_number,
-    constancy_as_pointer, constant_of, converted, id_of, is_form, is_null_constant, is_number,
-    is_tag, is_zero, moved_back, moved_by, moved_to, negated, negative, null_of, operated,
-    truth_of,
+pub use declaring::{
+    Built, DeclaredKind, Declares, Judging, Naming, Parameters, Specified, kind_of,
 };
-pub use table::{Kind, TypeTable};
+pub use faults::Faults;
+pub use stop::TypeStop;
+pub use symbols::{Bodies, Declarations, Labels, NameFrame, NameSet, Names, Objects};
+pub use typed::{Form, Judged, Typed, Use};
+pub use walk::{constant_expression, declarator, expression, mark, specifiers};
+pub use walker::Walker;
 
 #[cfg(test)]
 mod tests;

@@ -1,0 +1,9 @@
+pub mod ConstantViews
+pub mod TableKinds
+pub mod TableElements
+pub mod TableRows
+pub mod TablePointers
+pub mod TableBare
+pub mod StructNesting
+pub mod StructTables
+pub mod TypesValue

@@ -1,0 +1,12 @@
+use Rattle.std.proofs.Common.{ap, ◌∙◌}
+use Rattle.lt_tree.specs.Typing.Constants.{address}
+use Rattle.lt_tree.specs.Typing.Expressions.{placed, judgement}
+use Rattle.lt_tree.specs.Typing.TypedTree as e
+use Rattle.lt_tree.specs.Typing.NodeEnds.{text_at}
+use Rattle.lt_type.proofs.Judgements.{judged}
+use Rattle.lt_type.proofs.judge.names.judge_text.Goals as goal
+
+pub returns : goal.returns
+unfolding text_at
+returns c = judged c.in_ok-ty.ensures.widens (λ longer more.
+    rw (c.in_ok-judgement.ensures longer, c.in_ok-typed.ensures longer, c.in_ok-place.ensures longer, c.in_ok-ty.ensures.made longer more, c.new.ensures))
