@@ -15,6 +15,3 @@ mod walk;
 
 pub use laws::{at_most_one_unit, unit_derived_is_read, unit_read_is_derived};
 pub use parse::{Parsed, parse_unit};
-
-#[cfg(test)]
-mod tests;

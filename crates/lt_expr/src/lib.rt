@@ -39,6 +39,3 @@ pub use symbol::Symbol;
 pub use table::symbols_of;
 pub use typedefs::Typedefs;
 pub use walk::Walker;
-
-#[cfg(test)]
-mod tests;

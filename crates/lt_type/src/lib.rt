@@ -20,6 +20,3 @@ pub use symbols::{Bodies, Declarations, Labels, NameFrame, NameSet, Names, Objec
 pub use typed::{Form, Judged, Typed, Use};
 pub use walk::{constant_expression, declarator, expression, mark, specifiers};
 pub use walker::Walker;
-
-#[cfg(test)]
-mod tests;

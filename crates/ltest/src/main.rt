@@ -5,8 +5,6 @@ mod message;
 mod status;
 #[cfg(test)]
 mod tests;
-#[cfg(test)]
-mod texts;
 mod top;
 mod words;
 

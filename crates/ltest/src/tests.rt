@@ -1,3 +1,11 @@
+mod declared;
+mod every;
+mod expressions;
+mod printing;
+mod reading;
+mod typing;
+mod units;
+
 use crate::message::message;
 use crate::status::{Refusal, Status};
 use crate::top::ltest;

@@ -1,22 +1,13 @@
 //! Units with the bytes that their nodes begin at, counted by a script that isn't this parser.
 
-mod every;
-
-use crate::{Parsed, parse_unit};
-use every::EVERY;
+use super::every::EVERY;
+use super::reading::{nested, parsed};
+use lt_decl::parse_unit;
 use lt_expr::ParseStop;
 use lt_lex::lex;
 use lt_tree::{External, Item, Stmt};
 use std::alloc::{AllocError, Global};
 use std::process::Abort;
-
-fn parsed(rt: &impl Abort, alloc: Global, text: &[u8]) -> Result<Parsed, ParseStop> {
-    assert!(rt; text.len() < 10_000_000);
-    match lex(alloc, text) {
-        Ok(tokens) => parse_unit(alloc, &tokens),
-        Err(_) => panic!(rt; "tokens"),
-    }
-}
 
 // Whether the text is no unit, which is told at a token or at its end.
 fn is_refused(rt: &impl Abort, alloc: Global, text: &[u8]) -> bool {
@@ -114,12 +105,12 @@ const NO_UNITS: [&str; 11] = [
 fn texts_are_their_units(rt: HostRuntime) {
     let alloc = rt.alloc();
     for (text, wanted) in UNITS {
-        match parsed(&rt, alloc, text.as_bytes()) {
-            Ok(unit) => {
+        match parsed(alloc, text.as_bytes()) {
+            Some(unit) => {
                 let got = spots_shown(alloc, unit.spots.as_slice()).expect(&rt, "memory");
                 assert!(rt; got.as_slice() == wanted.as_bytes(), "spots of {text}");
             }
-            Err(_) => panic!(rt; "a unit: {text}"),
+            None => panic!(rt; "a unit: {text}"),
         }
     }
     for text in NO_UNITS {
@@ -139,7 +130,7 @@ fn texts_are_their_units(rt: HostRuntime) {
 fn else_belongs_to_the_inner_if(rt: HostRuntime) {
     let alloc = rt.alloc();
     let text = b"int f(int a) { if (a) if (a) a = 1; else a = 2; return a; }";
-    let Ok(unit) = parsed(&rt, alloc, text) else {
+    let Some(unit) = parsed(alloc, text) else {
         panic!(rt; "a unit");
     };
     let Some(External::Function(f)) = unit.unit.externals.as_slice().get(0) else {
@@ -159,7 +150,7 @@ fn else_belongs_to_the_inner_if(rt: HostRuntime) {
 #[test]
 fn every_production_has_its_spots(rt: HostRuntime) {
     let alloc = rt.alloc();
-    let Ok(unit) = parsed(&rt, alloc, EVERY) else {
+    let Some(unit) = parsed(alloc, EVERY) else {
         panic!(rt; "a unit");
     };
     assert_eq!(rt; unit.spots.len(), 1461);
@@ -204,24 +195,6 @@ const DEEP: [(&str, &str, &str, &str, &str, usize, usize); 11] = [
     ("int a[] = {", "1,", "2", "", "};", 100_000, 200_005),
 ];
 
-fn repeated(
-    alloc: Global,
-    front: &str,
-    middle: &str,
-    back: &str,
-    times: usize,
-) -> Result<Vec<u8>, AllocError> {
-    let mut bytes = Vec::new(alloc);
-    for _turn in 0..times {
-        bytes.extend_from_slice(front.as_bytes())?;
-    }
-    bytes.extend_from_slice(middle.as_bytes())?;
-    for _turn in 0..times {
-        bytes.extend_from_slice(back.as_bytes())?;
-    }
-    Ok(bytes)
-}
-
 fn surrounded(
     alloc: Global,
     front: &str,
@@ -238,11 +211,11 @@ fn surrounded(
 fn the_deepest_and_longest_texts_are_units(rt: HostRuntime) {
     let alloc = rt.alloc();
     for (front, opening, middle, closing, back, times, nodes) in DEEP {
-        let inside = repeated(alloc, opening, middle, closing, times).expect(&rt, "memory");
+        let inside = nested(alloc, times, opening, middle, closing).expect(&rt, "memory");
         let text = surrounded(alloc, front, inside.as_slice(), back).expect(&rt, "memory");
-        match parsed(&rt, alloc, text.as_slice()) {
-            Ok(unit) => assert!(rt; unit.spots.len() == nodes, "{times} times {opening}"),
-            Err(_) => panic!(rt; "a unit of {times} times {opening}"),
+        match parsed(alloc, text.as_slice()) {
+            Some(unit) => assert!(rt; unit.spots.len() == nodes, "{times} times {opening}"),
+            None => panic!(rt; "a unit of {times} times {opening}"),
         }
     }
 }

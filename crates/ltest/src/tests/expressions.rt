@@ -1,6 +1,7 @@
 //! Expressions with the places behind them and the bytes that their nodes begin at, written by hand.
 
-use crate::{ParseStop, Parsed, Typedefs, parse_expr};
+use super::reading::nested;
+use lt_expr::{ParseStop, Parsed, Typedefs, parse_expr};
 use lt_lex::lex;
 use lt_model::Name;
 use lt_tree::Expr;
@@ -127,30 +128,12 @@ const DEEP: [(&str, &str, &str, usize); 11] = [
     ("a,", "x", "", 99_999),
 ];
 
-fn repeated(
-    alloc: Global,
-    front: &str,
-    middle: &str,
-    back: &str,
-    times: usize,
-) -> Result<Vec<u8>, AllocError> {
-    let mut bytes = Vec::new(alloc);
-    for _turn in 0..times {
-        bytes.extend_from_slice(front.as_bytes())?;
-    }
-    bytes.extend_from_slice(middle.as_bytes())?;
-    for _turn in 0..times {
-        bytes.extend_from_slice(back.as_bytes())?;
-    }
-    Ok(bytes)
-}
-
 #[test]
 fn the_deepest_texts_have_expressions(rt: HostRuntime) {
     let alloc = rt.alloc();
     let names = Typedefs::new(alloc);
     for (front, middle, back, times) in DEEP {
-        let text = repeated(alloc, front, middle, back, times).expect(&rt, "memory");
+        let text = nested(alloc, times, front, middle, back).expect(&rt, "memory");
         assert!(rt; text.len() < 1_000_000);
         match lex(alloc, text.as_slice()) {
             Ok(tokens) => match parse_expr(alloc, &tokens, 0, &names) {

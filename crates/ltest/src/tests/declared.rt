@@ -1,7 +1,8 @@
-use crate::declaring::OpenMembers;
-use crate::{Bodies, Declarations, Faults, Labels, NameFrame, NameSet, Names, Objects};
+//! What a unit declares while it is typed, and the rules that a node breaks.
+
 use lt_model::Name;
 use lt_tree::typed::{Entity, Function, LabelInfo, Life, Object, Rule, Tagged, TypeId};
+use lt_type::{Bodies, Declarations, Faults, Labels, NameFrame, NameSet, Names, Objects};
 use std::alloc::{AllocError, Global};
 use std::test::Fail;
 
@@ -186,12 +187,6 @@ fn labels(alloc: Global) -> Result<Labels, AllocError> {
     Ok(labels)
 }
 
-fn members(alloc: Global) -> Result<OpenMembers, AllocError> {
-    let mut members = OpenMembers::new(alloc);
-    members.add(Name::new(alloc, b"m")?, T)?;
-    Ok(members)
-}
-
 fn words(alloc: Global) -> Result<NameSet, AllocError> {
     let mut words = NameSet::new(alloc);
     words.add(Name::new(alloc, b"w")?)?;
@@ -206,24 +201,16 @@ fn are_labels_found(alloc: Global) -> Result<bool, AllocError> {
     Ok(ids == [true, false] && names == [true, false] && count == 1)
 }
 
-fn are_members_found(alloc: Global) -> Result<bool, AllocError> {
-    let members = members(alloc)?;
-    let names = [members.has(b"m"), members.has(b"n")];
-    let count = members.into_list().len();
-    Ok(names == [true, false] && count == 1)
-}
-
 fn are_words_found(alloc: Global) -> Result<bool, AllocError> {
     let words = words(alloc)?;
     Ok([words.has(b"w"), words.has(b"v")] == [true, false])
 }
 
 #[test]
-fn labels_members_and_words_are_found(rt: HostRuntime) -> Result<(), Fail> {
+fn labels_and_words_are_found(rt: HostRuntime) -> Result<(), Fail> {
     let labels = are_labels_found(rt.alloc())?;
-    let members = are_members_found(rt.alloc())?;
     let words = are_words_found(rt.alloc())?;
-    assert!(rt; labels && members && words);
+    assert!(rt; labels && words);
     Ok(())
 }
 

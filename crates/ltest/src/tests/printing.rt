@@ -1,22 +1,8 @@
 //! Texts of C that are parsed and printed, some of them erased between.
 
-use lt_decl::{Parsed, parse_unit};
-use lt_lex::lex;
+use super::reading::parsed;
 use lt_print::print_unit;
 use lt_tree::erase;
-use std::alloc::Global;
-use std::process::Abort;
-
-fn parsed(rt: &impl Abort, alloc: Global, text: &str) -> Parsed {
-    assert!(rt; text.len() < 10_000);
-    match lex(alloc, text.as_bytes()) {
-        Ok(tokens) => match parse_unit(alloc, &tokens) {
-            Ok(parsed) => parsed,
-            Err(_) => panic!(rt; "no unit: {text}"),
-        },
-        Err(_) => panic!(rt; "no tokens: {text}"),
-    }
-}
 
 const ONE_TEST: &str = "int f(int x) {
   if (x > 0)
@@ -128,10 +114,10 @@ const TEXTS: [(&str, &str); 8] = [
 fn texts_are_printed_in_their_canonical_form(rt: HostRuntime) {
     let alloc = rt.alloc();
     for (text, wanted) in TEXTS {
-        let unit = parsed(&rt, alloc, text).unit;
+        let unit = parsed(alloc, text.as_bytes()).expect(&rt, "a unit").unit;
         let printed = print_unit(alloc, &unit).expect(&rt, "memory");
         assert!(rt; printed.as_slice() == wanted.as_bytes(), "printed: {text}");
-        let again = parsed(&rt, alloc, wanted).unit;
+        let again = parsed(alloc, wanted.as_bytes()).expect(&rt, "a unit").unit;
         let printed = print_unit(alloc, &again).expect(&rt, "memory");
         assert!(rt;
             printed.as_slice() == wanted.as_bytes(),
@@ -153,7 +139,7 @@ const MARKED: [(&str, &str); 5] = [
 fn erased_texts_are_those_without_marks(rt: HostRuntime) {
     let alloc = rt.alloc();
     for (text, wanted) in MARKED {
-        let unit = parsed(&rt, alloc, text).unit;
+        let unit = parsed(alloc, text.as_bytes()).expect(&rt, "a unit").unit;
         let erased = erase(alloc, &unit).expect(&rt, "memory");
         let printed = print_unit(alloc, &erased).expect(&rt, "memory");
         assert!(rt; printed.as_slice() == wanted.as_bytes(), "erased: {text}");
