@@ -8,7 +8,7 @@ use Rattle.lt_tree.specs.declared.typed.entity.StructType as listed
 use Rattle.lt_tree.specs.Typing.Types.{CType}
 use Rattle.lt_tree.specs.Typing.EntityView as view
 use Rattle.lt_tree.specs.Typing.EntityView.{structs_of}
-use Rattle.lt_tree.specs.Typing.Extents.{Structs, members_of, extent_of, placed_behind, named_among, member_of}
+use Rattle.lt_tree.specs.Typing.Extents.{Structs, members_of, extent_of, placed_behind, placed_members, named_among, member_of}
 use Rattle.lt_table.specs.declared.structs.StructFacts.{StructFacts}
 use Rattle.lt_table.specs.StructTables.{members_at, names_of, names_in, place_of, place_in, placed_in, placed_with, IsKnown, IsMember}
 use Rattle.lt_table.proofs.StructPlaces.{names_same}
@@ -59,3 +59,24 @@ member_is m structs k name types (Some members) (Some facts) at h =
     (h.places name ∙ ap (λ o. place_of name (names_of (unwrap_or o []))) (sym at) ∙ ap (place_of name) (names_same types members))
     ∙ placed_is types name members facts.offsets.items
     ∙ ap (λ l. option_map {U = CType × ℕ} (λ p. (p.type, p.offset)) (named_among name l)) (ap (λ o. placed_with (unwrap_or o []) facts.offsets.items) at ∙ h.placed)
+
+-- ---- by their places
+
+placed_there : (types : List CType) (members : List entity.Member) (offsets : List ℕ) (place : ℕ)
+    → IsMember types (placed_in members offsets place) (slice_get (placed_with (map (view.member_of types) members) offsets) place)
+placed_there types [] offsets zero = refl
+placed_there types [] offsets (suc place) = refl
+placed_there types (member ∷ members) [] zero = refl
+placed_there types (member ∷ members) [] (suc place) = ap (option_map {U = CType × ℕ} (λ m. (type_in types m.0, m.1))) (nothing (slice_get members place))
+placed_there types (member ∷ members) (offset ∷ offsets) zero = refl
+placed_there types (member ∷ members) (offset ∷ offsets) (suc place) = placed_there types members offsets place
+
+pub member_there : (m : DataModel) (structs : Structs) (k place : ℕ) (types : List CType) (found : Option (List entity.Member)) (known : Option StructFacts)
+    → option_map (map (view.member_of types)) found ≡ members_of structs k → IsKnown m structs k known
+    → IsMember types (then_some found (λ members. then_some known (λ facts. placed_in members facts.offsets.items place))) (slice_get (placed_members m structs k) place)
+member_there m structs k place types None known at h =
+    ap (λ o. option_map {U = CType × ℕ} (λ p. (p.type, p.offset)) (slice_get (placed_behind (extent_of m structs) no_members (unwrap_or o [])) place)) at
+member_there m structs k place types (Some members) None at h = absurd (true≢false (ap is_some at ∙ h))
+member_there m structs k place types (Some members) (Some facts) at h =
+    placed_there types members facts.offsets.items place
+    ∙ ap (λ l. option_map {U = CType × ℕ} (λ p. (p.type, p.offset)) (slice_get l place)) (ap (λ o. placed_with (unwrap_or o []) facts.offsets.items) at ∙ h.placed)

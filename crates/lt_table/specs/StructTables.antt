@@ -177,6 +177,10 @@ member_at table k name =
     then_some (members_at table.structs.items k) (λ members. then_some (known_at table.known.items k) (λ facts.
     then_some (place_in facts.places name) (placed_in members facts.offsets.items)))
 
+abbrev pub member_placed : StructTable → ℕ → ℕ → Option (TypeId × ℕ)
+member_placed table k place =
+    then_some (members_at table.structs.items k) (λ members. then_some (known_at table.known.items k) (λ facts. placed_in members facts.offsets.items place))
+
 -- this type and this offset are those of the member
 abbrev pub IsMember : List CType → Option (TypeId × ℕ) → Option Placed → Type 0
 IsMember types found placed = option_map {U = CType × ℕ} (λ m. (type_in types m.0, m.1)) found ≡ option_map {U = CType × ℕ} (λ p. (p.type, p.offset)) placed

@@ -74,6 +74,13 @@ impl StructTable {
         self.structs.len()
     }
 
+    /// All of them.
+    pub fn into_list(self) -> Vec<StructType>
+        ensures { result ≡ self.structs }
+    {
+        self.structs
+    }
+
     /// One more struct, which is incomplete; its number. There are no more than 2^32: more end as want of memory does.
     pub fn add(&mut self) -> Result<u32, AllocError>
         ensures model { self.new.model ≡ self.old.model }

@@ -59,6 +59,17 @@ impl TypeTable {
         self.rows.len()
     }
 
+    /// The rows.
+    pub fn into_rows(self) -> Result<Vec<TypeRow>, AllocError>
+        ensures { IfOk result (λ rows. rows.items ≡ self) }
+    {
+        let mut rows = Vec::new(self.alloc);
+        for row in self.rows.into_keys() {
+            rows.push(row)?;
+        }
+        Ok(rows)
+    }
+
     // What is known of a type. None for an id of no row.
     pub(crate) fn facts(&self, t: TypeId) -> Option<RowFacts>
         ensures row { IsSome result ↔ (t.place < length self.now) }

@@ -8,7 +8,7 @@ ghost use Rattle.lt_table.specs.TableRows.{Grows};
 use crate::structs::StructTable;
 use crate::table::TypeTable;
 use lt_model::DataModel;
-use lt_tree::typed::Member;
+use lt_tree::typed::{Member, StructType, TypeRow};
 use std::alloc::{AllocError, Global};
 use std::marker::Model;
 
@@ -79,5 +79,14 @@ impl Types {
         ensures same { OnErr result (self.new ≡ self.old) }
     {
         self.structs.complete(&self.table, number, members)
+    }
+
+    /// The rows of the types, and the structs.
+    pub fn into_parts(self) -> Result<(Vec<TypeRow>, Vec<StructType>), AllocError>
+        ensures rows { IfOk result (λ parts. parts.0.items ≡ self.rows) }
+        ensures structs { IfOk result (λ parts. parts.1.items ≡ self.structs) }
+    {
+        let rows = self.table.into_rows()?;
+        Ok((rows, self.structs.into_list()))
     }
 }

@@ -15,8 +15,11 @@ pub use declaring::{
     Built, DeclaredKind, Declares, Judging, Naming, Parameters, Specified, kind_of,
 };
 pub use faults::Faults;
+pub use judge::names::text_type;
+pub use judge::shared::{converted_value, fits, is_integer, is_scalar, only_unless};
 pub use stop::TypeStop;
 pub use symbols::{Bodies, Declarations, Labels, NameFrame, NameSet, Names, Objects};
 pub use typed::{Form, Judged, Typed, Use};
+pub use values::{constancy_to, converted_to, value_in};
 pub use walk::{constant_expression, declarator, expression, mark, specifiers};
 pub use walker::Walker;

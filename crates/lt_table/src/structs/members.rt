@@ -1,11 +1,11 @@
-ghost use Rattle.std.specs.Prelude.{◌≡◌, List, map, option_map};
+ghost use Rattle.std.specs.Prelude.{◌≡◌, List, map, option_map, slice_get};
 ghost use Rattle.std.specs.Option.{option_copied};
 ghost use Rattle.lt_tree.specs.declared.typed.types.TypeRow.{TypeRow};
 ghost use Rattle.lt_tree.specs.Typing.Types.{CType};
 ghost use Rattle.lt_tree.specs.Typing.EntityView as view;
-ghost use Rattle.lt_tree.specs.Typing.Extents.{members_of, member_of};
+ghost use Rattle.lt_tree.specs.Typing.Extents.{members_of, member_of, placed_members};
 ghost use Rattle.lt_table.specs.TableRows.{Stays};
-ghost use Rattle.lt_table.specs.StructTables.{structs_in, members_at, placed_in, member_at, IsMember, Suits};
+ghost use Rattle.lt_table.specs.StructTables.{structs_in, members_at, placed_in, member_at, member_placed, IsMember, Suits};
 
 use super::StructTable;
 use lt_tree::typed::{Member, TypeId};
@@ -23,6 +23,13 @@ impl StructTable {
         ensures { (rows : List TypeRow) → Suits rows self.now → Stays rows (λ types. IsMember types result (member_of self.now.model (structs_in types self.now) number name.now)) }
     {
         self.member_at(number, name)
+    }
+
+    /// The type and the offset of the member at this place among those of a struct. None behind the last, and behind a member that has no size.
+    pub fn placed_member(&self, number: u32, place: usize) -> Option<(TypeId, u64)>
+        ensures { (rows : List TypeRow) → Suits rows self.now → Stays rows (λ types. IsMember types result (slice_get (placed_members self.now.model (structs_in types self.now) number) place)) }
+    {
+        self.placed_at(number, place)
     }
 
     fn members_at(&self, number: u32) -> Option<&[Member]>
@@ -44,6 +51,14 @@ impl StructTable {
         let facts = self.known(number)?;
         let place = facts.places.get(name)?;
         placed_in(members, facts.offsets.as_slice(), *place)
+    }
+
+    fn placed_at(&self, number: u32, place: usize) -> Option<(TypeId, u64)>
+        ensures { result ≡ member_placed self.now number place }
+    {
+        let members = self.members_at(number)?;
+        let facts = self.known(number)?;
+        placed_in(members, facts.offsets.as_slice(), place)
     }
 }
 

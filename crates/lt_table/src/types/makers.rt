@@ -1,6 +1,8 @@
+ghost use Rattle.std.specs.Prelude.{◌≡◌, length, IfOk};
 ghost use Rattle.lt_tree.specs.View.{qualifiers_of};
 ghost use Rattle.lt_tree.specs.Typing.Types.{Void, Num, Pointer, Array, Struct, Function, Floating, adjusted, qualified, unqualified, value_type};
 ghost use Rattle.lt_tree.specs.Typing.TypeRows.{type_in, all_in};
+ghost use Rattle.lt_table.specs.TableBare.{AreBare};
 ghost use Rattle.lt_table.specs.TableRows.{Makes};
 ghost use Rattle.lt_table.specs.TypesValue.{Widens};
 
@@ -103,5 +105,14 @@ impl Types {
         ensures made { Makes self.new.rows result (λ types. value_type (type_in types t)) }
     {
         self.table.value_type(t)
+    }
+
+    /// For each row that there is now the id of its type without qualifiers, also inside.
+    pub fn bare_types(&mut self) -> Result<Vec<TypeId>, AllocError>
+        ensures widens { Widens self.old self.new }
+        ensures len { IfOk result (λ ids. length ids.items ≡ length self.old.rows) }
+        ensures bare { IfOk result (λ ids. AreBare self.new.rows ids.items) }
+    {
+        self.table.bare_types()
     }
 }

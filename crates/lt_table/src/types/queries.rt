@@ -1,7 +1,7 @@
-ghost use Rattle.std.specs.Prelude.{◌≡◌, ◌<◌, ◌↔◌, ◌||◌, ◌&&◌, List, length, is_some, IsSome, IfSome};
+ghost use Rattle.std.specs.Prelude.{◌≡◌, ◌<◌, ◌↔◌, ◌||◌, ◌&&◌, List, length, is_some, slice_get, IsSome, IfSome};
 ghost use Rattle.lt_tree.specs.Typing.Types.{CType};
 ghost use Rattle.lt_tree.specs.Typing.TypeRows.{type_in};
-ghost use Rattle.lt_tree.specs.Typing.Extents.{is_complete, has_size, has_too_many_cells, size_of, has_constant_part, member_of};
+ghost use Rattle.lt_tree.specs.Typing.Extents.{is_complete, has_size, has_too_many_cells, size_of, has_constant_part, member_of, placed_members};
 ghost use Rattle.lt_tree.specs.Typing.Declarators.{is_incomplete};
 ghost use Rattle.lt_tree.specs.Typing.Specifying.{is_complete_struct};
 ghost use Rattle.lt_tree.specs.Typing.Operands.{is_movable, is_pointer_and_integer, can_be_added, can_be_subtracted, can_be_changed_by, can_be_subscripted, is_modifiable};
@@ -74,6 +74,13 @@ impl Types {
         ensures { Stays self.now.rows (λ types. IsMember types result (member_of self.now.model (structs_at types self.now) number name.now)) }
     {
         self.structs.member_of(number, name)
+    }
+
+    /// The type and the offset of the member at this place among those of a struct. None behind the last, and behind a member that has no size.
+    pub fn placed_member(&self, number: u32, place: usize) -> Option<(TypeId, u64)>
+        ensures { Stays self.now.rows (λ types. IsMember types result (slice_get (placed_members self.now.model (structs_at types self.now) number) place)) }
+    {
+        self.structs.placed_member(number, place)
     }
 
     /// Whether it is a pointer that can be moved by elements.

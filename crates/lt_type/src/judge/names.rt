@@ -210,8 +210,8 @@ pub fn judge_constant(walker: &mut Walker, text: &[u8]) -> Result<Box<Judged>, T
     Ok(written(&mut walker.types, text)?)
 }
 
-// The type of a string literal.
-fn text_type(types: &mut Types, bytes: &[u8]) -> Result<TypeId, AllocError>
+/// The type of a string literal: an array of its bytes and a zero.
+pub fn text_type(types: &mut Types, bytes: &[u8]) -> Result<TypeId, AllocError>
     ensures widens { Widens types.old types.new }
     ensures made { Makes types.new.rows result (λ longer. operations.text_type bytes.now) }
 {

@@ -38,7 +38,7 @@ pub(crate) fn judgement(
 }
 
 /// One rule, unless this holds.
-pub(crate) fn only_unless(alloc: Global, holds: bool, rule: Rule) -> Result<Faults, AllocError>
+pub fn only_unless(alloc: Global, holds: bool, rule: Rule) -> Result<Faults, AllocError>
     ensures { IfOk result (λ faults. faults ≡ rules.unless holds (rule_of rule)) }
 {
     let mut faults = Faults::new(alloc);
@@ -47,7 +47,7 @@ pub(crate) fn only_unless(alloc: Global, holds: bool, rule: Rule) -> Result<Faul
 }
 
 /// The value of an expression as one of this type.
-pub(crate) fn converted_value(
+pub fn converted_value(
     types: &mut Types,
     t: TypeId,
     x: Box<Typed>,
@@ -68,7 +68,7 @@ fn counts_as_null(x: &Typed) -> bool
 }
 
 /// Whether it can be assigned to this type.
-pub(crate) fn fits(types: &Types, t: TypeId, x: &Typed) -> Result<bool, AllocError>
+pub fn fits(types: &Types, t: TypeId, x: &Typed) -> Result<bool, AllocError>
     ensures { IfOk result (λ b. Stays types.now.rows (λ longer. b ≡ operations.fits (type_in longer t) (typed_of longer x.now))) }
 {
     let null = counts_as_null(x);
@@ -106,14 +106,14 @@ pub(crate) fn write_faults(types: &Types, x: &Typed) -> Result<Faults, AllocErro
 }
 
 /// Whether its type is an integer.
-pub(crate) fn is_integer(types: &Types, x: &Typed) -> Result<bool, AllocError>
+pub fn is_integer(types: &Types, x: &Typed) -> Result<bool, AllocError>
     ensures { IfOk result (λ b. Stays types.now.rows (λ longer. b ≡ typing.is_integer (expressions.own_type (typed_of longer x.now)))) }
 {
     types.table().is_integer(x.own_type()).ok_or(AllocError)
 }
 
 /// Whether it is an integer or a pointer.
-pub(crate) fn is_scalar(types: &Types, x: &Typed) -> Result<bool, AllocError>
+pub fn is_scalar(types: &Types, x: &Typed) -> Result<bool, AllocError>
     ensures { IfOk result (λ b. Stays types.now.rows (λ longer. b ≡ typing.is_scalar (expressions.own_type (typed_of longer x.now)))) }
 {
     types.table().is_scalar(x.own_type()).ok_or(AllocError)

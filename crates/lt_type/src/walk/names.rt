@@ -6,21 +6,17 @@ ghost use Rattle.lt_tree.specs.Typing.ExpressionTyping as typing;
 ghost use Rattle.lt_tree.specs.Typing.NodeEnds.{text_object};
 ghost use Rattle.lt_tree.specs.Typing.EntityView.{object_of, life_of};
 ghost use Rattle.lt_tree.specs.Typing.Entities.{literal, unmade};
-ghost use Rattle.lt_tree.specs.Typing.Operations.{text_type};
 ghost use Rattle.lt_tree.specs.Typing.Types.{CType};
 ghost use Rattle.lt_tree.specs.Typing.TypeRows.{type_in};
-ghost use Rattle.lt_table.specs.TableRows.{Makes};
-ghost use Rattle.lt_table.specs.TypesValue.{Widens};
 ghost use Rattle.lt_type.specs.Going.{Gives, answering, itself};
 ghost use Rattle.lt_type.specs.Ends.{letters_of, text_number, text_end};
 ghost use Rattle.lt_type.specs.Views.{typed_in, use_of};
 
-use crate::judge::names::{judge_constant, judge_name, judge_text};
+use crate::judge::names::{judge_constant, judge_name, judge_text, text_type};
 use crate::stop::TypeStop;
 use crate::typed::{Typed, Use};
 use crate::walker::Walker;
 use lt_model::{Name, Scalar};
-use lt_table::Types;
 use lt_tree::typed::{Life, Object, Start, StartPart, TypeId};
 use std::alloc::{AllocError, Global};
 
@@ -40,18 +36,6 @@ pub fn constant(walker: &mut Walker, text: &[u8], role: Use) -> Result<Box<Typed
     let node = walker.enter()?;
     let judged = judge_constant(walker, text)?;
     walker.finish(node, role, judged)
-}
-
-// The type of a string literal.
-fn type_of_text(types: &mut Types, bytes: &[u8]) -> Result<TypeId, AllocError>
-    ensures widens { Widens types.old types.new }
-    ensures made { Makes types.new.rows result (λ longer. text_type bytes.now) }
-{
-    let Ok(length) = u32::try_from(bytes.len() + 1) else {
-        return Err(AllocError);
-    };
-    let char = types.num(Scalar::Char)?;
-    types.array(char, length)
 }
 
 // A string literal is made unless it stands in `sizeof`.
@@ -97,7 +81,7 @@ fn object_with(
 fn object_of_text(walker: &mut Walker, node: u32, bytes: &[u8]) -> Result<Object, TypeStop>
     ensures { Gives object_of walker.old walker.new result (λ types. answering (λ known. text_object node known bytes.now)) }
 {
-    let ty = type_of_text(&mut walker.types, bytes)?;
+    let ty = text_type(&mut walker.types, bytes)?;
     let alloc = walker.types.alloc();
     let life = life_of_text(walker.is_unmarked);
     let object = object_with(alloc, node, ty, life, bytes)?;
