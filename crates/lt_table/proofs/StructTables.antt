@@ -15,7 +15,7 @@ use Rattle.lt_table.specs.declared.structs.StructFacts.{StructFacts}
 use Rattle.lt_table.specs.declared.structs.StructTable.{StructTable}
 use Rattle.lt_table.specs.StructNesting.{AllHoldOnly, Nests, completed, AreNested}
 use Rattle.lt_table.specs.TableRows.{Grows}
-use Rattle.lt_table.specs.StructTables.{structs_in, has_members, known_at, names_of, place_of, placed_with, whole_extent, AreStructFacts, IsKnown, AreKnown, AreDerived, IsPut, Suits}
+use Rattle.lt_table.specs.StructTables.{structs_in, has_members, known_at, names_of, place_of, placed_with, whole_extent, AreStructFacts, IsKnown, AreKnown, AreDerived, IsPut, Suits, members_at, IsShared, AreShared}
 use Rattle.lt_table.proofs.TableRows.{continues_through}
 use Rattle.lt_table.proofs.StructNesting.{Keeps, IsComplete, incomplete, with_members, all_hold_map, keeps_added, members_added, completed_least, nested_added, keeps_set, members_set, members_set_other, nested_set}
 use Rattle.lt_table.proofs.StructPlaces.{names_same}
@@ -204,6 +204,57 @@ module _ (rows : List TypeRow) (old new : StructTable) (number : ℕ) (members :
         subst (λ m. AreKnown m (structs_in longer new) new.known.items) (sym put.model)
         (subst (λ l. AreKnown old.model l new.known.items) (sym structs_put)
         (subst (AreKnown old.model b) (sym put.known) (record { nested = nested_set a number pure within none known.nested held; each = each_known })))
+
+-- ---- what is shared
+
+members_wider : (structs : List listed.StructType) (k : ℕ) → members_at (structs ++ (record { members = None }) ∷ []) k ≡ members_at structs k
+members_wider [] zero = refl
+members_wider [] (suc k) = refl
+members_wider (it ∷ structs) zero = refl
+members_wider (it ∷ structs) (suc k) = members_wider structs k
+
+-- a place more for what is known makes no difference
+module _ (structs others : List listed.StructType) (known more : List (Option StructFacts)) (h : (k : ℕ) → IsShared (known_at known k) (members_at structs k)) where
+  pub shared_same : others ≡ structs → more ≡ known → (k : ℕ) → IsShared (known_at more k) (members_at others k)
+  shared_same s m k = subst (λ l. IsShared (known_at l k) (members_at others k)) (sym m) (subst (λ l. IsShared (known_at known k) (members_at l k)) (sym s) (h k))
+
+  pub shared_wider : others ≡ structs → more ≡ known ++ None ∷ [] → (k : ℕ) → IsShared (known_at more k) (members_at others k)
+  shared_wider s m k =
+      subst (λ l. IsShared (known_at l k) (members_at others k)) (sym m)
+      (subst (λ l. IsShared (known_at (known ++ None ∷ []) k) (members_at l k)) (sym s)
+      (subst (λ o. IsShared o (members_at structs k)) (sym (known_added known k)) (h k)))
+
+  pub shared_longer : others ≡ structs ++ (record { members = None }) ∷ [] → more ≡ known ++ None ∷ [] → (k : ℕ) → IsShared (known_at more k) (members_at others k)
+  shared_longer s m k =
+      subst (λ l. IsShared (known_at l k) (members_at others k)) (sym m)
+      (subst (λ l. IsShared (known_at (known ++ None ∷ []) k) (members_at l k)) (sym s)
+      (subst (λ o. IsShared o (members_at (structs ++ (record { members = None }) ∷ []) k)) (sym (known_added known k))
+      (subst (IsShared (known_at known k)) (sym (members_wider structs k)) (h k))))
+
+members_put : (structs : List listed.StructType) (k : ℕ) (it : listed.StructType) → k < length structs → members_at (set structs k it) k ≡ option_map (λ l. l.items) it.members
+members_put [] k it h = absurd (omega (arith, h))
+members_put (x ∷ structs) zero it h = refl
+members_put (x ∷ structs) (suc k) it h = members_put structs k it (omega (arith, h))
+
+members_put_other : (structs : List listed.StructType) (n k : ℕ) (it : listed.StructType) → (k ≡ n → ⊥) → members_at (set structs n it) k ≡ members_at structs k
+members_put_other [] n k it apart = refl
+members_put_other (x ∷ structs) zero zero it apart = absurd (apart refl)
+members_put_other (x ∷ structs) zero (suc k) it apart = refl
+members_put_other (x ∷ structs) (suc n) zero it apart = refl
+members_put_other (x ∷ structs) (suc n) (suc k) it apart = members_put_other structs n k it (λ e. apart (ap suc e))
+
+pub shared_put : (rows : List TypeRow) (old new : StructTable) (number : ℕ) (members : List entity.Member) (it : listed.StructType) (facts : StructFacts)
+    → AreDerived rows old members facts → IsPut old new number it facts → option_map (λ l. l.items) it.members ≡ Some members → AreShared old → AreShared new
+shared_put rows old new number members it facts derived put holds shared k =
+    subst (λ l. IsShared (known_at l k) (members_at new.structs.items k)) (sym put.known)
+    (subst (λ l. IsShared (known_at (set old.known.items number (Some facts)) k) (members_at l k)) (sym put.structs)
+    (elim (cases_eq k number) [
+      | inl same ↦ subst (λ j. IsShared (known_at (set old.known.items number (Some facts)) j) (members_at (set old.structs.items number it) j)) (sym same)
+          (subst (λ o. IsShared o (members_at (set old.structs.items number it) number)) (sym (known_set old.known.items number facts put.place))
+          (subst (IsShared (Some facts)) (sym (members_put old.structs.items number it put.within ∙ holds)) derived.placed))
+      | inr apart ↦ subst (λ o. IsShared o (members_at (set old.structs.items number it) k)) (sym (known_set_other old.known.items number k facts apart))
+          (subst (IsShared (known_at old.known.items k)) (sym (members_put_other old.structs.items number k it apart)) (shared k))
+    ]))
 
 -- what suits rows suits any that go on from them
 pub suits_longer : (rows longer : List TypeRow) (table : StructTable) → Grows rows longer → Suits rows table → Suits longer table

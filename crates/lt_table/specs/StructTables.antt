@@ -1,7 +1,8 @@
 -- What a table of structs knows of those that are complete.
 use Rattle.std.specs.Prelude.{◌≡◌, ◌<◌, ℕ, suc, ◌+◌, ◌*◌, ◌^◌, min, Bool, true, false, ◌||◌, List, [], ◌∷◌, length, map, slice_get, slice_set, Option, Some, None, is_some, option_map, unwrap_or, if◌then◌else◌}
 use Rattle.std.specs.Str.{bytes_eq}
-use Rattle.std.specs.Global.{Vec}
+use Rattle.std.specs.Global.{Vec, Global}
+use Rattle.std.specs.declared.rc.Rc.{Rc}
 use Rattle.std.specs.HashMap.{HashMap, get_by}
 use Rattle.lt_model.specs.declared.scalar.DataModel.{DataModel}
 use Rattle.lt_model.specs.declared.sizes.Extent as model
@@ -15,6 +16,7 @@ use Rattle.lt_tree.specs.Typing.Types.{CType}
 use Rattle.lt_tree.specs.Typing.EntityView.{structs_of}
 use Rattle.lt_tree.specs.Typing.Extents.{Member, Structs, members_of, members_in, is_complete, most_cells, struct_cells, struct_extent, Placed, placed_at, placed_members, struct_has_constant}
 use Rattle.lt_table.specs.declared.structs.extent.Extent.{Extent}
+use Rattle.lt_table.specs.declared.structs.PlacedMember.{PlacedMember}
 use Rattle.lt_table.specs.declared.structs.StructFacts.{StructFacts}
 use Rattle.lt_table.specs.declared.structs.StructTable.{StructTable}
 use Rattle.lt_table.specs.declared.table.kind.RowFacts.{RowFacts}
@@ -106,6 +108,24 @@ place_of name (n ∷ names) = if bytes_eq n name then Some 0 else option_map suc
 abbrev pub place_in : {S : Type 0} → HashMap (Vec ℕ) ℕ S → List ℕ → Option ℕ
 place_in places name = get_by (λ key. bytes_eq name key.items) places
 
+-- ---- members without their names
+
+-- the types and the offsets of members, as far as there are offsets
+abbrev pub pairs_of : List entity.Member → List ℕ → List PlacedMember
+pairs_of (member ∷ members) (offset ∷ offsets) = record { ty = member.ty; offset = offset } ∷ pairs_of members offsets
+pairs_of _ _ = []
+
+abbrev pub pairs_in : List Placed → List (CType × ℕ)
+pairs_in placed = map (λ member. (member.type, member.offset)) placed
+
+-- those that a struct has, which is incomplete or not
+abbrev pub pairs_at : List CType → Option (List PlacedMember) → List (CType × ℕ)
+pairs_at types None = []
+pairs_at types (Some members) = map (λ member. (type_in types member.ty, member.offset)) members
+
+abbrev pub shared_in : List CType → Option (Rc (Vec PlacedMember) Global) → List (CType × ℕ)
+shared_in types them = pairs_at types (option_map (λ l. l.value.items) them)
+
 -- ---- what a table keeps
 
 abbrev pub placed_with : List Member → List ℕ → List Placed
@@ -133,6 +153,18 @@ pub record AreKnown (m : DataModel) (structs : Structs) (known : List (Option St
 abbrev pub Suits : List TypeRow → StructTable → Type 0
 Suits rows table = Stays rows (λ types. AreKnown table.model (structs_in types table) table.known.items)
 
+abbrev pub members_at : List StructType → ℕ → Option (List entity.Member)
+members_at structs k = then_some (slice_get structs k) (λ it. option_map (λ members. members.items) it.members)
+
+-- what is shared of a struct is of its members
+abbrev pub IsShared : Option StructFacts → Option (List entity.Member) → Type 0
+IsShared None members = Unit {0}
+IsShared (Some facts) None = Unit {0}
+IsShared (Some facts) (Some members) = facts.placed.value.items ≡ pairs_of members facts.offsets.items
+
+abbrev pub AreShared : StructTable → Type 0
+AreShared table = (k : ℕ) → IsShared (known_at table.known.items k) (members_at table.structs.items k)
+
 -- ---- a struct as it becomes complete
 
 -- what is known of the type of a member, which is complete
@@ -152,6 +184,7 @@ pub record AreDerived (rows : List TypeRow) (table : StructTable) (members : Lis
   pub extent : option_map extent_value facts.extent ≡ whole_extent (extent_from table.model table.known.items no_members member_rows)
   pub constant : facts.has_constant ≡ constant_from table.known.items false member_rows
   pub offsets : facts.offsets.items ≡ offsets_from table.model table.known.items no_members member_rows
+  pub placed : facts.placed.value.items ≡ pairs_of members facts.offsets.items
   pub places : (name : List ℕ) → place_in facts.places name ≡ place_of name (names_in members)
 
 -- the struct of this number, which was incomplete, has these members
@@ -165,9 +198,6 @@ pub record IsPut (old new : StructTable) (number : ℕ) (it : StructType) (facts
 
 -- ---- the members of a struct
 
-abbrev pub members_at : List StructType → ℕ → Option (List entity.Member)
-members_at structs k = then_some (slice_get structs k) (λ it. option_map (λ members. members.items) it.members)
-
 -- the type and the offset of the member at a place
 abbrev pub placed_in : List entity.Member → List ℕ → ℕ → Option (TypeId × ℕ)
 placed_in members offsets place = then_some (slice_get members place) (λ member. then_some (slice_get offsets place) (λ offset. Some (member.ty, offset)))
@@ -176,10 +206,6 @@ abbrev pub member_at : StructTable → ℕ → List ℕ → Option (TypeId × �
 member_at table k name =
     then_some (members_at table.structs.items k) (λ members. then_some (known_at table.known.items k) (λ facts.
     then_some (place_in facts.places name) (placed_in members facts.offsets.items)))
-
-abbrev pub member_placed : StructTable → ℕ → ℕ → Option (TypeId × ℕ)
-member_placed table k place =
-    then_some (members_at table.structs.items k) (λ members. then_some (known_at table.known.items k) (λ facts. placed_in members facts.offsets.items place))
 
 -- this type and this offset are those of the member
 abbrev pub IsMember : List CType → Option (TypeId × ℕ) → Option Placed → Type 0

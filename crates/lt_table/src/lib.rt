@@ -12,6 +12,7 @@ pub use constants::{
     is_tag, is_zero, moved_back, moved_by, moved_to, negated, negative, null_of, operated,
     truth_of,
 };
+pub use structs::PlacedMember;
 pub use table::{Kind, TypeTable};
 pub use types::Types;
 

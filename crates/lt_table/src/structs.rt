@@ -11,14 +11,22 @@ ghost use Rattle.lt_tree.specs.declared.typed.types.TypeRow.{TypeRow};
 ghost use Rattle.lt_tree.specs.Typing.Types.{CType};
 ghost use Rattle.lt_tree.specs.Typing.EntityView.{member_of};
 ghost use Rattle.lt_table.specs.TableRows.{Stays};
-ghost use Rattle.lt_table.specs.StructTables.{structs_in, IsPut, Suits};
+ghost use Rattle.lt_table.specs.StructTables.{structs_in, IsPut, Suits, AreShared};
 
 use crate::table::TypeTable;
 pub use extent::Extent;
 use lt_model::DataModel;
-use lt_tree::typed::{Member, StructType};
+use lt_tree::typed::{Member, StructType, TypeId};
 use std::alloc::{AllocError, Global};
 use std::collections::HashMap;
+use std::rc::Rc;
+
+/// A member of a struct, without its name.
+#[derive(Clone, Copy, PartialEq, Eq, Debug)]
+pub struct PlacedMember {
+    pub ty: TypeId,
+    pub offset: u64,
+}
 
 /// What is known of a complete struct.
 #[derive(Drop)]
@@ -31,6 +39,8 @@ pub struct StructFacts {
     pub has_constant: bool,
     /// Those of its first members; of all of them, where it has an extent.
     pub offsets: Vec<u64>,
+    /// The types and the offsets of these.
+    pub placed: Rc<Vec<PlacedMember>>,
     /// The place of the first member of each name.
     pub places: HashMap<Vec<u8>, usize>,
 }
@@ -51,6 +61,7 @@ impl StructTable {
         ensures model { result.model ≡ model }
         ensures none { result.structs.items ≡ [] }
         ensures suits { (rows : List TypeRow) → Suits rows result }
+        ensures shared { AreShared result }
     {
         StructTable {
             alloc,
@@ -88,6 +99,7 @@ impl StructTable {
         ensures added { OnOk result (self.new.structs.items ≡ self.old.structs.items ++ record { members = None } ∷ []) }
         ensures same { OnErr result (self.new.structs.items ≡ self.old.structs.items) }
         ensures suits { (rows : List TypeRow) → Suits rows self.old → Suits rows self.new }
+        ensures shared { AreShared self.old → AreShared self.new }
     {
         let Ok(number) = u32::try_from(self.structs.len()) else {
             return Err(AllocError);
@@ -110,6 +122,7 @@ impl StructTable {
         ensures completed { OnOk result (self.new.structs.items ≡ slice_set self.old.structs.items number (record { members = Some members })) }
         ensures members { OnOk result (Stays types.now (λ longer. structs_in longer self.new ≡ slice_set (structs_in longer self.old) number (record { members = Some (map (member_of longer) members.items) }))) }
         ensures suits { Suits types.now self.new }
+        ensures shared { AreShared self.old → AreShared self.new }
         ensures same { OnErr result (self.new ≡ self.old) }
     {
         let facts = self.derived(types, &members)?;

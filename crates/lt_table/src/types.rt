@@ -25,11 +25,11 @@ impl Model for Types {
 
     ghost Value = { TypesValue };
 
-    ghost use Rattle.lt_table.specs.StructTables.{Suits};
+    ghost use Rattle.lt_table.specs.StructTables.{Suits, AreShared};
 
     ghost view = { λ t. record { model = t.structs.model; rows = t.table; structs = t.structs.structs.items } };
 
-    ghost invariant = { λ t. Suits t.table t.structs };
+    ghost invariant = { λ t. Suits t.table t.structs × AreShared t.structs };
 }
 
 impl Types {

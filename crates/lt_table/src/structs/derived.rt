@@ -1,15 +1,16 @@
 ghost use Rattle.std.specs.Prelude.{◌≡◌, ℕ, ◌+◌, min, false, List, Some, IfOk, OnOk, OnErr, length, option_map};
 ghost use Rattle.lt_model.specs.Layout.{then_some, rounded, resized, no_members};
 ghost use Rattle.lt_tree.specs.Typing.Extents.{most_cells};
-ghost use Rattle.lt_table.specs.StructTables.{AreDerived, AreMemberRows, IsCompleteRow, row_placed, extent_value, known_at, cells_from, constant_from, extent_from, offsets_from, whole_extent, names_in, place_of, place_in};
+ghost use Rattle.lt_table.specs.StructTables.{AreDerived, AreMemberRows, IsCompleteRow, row_placed, extent_value, known_at, cells_from, constant_from, extent_from, offsets_from, whole_extent, pairs_of, names_in, place_of, place_in};
 
 use super::extent::{Extent, member_offset, no_members, whole, with_member};
 use super::queries::MOST_CELLS;
-use super::{StructFacts, StructTable};
+use super::{PlacedMember, StructFacts, StructTable};
 use crate::table::{RowFacts, TypeTable};
 use lt_tree::typed::{Member, TypeId};
-use std::alloc::AllocError;
+use std::alloc::{AllocError, Global};
 use std::collections::HashMap;
+use std::rc::Rc;
 
 impl StructTable {
     // What is known of a struct with these members, each of which is complete.
@@ -22,12 +23,14 @@ impl StructTable {
     {
         let rows = self.member_rows(types, members)?;
         let offsets = self.offsets_of(&rows)?;
+        let placed = placed_of(self.alloc, members, &offsets)?;
         let places = self.places_of(members)?;
         Ok(StructFacts {
             cells: self.cells_of(&rows),
             extent: whole_of(self.extent_of(&rows)),
             has_constant: self.constant_of(&rows),
             offsets,
+            placed: Rc::new(self.alloc, placed)?,
             places,
         })
     }
@@ -132,6 +135,23 @@ impl StructTable {
         let after = with_member(before, extent)?;
         Some((offset, after))
     }
+}
+
+// The types and the offsets of members, as far as there are offsets.
+fn placed_of(
+    alloc: Global,
+    members: &[Member],
+    offsets: &[u64],
+) -> Result<Vec<PlacedMember>, AllocError>
+    ensures { IfOk result (λ placed. placed.items ≡ pairs_of members.now offsets.now) }
+{
+    let mut placed = Vec::new(alloc);
+    for (member, offset) in members.iter().zip(offsets) {
+        let ty = member.ty;
+        let offset = *offset;
+        placed.push(PlacedMember { ty, offset })?;
+    }
+    Ok(placed)
 }
 
 // The extent of a struct whose members have one.

@@ -1,4 +1,4 @@
-ghost use Rattle.std.specs.Prelude.{◌≡◌, ◌<◌, ◌↔◌, ◌||◌, ◌&&◌, List, length, is_some, slice_get, IsSome, IfSome};
+ghost use Rattle.std.specs.Prelude.{◌≡◌, ◌<◌, ◌↔◌, ◌||◌, ◌&&◌, List, length, is_some, IsSome, IfSome, IfOk};
 ghost use Rattle.lt_tree.specs.Typing.Types.{CType};
 ghost use Rattle.lt_tree.specs.Typing.TypeRows.{type_in};
 ghost use Rattle.lt_tree.specs.Typing.Extents.{is_complete, has_size, has_too_many_cells, size_of, has_constant_part, member_of, placed_members};
@@ -6,11 +6,14 @@ ghost use Rattle.lt_tree.specs.Typing.Declarators.{is_incomplete};
 ghost use Rattle.lt_tree.specs.Typing.Specifying.{is_complete_struct};
 ghost use Rattle.lt_tree.specs.Typing.Operands.{is_movable, is_pointer_and_integer, can_be_added, can_be_subtracted, can_be_changed_by, can_be_subscripted, is_modifiable};
 ghost use Rattle.lt_table.specs.TableRows.{Stays};
-ghost use Rattle.lt_table.specs.StructTables.{IsMember};
+ghost use Rattle.lt_table.specs.StructTables.{shared_in, pairs_in, IsMember};
 ghost use Rattle.lt_table.specs.TypesValue.{structs_at};
 
 use super::Types;
+use crate::structs::PlacedMember;
 use lt_tree::typed::TypeId;
+use std::alloc::AllocError;
+use std::rc::Rc;
 
 /// What a type is, its structs included. None for an id of no row.
 impl Types {
@@ -76,11 +79,18 @@ impl Types {
         self.structs.member_of(number, name)
     }
 
-    /// The type and the offset of the member at this place among those of a struct. None behind the last, and behind a member that has no size.
-    pub fn placed_member(&self, number: u32, place: usize) -> Option<(TypeId, u64)>
-        ensures { Stays self.now.rows (λ types. IsMember types result (slice_get (placed_members self.now.model (structs_at types self.now) number) place)) }
+    /// The types and the offsets of the members of a struct, up to the first that has no size. None of a struct that is incomplete.
+    pub fn placed_members(&self, number: u32) -> Result<Option<Rc<Vec<PlacedMember>>>, AllocError>
+        ensures { IfOk result (λ them. Stays self.now.rows (λ types. shared_in types them ≡ pairs_in (placed_members self.now.model (structs_at types self.now) number))) }
     {
-        self.structs.placed_member(number, place)
+        self.structs.placed_members(number)
+    }
+
+    /// How many structs there are.
+    pub fn struct_count(&self) -> usize
+        ensures { result ≡ length self.now.structs }
+    {
+        self.structs.len()
     }
 
     /// Whether it is a pointer that can be moved by elements.

@@ -2,4 +2,4 @@ use Rattle.lt_table.proofs.TypesSuit.{suits_grow}
 use Rattle.lt_table.proofs.types.Types.adjusted.Goals as goal
 
 pub invariant_of-self : goal.invariant_of-self
-invariant_of-self c = suits_grow c.self.inside.table c.adjusted.new.self c.self.inside.structs c.adjusted.ensures.grows c.self.invariant
+invariant_of-self c = (suits_grow c.self.inside.table c.adjusted.new.self c.self.inside.structs c.adjusted.ensures.grows c.self.invariant.0, c.self.invariant.1)
