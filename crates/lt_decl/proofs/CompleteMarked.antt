@@ -29,11 +29,11 @@ use Rattle.lt_decl.proofs.CompleteDeclarations.{complete_declaration}
 -- ---- '(' expr ')'
 
 abbrev pub Test : Scope → List Symbol → c.Expression → List Symbol → List ℕ → List ℕ → List ℕ → Type 0
-Test scope ts e rest spots more ends = Read (λ n. read.test n scope) walk 1 ts e rest spots more ends
+Test scope ts e rest spots more ends = Read (λ n. read.controlling n scope) walk 1 ts e rest spots more ends
 
 test_read : (n : ℕ) (scope : Scope) (a b : ℕ) (ts rest : List Symbol) (e : c.Expression) (ends now : List ℕ)
-    → ex.expression n scope (ts, ends) ≡ Some (e, (sign t.CloseParen b ∷ rest, now)) → read.test (suc n) scope (sign t.OpenParen a ∷ ts, ends) ≡ Some (e, (rest, now))
-unfolding read.test same_terminal
+    → ex.expression n scope (ts, ends) ≡ Some (e, (sign t.CloseParen b ∷ rest, now)) → read.controlling (suc n) scope (sign t.OpenParen a ∷ ts, ends) ≡ Some (e, (rest, now))
+unfolding read.controlling same_terminal
 test_read n scope a b ts rest e ends now is = rw is refl
 
 pub complete_test : {scope : Scope} (a : ℕ) {b : ℕ} {ts rest : List Symbol} {e : c.Expression} {spots more : List ℕ} → g.IsExpression scope g.comma ts e (sign t.CloseParen b ∷ rest) spots more
@@ -48,12 +48,12 @@ Optional scope k ts e rest spots more ends = Read (λ n. read.optional n scope k
 
 no_expression_read : (n : ℕ) (scope : Scope) (k : Terminal) (at : ℕ) (ts : List Symbol) (ends : List ℕ) → same_terminal k k ≡ true
     → read.optional (suc n) scope k (sign k at ∷ ts, ends) ≡ Some (None, (ts, ends))
-unfolding read.test
+unfolding read.controlling
 no_expression_read n scope k at ts ends same = rw same refl
 
 an_expression_read : (n : ℕ) (scope : Scope) (k : Terminal) (at : ℕ) (ts rest : List Symbol) (e : c.Expression) (ends now : List ℕ) → same_terminal k k ≡ true → sees k ts ≡ false
     → ex.expression n scope (ts, ends) ≡ Some (e, (sign k at ∷ rest, now)) → read.optional (suc n) scope k (ts, ends) ≡ Some (Some e, (rest, now))
-unfolding read.test
+unfolding read.controlling
 an_expression_read n scope k at ts rest e ends now same front is = rw (front, is, same) refl
 
 pub left_out_complete : (scope : Scope) (k : Terminal) (at : ℕ) (ts : List Symbol) (more ends : List ℕ) → Optional scope k (sign k at ∷ ts) None ts more more ends
@@ -84,12 +84,12 @@ ForStart scope ts start rest spots more ends = Read (λ n. read.for_start n scop
 
 start_declares : (n : ℕ) (scope : Scope) (ts rest : List Symbol) (d : c.Declaration) (ends now : List ℕ) → begins_specifier scope false ts ≡ true
     → read.declaration n scope (ts, ends) ≡ Some (d, (rest, now)) → read.for_start (suc n) scope (ts, ends) ≡ Some (c.Declares d, (rest, now))
-unfolding read.test
+unfolding read.controlling
 start_declares n scope ts rest d ends now front is = rw (front, is) refl
 
 start_evaluates : (n : ℕ) (scope : Scope) (ts rest : List Symbol) (e : Option c.Expression) (ends now : List ℕ) → begins_specifier scope false ts ≡ false
     → read.optional n scope t.Semicolon (ts, ends) ≡ Some (e, (rest, now)) → read.for_start (suc n) scope (ts, ends) ≡ Some (start_by e, (rest, now))
-unfolding read.test
+unfolding read.controlling
 start_evaluates n scope ts rest e ends now front is = rw (front, is) refl
 
 pub declaration_begins : {scope : Scope} {ts rest : List Symbol} {d : c.Declaration} {spots more : List ℕ} → IsDeclaration scope ts d rest spots more → begins_specifier scope false ts ≡ true
@@ -113,18 +113,18 @@ abbrev pub Labels : Scope → List Symbol → List c.Label → List Symbol → L
 Labels scope ts labels rest spots more ends = Read (λ n. read.labels n scope) walk_labels 1 ts labels rest spots more ends
 
 no_labels_read : (n : ℕ) (scope : Scope) (ts : List Symbol) (ends : List ℕ) → sees t.Case ts ≡ false → sees t.Default ts ≡ false → read.labels (suc n) scope (ts, ends) ≡ Some ([], (ts, ends))
-unfolding read.test
+unfolding read.controlling
 no_labels_read n scope ts ends a b = rw (a, b) refl
 
 case_read : (n : ℕ) (scope : Scope) (a b : ℕ) (ts us rest : List Symbol) (e : c.Expression) (labels : List c.Label) (ends middle now : List ℕ)
     → ex.conditional n scope (ts, ends) ≡ Some (e, (sign t.Colon b ∷ us, middle)) → read.labels n (after_expression e scope) (us, a ∷ middle) ≡ Some (labels, (rest, now))
     → read.labels (suc n) scope (sign t.Case a ∷ ts, ends) ≡ Some (c.Case e ∷ labels, (rest, now))
-unfolding read.test same_terminal
+unfolding read.controlling same_terminal
 case_read n scope a b ts us rest e labels ends middle now first others = rw (first, others) refl
 
 default_read : (n : ℕ) (scope : Scope) (a b : ℕ) (ts rest : List Symbol) (labels : List c.Label) (ends now : List ℕ)
     → read.labels n scope (ts, a ∷ ends) ≡ Some (labels, (rest, now)) → read.labels (suc n) scope (sign t.Default a ∷ sign t.Colon b ∷ ts, ends) ≡ Some (c.Default ∷ labels, (rest, now))
-unfolding read.test same_terminal
+unfolding read.controlling same_terminal
 default_read n scope a b ts rest labels ends now others = rw others refl
 
 case_complete : (scope : Scope) (a b : ℕ) (ts us rest : List Symbol) (e : c.Expression) (labels : List c.Label) (spots between more ends : List ℕ) → length us ≤ length ts

@@ -58,26 +58,26 @@ unfolding read.statement same_terminal
 expression_read n scope at ts rest e ends now o is = rw (o.no_break, o.no_continue, o.no_return, is) refl
 
 if_alone_read : (n : ℕ) (scope : Scope) (at : ℕ) (ts us rest : List Symbol) (e : c.Expression) (x : c.Statement) (ends middle now : List ℕ) → sees t.Else rest ≡ false
-    → read.test n scope (ts, ends) ≡ Some (e, (us, middle)) → read.statement n (after_expression e scope) (us, middle) ≡ Some (x, (rest, now))
+    → read.controlling n scope (ts, ends) ≡ Some (e, (us, middle)) → read.statement n (after_expression e scope) (us, middle) ≡ Some (x, (rest, now))
     → read.statement (suc (suc n)) scope (sign t.If at ∷ ts, ends) ≡ Some (c.If e x, (rest, at ∷ now))
 unfolding read.statement same_terminal
 if_alone_read n scope at ts us rest e x ends middle now front first second = rw (first, second, front) refl
 
 if_else_read : (n : ℕ) (scope : Scope) (at d : ℕ) (ts us vs rest : List Symbol) (e : c.Expression) (x y : c.Statement) (ends m1 m2 now : List ℕ)
-    → read.test n scope (ts, ends) ≡ Some (e, (us, m1)) → read.statement n (after_expression e scope) (us, m1) ≡ Some (x, (sign t.Else d ∷ vs, m2))
+    → read.controlling n scope (ts, ends) ≡ Some (e, (us, m1)) → read.statement n (after_expression e scope) (us, m1) ≡ Some (x, (sign t.Else d ∷ vs, m2))
     → read.statement n (after_expression e scope) (vs, m2) ≡ Some (y, (rest, now))
     → read.statement (suc (suc n)) scope (sign t.If at ∷ ts, ends) ≡ Some (c.IfElse e x y, (rest, at ∷ now))
 unfolding read.statement same_terminal
 if_else_read n scope at d ts us vs rest e x y ends m1 m2 now first second third = rw (first, second, third) refl
 
 while_read : (n : ℕ) (scope : Scope) (at : ℕ) (ts us rest : List Symbol) (e : c.Expression) (x : c.Statement) (ends middle now : List ℕ)
-    → read.test n scope (ts, ends) ≡ Some (e, (us, middle)) → read.statement n (after_expression e scope) (us, middle) ≡ Some (x, (rest, now))
+    → read.controlling n scope (ts, ends) ≡ Some (e, (us, middle)) → read.statement n (after_expression e scope) (us, middle) ≡ Some (x, (rest, now))
     → read.statement (suc (suc n)) scope (sign t.While at ∷ ts, ends) ≡ Some (c.While e x, (rest, at ∷ now))
 unfolding read.statement same_terminal
 while_read n scope at ts us rest e x ends middle now first second = rw (first, second) refl
 
 do_read : (n : ℕ) (scope : Scope) (at a f : ℕ) (ts us rest : List Symbol) (e : c.Expression) (x : c.Statement) (ends middle now : List ℕ)
-    → read.statement n scope (ts, ends) ≡ Some (x, (sign t.While a ∷ us, middle)) → read.test n scope (us, middle) ≡ Some (e, (sign t.Semicolon f ∷ rest, now))
+    → read.statement n scope (ts, ends) ≡ Some (x, (sign t.While a ∷ us, middle)) → read.controlling n scope (us, middle) ≡ Some (e, (sign t.Semicolon f ∷ rest, now))
     → read.statement (suc (suc n)) scope (sign t.Do at ∷ ts, ends) ≡ Some (c.Do x e, (rest, at ∷ now))
 unfolding read.statement same_terminal
 do_read n scope at a f ts us rest e x ends middle now first second = rw (first, second) refl
@@ -92,7 +92,7 @@ for_read n scope inner behind_test at a ts us vs ws rest start e s x ends m1 m2 
     rw (first, sym i, second, sym j, third, fourth) refl
 
 switch_read : (n : ℕ) (scope : Scope) (at d : ℕ) (ts us rest : List Symbol) (e : c.Expression) (cases : c.Cases) (ends middle now : List ℕ)
-    → read.test n scope (ts, ends) ≡ Some (e, (sign t.OpenBrace d ∷ us, middle)) → read.cases n (after_expression e scope) (us, middle) ≡ Some (cases, (rest, now))
+    → read.controlling n scope (ts, ends) ≡ Some (e, (sign t.OpenBrace d ∷ us, middle)) → read.cases n (after_expression e scope) (us, middle) ≡ Some (cases, (rest, now))
     → read.statement (suc (suc n)) scope (sign t.Switch at ∷ ts, ends) ≡ Some (c.Switch e cases, (rest, at ∷ now))
 unfolding read.statement same_terminal
 switch_read n scope at d ts us rest e cases ends middle now first second = rw (first, second) refl

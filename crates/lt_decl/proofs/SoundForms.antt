@@ -56,7 +56,7 @@ pub data IsTest : (scope : Scope) → (ts : List Symbol) → (e : c.Expression) 
       → g.IsExpression scope g.comma ts e (sign t.CloseParen b ∷ rest) spots more → IsTest scope (sign t.OpenParen a ∷ ts) e rest spots more
 
 abbrev pub TestSound : ℕ → Type 0
-TestSound n = (scope : Scope) (r : Rest) → Yields (read.test n scope r) (λ x. Spotted (walk x.0) x.1.1 r.1 (IsTest scope r.0 x.0 x.1.0))
+TestSound n = (scope : Scope) (r : Rest) → Yields (read.controlling n scope r) (λ x. Spotted (walk x.0) x.1.1 r.1 (IsTest scope r.0 x.0 x.1.0))
 
 -- expr? SIGN
 pub data IsUpTo : (k : Terminal) → (scope : Scope) → (ts : List Symbol) → (e : Option c.Expression) → (rest : List Symbol) → (spots more : List ℕ) → Type 0 where

@@ -63,7 +63,7 @@ sequence_rule seen h k = g.sequence h refl k
 -- ---- a step of each
 
 test_step : (n : ℕ) → TestSound (suc n)
-unfolding read.test
+unfolding read.controlling
 test_step n scope r =
     expecting t.OpenParen r _ (λ q. cc) (λ open_paren.
     both (ex.expression n scope (behind r)) ((sound n).expression scope (behind r)) (λ x h.
@@ -71,7 +71,7 @@ test_step n scope r =
     given (by_rule (λ spots more k. test_rule open_paren close k) h))))
 
 optional_step : (n : ℕ) → OptionalSound (suc n)
-unfolding read.test
+unfolding read.controlling
 optional_step n scope k r real =
     seeing k r.0 real
     (λ s. given (no_spot (λ more. left_out_rule s)))
@@ -81,7 +81,7 @@ optional_step n scope k r real =
     given (by_rule (λ spots more l. given_rule s l) h))))
 
 for_start_step : (n : ℕ) → DeclarationSound n → OptionalSound n → ForStartSound (suc n)
-unfolding read.test
+unfolding read.controlling
 for_start_step n declaration optional scope r =
     chosen (begins_specifier scope false r.0)
     (λ b. both (read.declaration n scope r) (declaration scope r) (λ x h. given (by_rule (λ spots more k. st.declaration k) h)))
@@ -90,7 +90,7 @@ for_start_step n declaration optional scope r =
     given (same_walk (start_walk x.0) (by_rule (λ spots more k. start_rule x.0 k) h))))
 
 labels_step : (n : ℕ) → LabelsSound n → LabelsSound (suc n)
-unfolding read.test
+unfolding read.controlling
 labels_step n labels scope r =
     seeing t.Case r.0 (λ q. cc)
     (λ s.
@@ -132,21 +132,21 @@ expression_on_sound (suc n) scope m from r d =
 -- ---- all of them
 
 pub test_sound : (n : ℕ) → TestSound n
-unfolding read.test
+unfolding read.controlling
 test_sound zero = λ scope r. nothing
 test_sound (suc n) = test_step n
 
 pub optional_sound : (n : ℕ) → OptionalSound n
-unfolding read.test
+unfolding read.controlling
 optional_sound zero = λ scope k r real. nothing
 optional_sound (suc n) = optional_step n
 
 pub for_start_sound : (n : ℕ) → ForStartSound n
-unfolding read.test
+unfolding read.controlling
 for_start_sound zero = λ scope r. nothing
 for_start_sound (suc n) = for_start_step n (declaration_sound n).2 (optional_sound n)
 
 pub labels_sound : (n : ℕ) → LabelsSound n
-unfolding read.test
+unfolding read.controlling
 labels_sound zero = λ scope r. nothing
 labels_sound (suc n) = labels_step n (labels_sound n)

@@ -138,7 +138,7 @@ simple_step n scope r =
 pub choice_step : (n : ℕ) → StatementSound (read.statement n) → BehindSound t.If (read.choice (suc n))
 unfolding read.statement
 choice_step n statement scope at r =
-    both (read.test n scope r) (test_sound n scope r) (λ e h.
+    both (read.controlling n scope r) (test_sound n scope r) (λ e h.
     both (read.statement n (after_expression e.0 scope) e.1) (statement (after_expression e.0 scope) e.1) (λ x k.
     seeing t.Else x.1.0 (λ q. cc)
     (λ s.
@@ -149,7 +149,7 @@ choice_step n statement scope at r =
 pub while_step : (n : ℕ) → StatementSound (read.statement n) → BehindSound t.While (read.while_loop (suc n))
 unfolding read.statement
 while_step n statement scope at r =
-    both (read.test n scope r) (test_sound n scope r) (λ e h.
+    both (read.controlling n scope r) (test_sound n scope r) (λ e h.
     both (read.statement n (after_expression e.0 scope) e.1) (statement (after_expression e.0 scope) e.1) (λ x k.
     given (node_of_two (λ spots middle more a b. while_rule a b) h k)))
 
@@ -158,7 +158,7 @@ unfolding read.statement
 do_step n statement scope at r =
     both (read.statement n scope r) (statement scope r) (λ x h.
     expecting t.While x.1 _ (λ q. cc) (λ s.
-    both (read.test n scope (behind x.1)) (test_sound n scope (behind x.1)) (λ e k.
+    both (read.controlling n scope (behind x.1)) (test_sound n scope (behind x.1)) (λ e k.
     expecting t.Semicolon e.1 _ (λ q. cc) (λ end.
     given (node_of_two (λ spots middle more a b. do_rule s end a b) h k)))))
 
@@ -176,7 +176,7 @@ for_step n statement scope at r =
 pub switch_step : (n : ℕ) → CasesSound n → BehindSound t.Switch (read.switch (suc n))
 unfolding read.statement
 switch_step n cases scope at r =
-    both (read.test n scope r) (test_sound n scope r) (λ e h.
+    both (read.controlling n scope r) (test_sound n scope r) (λ e h.
     expecting t.OpenBrace e.1 _ (λ q. cc) (λ s.
     both (read.cases n (after_expression e.0 scope) (behind e.1)) (cases (after_expression e.0 scope) (behind e.1)) (λ y k.
     given (node_of_two (λ spots middle more a b. switch_rule s a b) h k))))

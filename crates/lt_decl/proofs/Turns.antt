@@ -149,7 +149,7 @@ by_label false true p q k P Q stop e f = f
 by_label false false p q k P Q stop e f = refl
 
 labels_is : (n : ℕ) (scope : Scope) (r : Rest) → reading.labels (suc n) scope r ≡ cond (begins_label r.0) (one_label n scope r >>= labels_behind n scope) (Some ([], r))
-unfolding reading.test
+unfolding reading.controlling
 labels_is n scope r =
     by_label (sees t.Case r.0) (sees t.Default r.0)
     (ex.conditional n scope (behind r) >>= λ x. expect t.Colon x.1 >>= λ us. Some (c.Case x.0, ended (start_of r.0) us))

@@ -74,9 +74,9 @@ unfoldable mutual
 
 unfoldable mutual
   -- '(' expr ')'
-  pub test : ℕ → Scope → Reader c.Expression
-  test zero scope r = None
-  test (suc n) scope r =
+  pub controlling : ℕ → Scope → Reader c.Expression
+  controlling zero scope r = None
+  controlling (suc n) scope r =
       expect t.OpenParen r >>= λ us.
       expression n scope us >>= λ x.
       expect t.CloseParen x.1 >>= λ vs.
@@ -157,7 +157,7 @@ unfoldable mutual
   pub choice : ℕ → Scope → ℕ → Reader c.Statement
   choice zero scope start r = None
   choice (suc n) scope start r =
-      test n scope r >>= λ e.
+      controlling n scope r >>= λ e.
       statement n (after_expression e.0 scope) e.1 >>= λ x.
       if sees t.Else x.1.0
       then (statement n (after_expression e.0 scope) (behind x.1) >>= λ y. Some (c.IfElse e.0 x.0 y.0, ended start y.1))
@@ -167,7 +167,7 @@ unfoldable mutual
   pub while_loop : ℕ → Scope → ℕ → Reader c.Statement
   while_loop zero scope start r = None
   while_loop (suc n) scope start r =
-      test n scope r >>= λ e.
+      controlling n scope r >>= λ e.
       statement n (after_expression e.0 scope) e.1 >>= λ x.
       Some (c.While e.0 x.0, ended start x.1)
 
@@ -177,7 +177,7 @@ unfoldable mutual
   do_loop (suc n) scope start r =
       statement n scope r >>= λ x.
       expect t.While x.1 >>= λ us.
-      test n scope us >>= λ e.
+      controlling n scope us >>= λ e.
       expect t.Semicolon e.1 >>= λ vs.
       Some (c.Do x.0 e.0, ended start vs)
 
@@ -196,7 +196,7 @@ unfoldable mutual
   pub switch : ℕ → Scope → ℕ → Reader c.Statement
   switch zero scope start r = None
   switch (suc n) scope start r =
-      test n scope r >>= λ e.
+      controlling n scope r >>= λ e.
       expect t.OpenBrace e.1 >>= λ us.
       cases n (after_expression e.0 scope) us >>= λ y.
       Some (c.Switch e.0 y.0, ended start y.1)

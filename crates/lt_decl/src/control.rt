@@ -24,9 +24,9 @@ pub(crate) struct ForHead {
 }
 
 // '(' expr ')'
-#[tactic(auto, unfolding(/* with all that stands beside it [C11 6.8] */ crate::specs::Reading::test))]
+#[tactic(auto, unfolding(crate::specs::Reading::controlling))]
 pub(crate) fn test(parser: &mut Parser, depth: usize) -> Result<Expr, Stop>
-    ensures { Gives expression_of parser.old parser.new result (reading.test depth (scope_of parser.old) (rest_of parser.old)) }
+    ensures { Gives expression_of parser.old parser.new result (reading.controlling depth (scope_of parser.old) (rest_of parser.old)) }
 {
     let depth = deeper(depth)?;
     parser.expect(Terminal::OpenParen)?;
@@ -36,7 +36,7 @@ pub(crate) fn test(parser: &mut Parser, depth: usize) -> Result<Expr, Stop>
 }
 
 // expr? SIGN
-#[tactic(auto, unfolding(/* with all that stands beside it [C11 6.8] */ crate::specs::Reading::test))]
+#[tactic(auto, unfolding(crate::specs::Reading::controlling))]
 pub(crate) fn optional(
     parser: &mut Parser,
     depth: usize,
@@ -55,7 +55,7 @@ pub(crate) fn optional(
 }
 
 // declaration | expr? ';'
-#[tactic(auto, unfolding(/* with all that stands beside it [C11 6.8] */ crate::specs::Reading::test))]
+#[tactic(auto, unfolding(crate::specs::Reading::controlling))]
 fn for_start(parser: &mut Parser, depth: usize) -> Result<ForStart, Stop>
     ensures { GivesNames start_shown (λ f. after_start f (scope_of parser.old)) parser.old parser.new result (reading.for_start depth (scope_of parser.old) (rest_of parser.old)) }
 {
@@ -110,7 +110,7 @@ fn label(parser: &mut Parser, depth: usize) -> Result<Label, Stop>
 }
 
 // label*
-#[tactic(auto, unfolding(/* with all that stands beside it [C11 6.8] */ crate::specs::Reading::test))]
+#[tactic(auto, unfolding(crate::specs::Reading::controlling))]
 pub(crate) fn labels(parser: &mut Parser, mut depth: usize) -> Result<Vec<Label>, Stop>
     ensures { GivesNames (λ xs. map label_of xs.items) (λ ls. after_labels ls (scope_of parser.old)) parser.old parser.new result (reading.labels depth (scope_of parser.old) (rest_of parser.old)) }
 {
