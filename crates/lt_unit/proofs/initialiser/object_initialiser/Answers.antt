@@ -1,0 +1,14 @@
+use Rattle.std.proofs.Common.{sym, ap}
+use Rattle.lt_tree.specs.UnitView.{initialiser_of}
+use Rattle.lt_tree.specs.Typing.TypeRows.{type_in}
+use Rattle.lt_tree.specs.Typing.Declaring.{length_faults}
+use Rattle.lt_tree.specs.Typing.InitialiserTyping as typing
+use Rattle.lt_type.proofs.Sequences.{gives_so}
+use Rattle.lt_unit.proofs.FillingSteps.{braces_seen}
+use Rattle.lt_unit.proofs.initialiser.object_initialiser.Goals as goal
+
+pub returns-in-Expression : goal.returns-in-Expression
+returns-in-Expression c = gives_so (λ types k. ap (λ i. typing.object_initialiser c.args.is_static (type_in types c.args.t) length_faults (initialiser_of i) k) (sym c.in-Expression.is)) c.without_braces.ensures
+
+pub returns-in-List : goal.returns-in-List
+returns-in-List c = gives_so (λ types k. ap (λ i. typing.object_initialiser c.args.is_static (type_in types c.args.t) length_faults i k) (braces_seen c.args.i.now _ _ c.in-List.is c.as_slice.ensures.value)) c.in_braces.ensures

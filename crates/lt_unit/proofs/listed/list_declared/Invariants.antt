@@ -1,0 +1,13 @@
+use Rattle.std.proofs.Common.{◌≡◌, map, drop}
+use Rattle.std.specs.List.{flat_map}
+use Rattle.lt_tree.specs.Typing.EntityView.{declared_of}
+use Rattle.lt_tree.specs.Typing.Programs.{made_of, with_new}
+use Rattle.lt_unit.specs.Listing.{IsListing, types_at, listed_in}
+use Rattle.lt_unit.proofs.listed.list_declared.Given as goal
+
+abbrev pub invariant-all : goal.invariant-all
+invariant-all l = record {
+  listing : IsListing l.types l.listed;
+  listed : with_new (listed_in (types_at l.types) l.listed) (flat_map (λ f. made_of f.type) (map (declared_of (types_at l.types)) (drop l.f-index l.declared)))
+      ≡ with_new (listed_in (types_at l.types) l.initial.listed) (flat_map (λ f. made_of f.type) (map (declared_of (types_at l.types)) l.declared));
+}

@@ -1,0 +1,14 @@
+pub mod UnitViews
+pub mod Inside
+pub mod Elaborated
+pub mod CaseParts
+pub mod SeenCases
+pub mod SwitchHeads
+pub mod ItemParts
+pub mod Programs
+pub mod LeftParts
+pub mod Fillings
+pub mod MadeOf
+pub mod RowsOnce
+pub mod Listing
+pub mod ListedTypes

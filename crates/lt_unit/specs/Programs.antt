@@ -1,0 +1,19 @@
+-- The program of what is known at the end of a unit.
+use Rattle.std.specs.Prelude.{◌≡◌, Result, Ok, Err}
+use Rattle.lt_tree.specs.declared.unit.Unit.{Unit as SourceUnit}
+use Rattle.lt_tree.specs.declared.typed.program.Program.{Program}
+use Rattle.lt_tree.specs.UnitView.{unit_of}
+use Rattle.lt_tree.specs.Typing.TypeRows.{types_of_rows, Continues}
+use Rattle.lt_tree.specs.Typing.Programs as programs
+use Rattle.lt_tree.specs.Typing.ProgramView.{program_of}
+use Rattle.lt_type.specs.Going.{types_in, known_of}
+use Rattle.lt_type.specs.declared.walker.Walker.{Walker}
+use Rattle.lt_type.specs.declared.stop.TypeStop.{TypeStop}
+use Rattle.lt_type.specs.declared.stop.TypeStop.TheVariants.{NoMemory}
+
+-- Its table goes on from the walker's, and it is the program of what the walker knows; nothing but want of memory stops it.
+abbrev pub IsProgram : Walker → SourceUnit → Result Program TypeStop → Type 0
+IsProgram walker unit (Ok p) =
+    Continues (types_in walker) (types_of_rows p.table.items)
+    × (program_of p ≡ programs.program_of (unit_of unit) (known_of (types_of_rows p.table.items) walker))
+IsProgram walker unit (Err stop) = stop ≡ NoMemory
