@@ -34,8 +34,8 @@ fn nothing_known(alloc: Global) -> Result<Walker, TypeStop> {
 }
 
 // Declares what a declarator at file scope does.
-fn bind(alloc: Global, walker: &mut Walker, it: Declares) -> Result<(), TypeStop> {
-    let Some(name) = it.name else {
+fn bind(alloc: Global, walker: &mut Walker, it: &Declares) -> Result<(), TypeStop> {
+    let Some(name) = &it.name else {
         return Ok(());
     };
     if walker.types.table().is_function(it.ty) == Some(true) {
@@ -64,7 +64,7 @@ fn declare(alloc: Global, walker: &mut Walker, d: &Declaration) -> Result<(), Ty
             has_initialiser: d.initialiser.is_some(),
         };
         let declared = declarator(walker, &d.declarator, &it, false, judging)?;
-        bind(alloc, walker, declared)?;
+        bind(alloc, walker, &declared)?;
     }
     Ok(())
 }
