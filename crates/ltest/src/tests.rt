@@ -3,6 +3,7 @@ mod every;
 mod expressions;
 mod printing;
 mod reading;
+mod rules;
 mod typing;
 mod units;
 
