@@ -15,6 +15,3 @@ pub use constants::{
 pub use structs::PlacedMember;
 pub use table::{Kind, TypeTable};
 pub use types::Types;
-
-#[cfg(test)]
-mod tests;

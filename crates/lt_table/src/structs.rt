@@ -3,8 +3,6 @@ mod derived;
 mod extent;
 mod members;
 mod queries;
-#[cfg(test)]
-mod tests;
 
 ghost use Rattle.std.specs.Prelude.{◌≡◌, ◌++◌, ◌∷◌, List, [], None, Some, length, map, slice_set, IfOk, OnOk, OnErr};
 ghost use Rattle.lt_tree.specs.declared.typed.types.TypeRow.{TypeRow};

@@ -4,8 +4,6 @@ mod kind;
 mod makers;
 mod operands;
 mod queries;
-#[cfg(test)]
-mod tests;
 
 ghost use Rattle.std.specs.Prelude.{◌≡◌, ◌<◌, ◌*◌, ◌^◌, ◌↔◌, min, false, [], length, IsSome, IfSome, IfOk};
 ghost use Rattle.lt_tree.specs.Typing.TypeRows.{type_of_row, types_of_rows};

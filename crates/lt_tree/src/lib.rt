@@ -36,6 +36,3 @@ pub use statement::{ForStart, Item, Label, Stmt, SwitchCase};
 pub use stop::Stop;
 pub use terminal::Terminal;
 pub use unit::{External, FunctionDefinition, Unit};
-
-#[cfg(test)]
-mod tests;

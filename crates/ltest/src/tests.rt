@@ -1,9 +1,14 @@
+mod constants;
 mod declared;
 mod every;
 mod expressions;
+mod printed;
 mod printing;
 mod reading;
 mod rules;
+mod structs;
+mod trees;
+mod types;
 mod typing;
 mod units;
 

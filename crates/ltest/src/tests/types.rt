@@ -1,5 +1,7 @@
-use super::TypeTable;
+//! The table of types, each once.
+
 use lt_model::{Quals, Scalar};
+use lt_table::TypeTable;
 use lt_tree::typed::Constancy;
 use std::test::Fail;
 

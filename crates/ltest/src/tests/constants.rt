@@ -1,5 +1,7 @@
-use crate::{connected, constant_of, id_of, moved_by, moved_to, operated};
+//! The types and values of constants.
+
 use lt_model::{DataModel, Op, Scalar};
+use lt_table::{connected, constant_of, id_of, moved_by, moved_to, operated};
 use lt_tree::LogicalOp;
 use lt_tree::typed::Constancy;
 

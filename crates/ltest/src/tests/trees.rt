@@ -1,11 +1,11 @@
 //! Trees with marks, and what stands in their place.
 
-use crate::makes::{declarator, expression, specifier, statement};
-use crate::{
+use lt_model::{Name, Op, Quals};
+use lt_tree::makes::{declarator, expression, specifier, statement};
+use lt_tree::{
     BasicType, Declarator, DeclaratorPart, Expr, External, FunctionDefinition, Item, LogicalOp,
     Mark, Specifiers, Stmt, TypeName, UnaryOp, Unit, erase, is_pure, max_id,
 };
-use lt_model::{Name, Op, Quals};
 use std::alloc::{AllocError, Global};
 use std::test::Fail;
 
