@@ -1,9 +1,9 @@
 ghost use Rattle.std.specs.Prelude.{◌≡◌, ◌≤◌, ◌-◌, false, [], ◌∷◌, length, drop, IfOk};
 ghost use Rattle.lt_expr.specs.Found.{found};
 
+use indexmap::IndexMap;
 use lt_model::Name;
 use std::alloc::{AllocError, Global};
-use std::collections::HashMap;
 use std::marker::Model;
 
 /// A name in scope.
@@ -23,7 +23,7 @@ pub struct Typedefs {
     /// The innermost last.
     binders: Vec<Binder>,
     /// For each name the place of its innermost binder.
-    newest: HashMap<Vec<u8>, usize>,
+    newest: IndexMap<Vec<u8>, usize>,
 }
 
 impl Model for Typedefs {
@@ -47,7 +47,7 @@ impl Typedefs {
         Typedefs {
             alloc,
             binders: Vec::new(alloc),
-            newest: HashMap::new(alloc),
+            newest: IndexMap::new(alloc),
         }
     }
 
@@ -106,7 +106,7 @@ impl Typedefs {
         };
         match hidden {
             None => {
-                let _gone = self.newest.remove(name.as_slice());
+                let _gone = self.newest.swap_remove(name.as_slice());
             }
             Some(place) => {
                 if let Some(newest) = self.newest.get_mut(name.as_slice()) {

@@ -3,9 +3,9 @@ ghost use Rattle.std.specs.Result.{OnErr};
 ghost use Rattle.lt_scope.specs.Names.{bound_among, bound_in, innermost, binding};
 ghost use Rattle.lt_scope.specs.Binders.{names_in, Forgets, ForgetsAll};
 
+use indexmap::IndexMap;
 use lt_model::Name;
 use std::alloc::{AllocError, Global};
-use std::collections::HashMap;
 use std::marker::Model;
 
 /// What a name stands for, and how many frames were open when it was declared.
@@ -49,7 +49,7 @@ pub struct Scopes<T> {
     /// The innermost last.
     frames: Vec<Vec<Binder<T>>>,
     /// What each name in scope stands for.
-    newest: HashMap<Vec<u8>, Standing<T>>,
+    newest: IndexMap<Vec<u8>, Standing<T>>,
 }
 
 impl<T> Model for Scopes<T> {
@@ -106,12 +106,12 @@ fn copied<T: Copy + Drop>(alloc: Global, binders: &[Binder<T>]) -> Result<Frame<
 }
 
 // Makes a name stand for what it stood for before.
-fn forget<T: Copy + Drop>(newest: &mut HashMap<Vec<u8>, Standing<T>>, binder: &Binder<T>)
+fn forget<T: Copy + Drop>(newest: &mut IndexMap<Vec<u8>, Standing<T>>, binder: &Binder<T>)
     ensures { Forgets binder.now newest.old newest.new }
 {
     match binder.hidden {
         None => {
-            let _gone = newest.remove(binder.name.as_slice());
+            let _gone = newest.swap_remove(binder.name.as_slice());
         }
         Some(before) => {
             if let Some(standing) = newest.get_mut(binder.name.as_slice()) {
@@ -122,7 +122,7 @@ fn forget<T: Copy + Drop>(newest: &mut HashMap<Vec<u8>, Standing<T>>, binder: &B
 }
 
 // Makes the names of a frame stand for what they stood for before.
-fn forget_all<T: Copy + Drop>(newest: &mut HashMap<Vec<u8>, Standing<T>>, binders: &[Binder<T>])
+fn forget_all<T: Copy + Drop>(newest: &mut IndexMap<Vec<u8>, Standing<T>>, binders: &[Binder<T>])
     ensures { ForgetsAll (reverse binders.now) newest.old newest.new }
 {
     let mut left = binders.len();
@@ -140,7 +140,7 @@ impl<T: Copy + Drop> Scopes<T> {
         Scopes {
             alloc,
             frames: Vec::new(alloc),
-            newest: HashMap::new(alloc),
+            newest: IndexMap::new(alloc),
         }
     }
 

@@ -18,3 +18,4 @@ pub mod StructTables
 pub mod StructQueries
 pub mod StructMembers
 pub mod TypesSuit
+pub mod RowsOnce

@@ -7,3 +7,4 @@ pub mod TableBare
 pub mod StructNesting
 pub mod StructTables
 pub mod TypesValue
+pub mod RowsOnce

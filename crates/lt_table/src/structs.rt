@@ -13,10 +13,10 @@ ghost use Rattle.lt_table.specs.StructTables.{structs_in, IsPut, Suits, AreShare
 
 use crate::table::TypeTable;
 pub use extent::Extent;
+use indexmap::IndexMap;
 use lt_model::DataModel;
 use lt_tree::typed::{Member, StructType, TypeId};
 use std::alloc::{AllocError, Global};
-use std::collections::HashMap;
 use std::rc::Rc;
 
 /// A member of a struct, without its name.
@@ -40,7 +40,7 @@ pub struct StructFacts {
     /// The types and the offsets of these.
     pub placed: Rc<Vec<PlacedMember>>,
     /// The place of the first member of each name.
-    pub places: HashMap<Vec<u8>, usize>,
+    pub places: IndexMap<Vec<u8>, usize>,
 }
 
 /// The structs of a program, in a data model. Contracts see them by `structs_in`, as the types of a table of types give them.

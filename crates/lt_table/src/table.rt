@@ -8,6 +8,7 @@ mod queries;
 ghost use Rattle.std.specs.Prelude.{◌≡◌, ◌<◌, ◌*◌, ◌^◌, ◌↔◌, min, false, [], length, IsSome, IfSome, IfOk};
 ghost use Rattle.lt_tree.specs.Typing.TypeRows.{type_of_row, types_of_rows};
 ghost use Rattle.lt_table.specs.TableRows.{CanFollow, AreFactsOf, AreFactsAt, IsRowAt, Grows, Makes};
+ghost use Rattle.lt_table.specs.RowsOnce.{AreOnce};
 
 use indexmap::IndexMap;
 pub use kind::Kind;
@@ -57,9 +58,10 @@ impl TypeTable {
         self.rows.len()
     }
 
-    /// The rows.
+    /// The rows, of which each stands once, behind those that it is made of.
     pub fn into_rows(self) -> Result<Vec<TypeRow>, AllocError>
-        ensures { IfOk result (λ rows. rows.items ≡ self) }
+        ensures rows { IfOk result (λ rows. rows.items ≡ self) }
+        ensures once { IfOk result (λ rows. AreOnce rows.items) }
     {
         let mut rows = Vec::new(self.alloc);
         for row in self.rows.into_keys() {

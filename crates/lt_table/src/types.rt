@@ -4,6 +4,7 @@ mod queries;
 
 ghost use Rattle.std.specs.Prelude.{◌≡◌, ◌++◌, ◌∷◌, [], None, Some, length, slice_set, IfOk, OnOk, OnErr};
 ghost use Rattle.lt_table.specs.TableRows.{Grows};
+ghost use Rattle.lt_table.specs.RowsOnce.{AreOnce};
 
 use crate::structs::StructTable;
 use crate::table::TypeTable;
@@ -81,9 +82,10 @@ impl Types {
         self.structs.complete(&self.table, number, members)
     }
 
-    /// The rows of the types, and the structs.
+    /// The rows of the types, of which each stands once, behind those that it is made of, and the structs.
     pub fn into_parts(self) -> Result<(Vec<TypeRow>, Vec<StructType>), AllocError>
         ensures rows { IfOk result (λ parts. parts.0.items ≡ self.rows) }
+        ensures once { IfOk result (λ parts. AreOnce parts.0.items) }
         ensures structs { IfOk result (λ parts. parts.1.items ≡ self.structs) }
     {
         let rows = self.table.into_rows()?;

@@ -49,11 +49,6 @@ pub judged_then : {B Y : Type 0} {sees : List CType → Y → B} {s0 s2 : Walker
     → Gives sees s0 s2 r (λ types known. rest types (f types known) known)
 judged_then {s0 = s0} {faults = faults} f rest w made more = gives_then {shown = λ types l. l} {x = faults} rest (gives_made {shown = λ types l. l} {s = s0} {x = faults} f w made) more
 
--- a node ends where these rules are broken
-pub ended : {s0 s1 : Walker} {r : Result (Unit {0}) TypeStop} {faults : List Rule} (node : ℕ) (f : List CType → List Rule)
-    → Stays s0.types.rows (λ types. faults ≡ f types) → Gives done s0 s1 r (λ types. settle node faults) → Gives done s0 s1 r (λ types. settle node (f types))
-ended {s0 = s0} node f is g = gives_here (λ types h. ap (λ l. settle node l (known_of types s0)) (is types h)) g
-
 -- ---- values
 
 -- the part that a value fills, of what is known at the end

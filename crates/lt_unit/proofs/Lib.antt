@@ -16,5 +16,5 @@ pub mod Openings
 pub mod PartsBehind
 pub mod FillingSteps
 pub mod MadeOf
-pub mod RowsOnce
 pub mod Listings
+pub mod Tasks

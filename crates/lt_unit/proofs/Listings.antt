@@ -5,19 +5,16 @@ use Rattle.std.specs.List.{list_any, flat_map}
 use Rattle.std.proofs.lemmas.List.{drop_all, length-replicate, get_or-replicate}
 use Rattle.std.proofs.lemmas.Option.{slice_get_within, get_or_from_slice_get}
 use Rattle.lt_tree.specs.declared.typed.types.TypeId.{TypeId}
-use Rattle.lt_tree.specs.declared.typed.types.TypeRow.{TypeRow}
-use Rattle.lt_tree.specs.Typing.Types.{CType, Void, bare, same}
-use Rattle.lt_tree.specs.Typing.TypeRows.{type_in, all_in, type_of_row}
-use Rattle.lt_tree.specs.Typing.Programs.{made_of, all_made_of, with_new}
+use Rattle.lt_tree.specs.Typing.Types.{CType, Void, same}
+use Rattle.lt_tree.specs.Typing.TypeRows.{type_in}
+use Rattle.lt_tree.specs.Typing.Programs.{made_of, with_new}
 use Rattle.lt_table.proofs.TableRows.{continues_same}
 use Rattle.lt_table.proofs.TableSame.{same_exact, same_self}
-use Rattle.lt_unit.specs.MadeOf.{IsIn, IsClosed, parts_of}
-use Rattle.lt_unit.specs.RowsOnce.{AllBefore}
+use Rattle.lt_unit.specs.MadeOf.{IsClosed}
 use Rattle.lt_unit.specs.Listing.{AreByPlace, AreMarked, IsListing, ListsMore, types_at, listed_in}
 use Rattle.lt_unit.specs.declared.listing.Listed.{Listed}
 use Rattle.lt_unit.specs.declared.listing.TypesByPlace.{TypesByPlace}
-use Rattle.lt_unit.proofs.MadeOf.{with_new-append, closed_none, closed_on, listed_already, parts_before}
-use Rattle.lt_unit.proofs.RowsOnce.{type_at}
+use Rattle.lt_unit.proofs.MadeOf.{with_new-append, closed_none, listed_already}
 
 pub then_ok : {A E : Type 0} (r : Result A E) {P Q : Type 0} → (P → Q) → OnOk r P → OnOk r Q
 then_ok (Ok a) f p = f p
@@ -114,52 +111,11 @@ all_there types it t u known listing is at = record {
 
 -- ---- steps
 
-pub lists_none : {types : TypesByPlace} {it : Listed} → IsListing types it → ListsMore types it it []
-lists_none listing = record { listing = listing; listed = refl }
-
 pub lists_then : {types : TypesByPlace} {a b c : Listed} (xs ys : List CType) → ListsMore types a b xs → ListsMore types b c ys → ListsMore types a c (xs ++ ys)
 lists_then {types} {a} {b} {c} xs ys f g = record {
   listing = g.listing;
   listed = g.listed ∙ ap (λ l. with_new l ys) f.listed ∙ sym (with_new-append (listed_in (types_at types) a) xs ys);
 }
-
--- the parts of a type were listed, and then itself
-pub lists_itself : (types : TypesByPlace) (a b c : Listed) (t u : TypeId) → AreByPlace types → IsListing types a → slice_get types.bare.items t.place ≡ Some u → ListsMore types a b (parts_of (type_in (types_at types) t))
-    → AreMarked types c → listed_in (types_at types) c ≡ with_new (listed_in (types_at types) b) (type_in (types_at types) u ∷ []) → ListsMore types a c (made_of (type_in (types_at types) t))
-lists_itself types a b c t u known listing is parts marked added =
-    let all : listed_in (types_at types) c ≡ with_new (listed_in (types_at types) a) (made_of (type_in (types_at types) t)) =
-    added
-    ∙ ap (λ x. with_new (listed_in (types_at types) b) (x ∷ [])) (known.bare t u is (types_at types) (continues_same (types_at types)))
-    ∙ ap (λ l. with_new l (bare (type_in (types_at types) t) ∷ [])) parts.listed
-    ∙ parts_before (listed_in (types_at types) a) (type_in (types_at types) t) in
-    record {
-      listing = record { marked = marked; closed = subst IsClosed (sym all) (closed_on (listed_in (types_at types) a) (type_in (types_at types) t) listing.closed) };
-      listed = all;
-    }
-
--- of a row
-pub lists_row : (types : TypesByPlace) (a b : Listed) (t : TypeId) (r : TypeRow) → AreByPlace types → slice_get types.rows.items t.place ≡ Some r
-    → ListsMore types a b (parts_of (type_of_row (types_at types) r)) → ListsMore types a b (parts_of (type_in (types_at types) t))
-lists_row types a b t r known at more = subst (λ x. ListsMore types a b (parts_of x)) (sym (type_at types.rows.items t r at (known.once.before t.place r at))) more
-
--- a list of types
-pub before_at : (n : ℕ) (list : List TypeId) (i : ℕ) (d : TypeId) → AllBefore n list → i < length list → (get_or list i d).place < n
-before_at n [] i d all within = absurd (omega arith)
-before_at n (t ∷ list) zero d all within = all.0
-before_at n (t ∷ list) (suc i) d all within = before_at n list i d all.1 (omega (arith, within))
-
-parts_opened : (types : List CType) (list : List TypeId) (i : ℕ) (d : TypeId) → i < length list → all_made_of (all_in types (drop i list)) ≡ made_of (type_in types (get_or list i d)) ++ all_made_of (all_in types (drop (i + 1) list))
-parts_opened types list i d within = ap (λ l. all_made_of (all_in types l)) (drop-cons list i d within ∙ ap (λ k. get_or list i d ∷ drop k list) (sym (add-one i)))
-
--- one more of its types was listed
-pub part_listed : (types : TypesByPlace) (a b : Listed) (list : List TypeId) (i : ℕ) (d : TypeId) (whole : List CType) → i < length list
-    → with_new (listed_in (types_at types) a) (all_made_of (all_in (types_at types) (drop i list))) ≡ whole → ListsMore types a b (made_of (type_in (types_at types) (get_or list i d)))
-    → with_new (listed_in (types_at types) b) (all_made_of (all_in (types_at types) (drop (i + 1) list))) ≡ whole
-part_listed types a b list i d whole within so_far more =
-    ap (λ l. with_new l (all_made_of (all_in (types_at types) (drop (i + 1) list)))) more.listed
-    ∙ sym (with_new-append (listed_in (types_at types) a) (made_of (type_in (types_at types) (get_or list i d))) (all_made_of (all_in (types_at types) (drop (i + 1) list))))
-    ∙ ap (with_new (listed_in (types_at types) a)) (sym (parts_opened (types_at types) list i d within))
-    ∙ so_far
 
 -- ---- lists of what has types
 

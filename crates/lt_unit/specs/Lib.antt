@@ -9,6 +9,6 @@ pub mod Programs
 pub mod LeftParts
 pub mod Fillings
 pub mod MadeOf
-pub mod RowsOnce
 pub mod Listing
+pub mod Tasks
 pub mod ListedTypes

@@ -8,7 +8,7 @@ use Rattle.lt_tree.specs.Typing.TypeRows.{type_in, types_of_rows}
 use Rattle.lt_tree.specs.Typing.Programs.{with_new}
 use Rattle.lt_table.specs.TableBare.{AreBare}
 use Rattle.lt_unit.specs.MadeOf.{IsClosed}
-use Rattle.lt_unit.specs.RowsOnce.{AreOnce}
+use Rattle.lt_table.specs.RowsOnce.{AreOnce}
 use Rattle.lt_unit.specs.declared.listing.Listed.{Listed}
 use Rattle.lt_unit.specs.declared.listing.TypesByPlace.{TypesByPlace}
 

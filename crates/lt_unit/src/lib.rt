@@ -13,7 +13,6 @@ mod listed;
 mod listing;
 mod optional;
 mod program;
-mod rows;
 mod seen;
 mod statement;
 

@@ -39,6 +39,7 @@ fn none(alloc: Global, types: &TypesByPlace) -> Result<Listed, AllocError>
     ensures none { IfOk result (λ listed. listed_in (types_at types.now) listed ≡ []) }
 {
     Ok(Listed {
+        alloc,
         ids: Vec::new(alloc),
         is_listed: vec![in alloc; false; types.rows.len()]?,
     })

@@ -1,12 +1,12 @@
 // The types of a program without qualifiers, each once, behind those of which it is made.
 
-ghost use Rattle.std.specs.Prelude.{◌≡◌, ◌<◌, ◌++◌, ◌∷◌, [], Some, true, length, slice_get, slice_set, IfOk, OnOk};
+ghost use Rattle.std.specs.Prelude.{◌≡◌, ◌++◌, ◌∷◌, [], Some, true, map, reverse, slice_get, slice_set, IfOk, OnOk};
 ghost use Rattle.std.specs.Option.{option_copied};
-ghost use Rattle.lt_tree.specs.Typing.TypeRows.{type_in, all_in, type_of_row};
-ghost use Rattle.lt_tree.specs.Typing.Programs.{made_of, all_made_of, with_new};
-ghost use Rattle.lt_unit.specs.MadeOf.{parts_of};
-ghost use Rattle.lt_unit.specs.RowsOnce.{AllBefore, IsMadeBefore};
+ghost use Rattle.lt_tree.specs.Typing.TypeRows.{type_in};
+ghost use Rattle.lt_tree.specs.Typing.Programs.{made_of, with_new};
+ghost use Rattle.lt_unit.specs.declared.listing.Task.TheVariants as task;
 ghost use Rattle.lt_unit.specs.Listing.{AreByPlace, AreMarked, IsListing, ListsMore, types_at, listed_in};
+ghost use Rattle.lt_unit.specs.Tasks.{GoesOn, parts_in};
 
 use lt_tree::typed::{FunctionType, TypeId, TypeRow};
 use std::alloc::{AllocError, Global};
@@ -22,9 +22,19 @@ pub struct TypesByPlace {
 /// Types that are listed.
 #[derive(Drop)]
 pub struct Listed {
+    pub alloc: Global,
     pub ids: Vec<TypeId>,
     /// Whether the type of a place is listed.
     pub is_listed: Vec<bool>,
+}
+
+/// What is still to be done.
+#[derive(Clone, Copy)]
+pub enum Task {
+    /// To list the types of which a type is made, and then the type, unless it is listed.
+    List(TypeId),
+    /// To list a type whose parts are listed, unless it is.
+    Add(TypeId),
 }
 
 // Whether a type is listed.
@@ -68,37 +78,6 @@ fn mark(is_listed: &mut Vec<bool>, t: TypeId)
     }
 }
 
-/// How deep types may nest that are listed. Deeper ones end as want of memory does.
-const DEEPEST: u32 = 2048;
-
-/// Lists the types of which a type is made, and then the type, unless it is listed: then they are too.
-pub fn list(types: &TypesByPlace, listed: &mut Listed, t: TypeId) -> Result<(), AllocError>
-    requires known { AreByPlace types.now }
-    requires listing { IsListing types.now listed.old }
-    ensures { OnOk result (ListsMore types.now listed.old listed.new (made_of (type_in (types_at types.now) t))) }
-{
-    list_within(types, listed, t, DEEPEST)
-}
-
-// The same, where the type nests no deeper than this.
-#[cycle(listing)]
-fn list_within(
-    types: &TypesByPlace,
-    listed: &mut Listed,
-    t: TypeId,
-    depth: u32,
-) -> Result<(), AllocError>
-    requires known { AreByPlace types.now }
-    requires listing { IsListing types.now listed.old }
-    ensures { OnOk result (ListsMore types.now listed.old listed.new (made_of (type_in (types_at types.now) t))) }
-{
-    let bare = bare(types, t)?;
-    if has(listed, bare)? {
-        return Ok(());
-    }
-    list_anew(types, listed, t, bare, depth)
-}
-
 // The type without qualifiers.
 fn bare(types: &TypesByPlace, t: TypeId) -> Result<TypeId, AllocError>
     ensures { IfOk result (λ u. slice_get types.now.bare.items t.place ≡ Some u) }
@@ -109,107 +88,98 @@ fn bare(types: &TypesByPlace, t: TypeId) -> Result<TypeId, AllocError>
     }
 }
 
-// Lists the parts of a type, and then the type without qualifiers.
-#[cycle(listing)]
-fn list_anew(
-    types: &TypesByPlace,
-    listed: &mut Listed,
-    t: TypeId,
-    bare: TypeId,
-    depth: u32,
-) -> Result<(), AllocError>
+/// Lists the types of which a type is made, and then the type, unless it is listed: then they are too.
+pub fn list(types: &TypesByPlace, listed: &mut Listed, t: TypeId) -> Result<(), AllocError>
     requires known { AreByPlace types.now }
     requires listing { IsListing types.now listed.old }
-    requires bare { slice_get types.now.bare.items t.place ≡ Some bare }
     ensures { OnOk result (ListsMore types.now listed.old listed.new (made_of (type_in (types_at types.now) t))) }
 {
-    let Some(depth) = depth.checked_sub(1) else {
-        return Err(AllocError);
-    };
-    list_parts(types, listed, t, depth)?;
-    add(types, listed, bare)
+    // The next task is the last. Types nest as deep as typedefs make them, so this is no recursion.
+    let mut tasks = Vec::new(listed.alloc);
+    tasks.push(Task::List(t))?;
+    'tasks: for _ in 0..u64::MAX {
+        let Some(task) = tasks.pop() else {
+            return Ok(());
+        };
+        step(types, listed, &mut tasks, task)?;
+    }
+    Err(AllocError)
 }
 
-#[cycle(listing)]
-fn list_parts(
+// Does one task.
+fn step(
     types: &TypesByPlace,
     listed: &mut Listed,
-    t: TypeId,
-    depth: u32,
+    tasks: &mut Vec<Task>,
+    task: Task,
 ) -> Result<(), AllocError>
     requires known { AreByPlace types.now }
-    requires listing { IsListing types.now listed.old }
-    ensures { OnOk result (ListsMore types.now listed.old listed.new (parts_of (type_in (types_at types.now) t))) }
+    requires marked { AreMarked types.now listed.old }
+    ensures { OnOk result (GoesOn types.now listed.old (task ∷ reverse tasks.old.items) listed.new (reverse tasks.new.items)) }
 {
-    match row(types, t) {
-        Some(row) => list_row(types, listed, t, row, depth),
-        None => Err(AllocError),
+    match task {
+        Task::List(t) => open(types, listed, tasks, t),
+        Task::Add(t) => add(types, listed, t),
     }
 }
 
-// The row of a type.
-fn row(types: &TypesByPlace, t: TypeId) -> Option<&TypeRow>
-    ensures { option_copied result ≡ slice_get types.now.rows.items t.place }
+// Unless a type is listed, its parts are next, and then the type without qualifiers.
+fn open(
+    types: &TypesByPlace,
+    listed: &Listed,
+    tasks: &mut Vec<Task>,
+    t: TypeId,
+) -> Result<(), AllocError>
+    requires { AreByPlace types.now }
+    ensures { OnOk result (GoesOn types.now listed.now (task.List t ∷ reverse tasks.old.items) listed.now (reverse tasks.new.items)) }
 {
-    types.rows.get(t.place as usize)
+    let bare = bare(types, t)?;
+    if has(listed, bare)? {
+        return Ok(());
+    }
+    let Some(row) = types.rows.get(t.place as usize) else {
+        return Err(AllocError);
+    };
+    tasks.push(Task::Add(bare))?;
+    open_row(tasks, row)
 }
 
-// Lists what a row is made of.
-#[cycle(listing)]
-fn list_row(
-    types: &TypesByPlace,
-    listed: &mut Listed,
-    t: TypeId,
-    row: &TypeRow,
-    depth: u32,
-) -> Result<(), AllocError>
-    requires known { AreByPlace types.now }
-    requires listing { IsListing types.now listed.old }
-    requires before { IsMadeBefore t.place row.now }
-    ensures { OnOk result (ListsMore types.now listed.old listed.new (parts_of (type_of_row (types_at types.now) row.now))) }
+// The parts of a row are next.
+fn open_row(tasks: &mut Vec<Task>, row: &TypeRow) -> Result<(), AllocError>
+    ensures { OnOk result (reverse tasks.new.items ≡ map task.List (parts_in row.now) ++ reverse tasks.old.items) }
 {
     match row {
-        TypeRow::Pointer(u) => list_within(types, listed, *u, depth),
-        TypeRow::Array(u, _) => list_within(types, listed, *u, depth),
-        TypeRow::Function(f) => list_function(types, listed, t, f, depth),
-        TypeRow::Qualified(_, u) => list_within(types, listed, *u, depth),
+        TypeRow::Pointer(t) => open_part(tasks, *t),
+        TypeRow::Array(t, _) => open_part(tasks, *t),
+        TypeRow::Function(f) => open_function(tasks, f),
+        TypeRow::Qualified(_, t) => open_part(tasks, *t),
         _ => Ok(()),
     }
 }
 
-#[cycle(listing)]
-fn list_function(
-    types: &TypesByPlace,
-    listed: &mut Listed,
-    t: TypeId,
-    f: &FunctionType,
-    depth: u32,
-) -> Result<(), AllocError>
-    requires known { AreByPlace types.now }
-    requires listing { IsListing types.now listed.old }
-    requires result { f.now.result.place < t.place }
-    requires parameters { AllBefore t.place f.now.parameters.items }
-    ensures { OnOk result (ListsMore types.now listed.old listed.new (made_of (type_in (types_at types.now) f.now.result) ++ all_made_of (all_in (types_at types.now) f.now.parameters.items))) }
+// This part is next.
+fn open_part(tasks: &mut Vec<Task>, t: TypeId) -> Result<(), AllocError>
+    ensures { OnOk result (reverse tasks.new.items ≡ task.List t ∷ reverse tasks.old.items) }
 {
-    list_within(types, listed, f.result, depth)?;
-    list_all(types, listed, t, f.parameters.as_slice(), depth)
+    tasks.push(Task::List(t))?;
+    Ok(())
 }
 
-#[cycle(listing)]
-fn list_all(
-    types: &TypesByPlace,
-    listed: &mut Listed,
-    t: TypeId,
-    parts: &[TypeId],
-    depth: u32,
-) -> Result<(), AllocError>
-    requires known { AreByPlace types.now }
-    requires listing { IsListing types.now listed.old }
-    requires before { AllBefore t.place parts.now }
-    ensures { OnOk result (ListsMore types.now listed.old listed.new (all_made_of (all_in (types_at types.now) parts.now))) }
+// The type of what a function returns is next, and then those of its parameters.
+fn open_function(tasks: &mut Vec<Task>, f: &FunctionType) -> Result<(), AllocError>
+    ensures { OnOk result (reverse tasks.new.items ≡ map task.List (f.now.result ∷ f.now.parameters.items) ++ reverse tasks.old.items) }
 {
-    'all: for part in parts {
-        list_within(types, listed, *part, depth)?;
+    open_all(tasks, f.parameters.as_slice())?;
+    open_part(tasks, f.result)
+}
+
+fn open_all(tasks: &mut Vec<Task>, parts: &[TypeId]) -> Result<(), AllocError>
+    ensures { OnOk result (reverse tasks.new.items ≡ map task.List parts.now ++ reverse tasks.old.items) }
+{
+    let mut left = parts.len();
+    'parts: while 0 < left {
+        left -= 1;
+        open_part(tasks, parts[left])?;
     }
     Ok(())
 }

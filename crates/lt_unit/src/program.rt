@@ -11,7 +11,6 @@ ghost use Rattle.lt_unit.specs.Programs.{IsProgram};
 
 use crate::listed::listed_types;
 use crate::listing::TypesByPlace;
-use crate::rows::once_each;
 use lt_model::DataModel;
 use lt_table::Types;
 use lt_tree::Unit;
@@ -54,10 +53,8 @@ fn parts_of(types: Types) -> Result<Parts, AllocError>
     ensures structs { IfOk result (λ parts. parts.structs.items ≡ types.structs) }
 {
     let mut types = types;
-    let alloc = types.alloc();
     let bare = types.bare_types()?;
     let (rows, structs) = types.into_parts()?;
-    let rows = once_each(alloc, rows)?;
     Ok(Parts {
         types: TypesByPlace { rows, bare },
         structs,

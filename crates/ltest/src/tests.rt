@@ -1,3 +1,4 @@
+mod choices;
 mod constants;
 mod declared;
 mod every;
@@ -6,6 +7,7 @@ mod printed;
 mod printing;
 mod reading;
 mod rules;
+mod spots;
 mod structs;
 mod trees;
 mod types;

@@ -7,9 +7,9 @@ use super::extent::{Extent, member_offset, no_members, whole, with_member};
 use super::queries::MOST_CELLS;
 use super::{PlacedMember, StructFacts, StructTable};
 use crate::table::{RowFacts, TypeTable};
+use indexmap::IndexMap;
 use lt_tree::typed::{Member, TypeId};
 use std::alloc::{AllocError, Global};
-use std::collections::HashMap;
 use std::rc::Rc;
 
 impl StructTable {
@@ -63,10 +63,10 @@ impl StructTable {
     }
 
     // The place of the first member of each name. The members are taken from the last on, so that the first of a name stays.
-    fn places_of(&self, members: &[Member]) -> Result<HashMap<Vec<u8>, usize>, AllocError>
+    fn places_of(&self, members: &[Member]) -> Result<IndexMap<Vec<u8>, usize>, AllocError>
         ensures { IfOk result (λ places. (name : List ℕ) → place_in places name ≡ place_of name (names_in members.now)) }
     {
-        let mut places = HashMap::new(self.alloc);
+        let mut places = IndexMap::new(self.alloc);
         let mut left = members.len();
         'members: while 0 < left {
             left -= 1;

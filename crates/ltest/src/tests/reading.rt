@@ -31,3 +31,16 @@ pub fn nested(
     }
     Ok(bytes)
 }
+
+/// A text with a front and a back.
+pub fn surrounded(
+    alloc: Global,
+    front: &str,
+    inside: &[u8],
+    back: &str,
+) -> Result<Vec<u8>, AllocError> {
+    let mut bytes = Vec::from_slice(alloc, front.as_bytes())?;
+    bytes.extend_from_slice(inside)?;
+    bytes.extend_from_slice(back.as_bytes())?;
+    Ok(bytes)
+}

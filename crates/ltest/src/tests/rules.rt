@@ -1,13 +1,14 @@
 //! Units that break a rule of typing first, and units that come near to that and break none.
 
-use super::reading::parsed;
+use super::reading::{nested, parsed, surrounded};
 use lt_model::DataModel;
 use lt_type::TypeStop;
 use lt_unit::elaborate;
-use std::alloc::Global;
+use std::alloc::{AllocError, Global};
+use std::test::Fail;
 
-// The number of the rule that a unit breaks first, 0 if it breaks none; none where the text has no unit or memory is lacking.
-fn first_broken(alloc: Global, model: DataModel, text: &str) -> Option<u8> {
+/// The number of the rule that a unit breaks first, 0 if it breaks none; none where the text has no unit or memory is lacking.
+pub fn first_broken(alloc: Global, model: DataModel, text: &str) -> Option<u8> {
     let parsed = parsed(alloc, text.as_bytes())?;
     match elaborate(alloc, parsed.unit, model) {
         Ok(_) => Some(0),
@@ -16,8 +17,8 @@ fn first_broken(alloc: Global, model: DataModel, text: &str) -> Option<u8> {
     }
 }
 
-// Whether a line's unit breaks the rule at its front; an empty line has none.
-fn is_so(alloc: Global, model: DataModel, line: &str) -> bool {
+/// Whether a line's unit breaks the rule at its front; an empty line has none.
+pub fn is_so(alloc: Global, model: DataModel, line: &str) -> bool {
     match line.split_once(' ') {
         None => line.is_empty(),
         Some((number, text)) => match number.parse::<u8>() {
@@ -533,4 +534,68 @@ fn other_units_are_judged(rt: HostRuntime) {
     for line in SHORT_LONGS.lines() {
         assert!(rt; is_so(rt.alloc(), DataModel::Ilp32, line), "{line}");
     }
+}
+
+// a front, so many times a text, a middle, as many times another, and a back, with the rule that is broken
+const DEEP: [(&str, &str, &str, &str, &str, usize, u8); 15] = [
+    ("void f(void) { ", "{", "", "}", " }", 998, 0),
+    (
+        "void f(int a) { ",
+        "if (a) ; else ",
+        "if (a) ;",
+        "",
+        " }",
+        332,
+        0,
+    ),
+    ("void f(int a) { ", "if (a) ", ";", "", " }", 499, 0),
+    ("void f(int a) { ", "do ", ";", " while (a);", " }", 998, 0),
+    ("void f(int a) { ", "while (a) ", ";", "", " }", 499, 0),
+    ("void f(int a) { ", "for (;;) ", ";", "", " }", 499, 0),
+    (
+        "void f(int a) { ",
+        "switch (a) { case 1: ",
+        ";",
+        "}",
+        " }",
+        499,
+        0,
+    ),
+    ("int ", "*", "x", "", ";", 1000, 0),
+    ("int x = ", "{", "1", "}", ";", 999, 28),
+    ("int a", "[1]", " = {1}", "", ";", 900, 0),
+    // types that nest deeper than brackets can
+    (
+        "typedef int T; void f(void) { ",
+        "{ typedef T **********T; ",
+        "T x; x = x;",
+        "}",
+        " }",
+        998,
+        0,
+    ),
+    ("", "int a;", "", "", "", 100_000, 0),
+    ("void f(void) { ", "1;", "", "", "}", 100_000, 0),
+    ("int a[] = {", "1,", "2", "", "};", 100_000, 0),
+    ("int f(", "int, ", "int", "", ");", 100_000, 0),
+];
+
+fn deep_text(alloc: Global, parts: [&str; 5], times: usize) -> Result<String, AllocError> {
+    let inside = nested(alloc, times, parts[1], parts[2], parts[3])?;
+    let text = surrounded(alloc, parts[0], inside.as_slice(), parts[4])?;
+    match String::from_utf8(text) {
+        Ok(text) => Ok(text),
+        Err(_) => Err(AllocError),
+    }
+}
+
+#[test]
+fn the_deepest_and_longest_units_are_judged(rt: HostRuntime) -> Result<(), Fail> {
+    let alloc = rt.alloc();
+    for (front, opening, middle, closing, back, times, rule) in DEEP {
+        let text = deep_text(alloc, [front, opening, middle, closing, back], times)?;
+        let broken = first_broken(alloc, DataModel::Lp64, text.as_str());
+        assert!(rt; broken == Some(rule), "{times} times {opening}: {broken:?}");
+    }
+    Ok(())
 }

@@ -1,7 +1,7 @@
 //! Units with the bytes that their nodes begin at, counted by a script that isn't this parser.
 
 use super::every::EVERY;
-use super::reading::{nested, parsed};
+use super::reading::{nested, parsed, surrounded};
 use lt_decl::parse_unit;
 use lt_expr::ParseStop;
 use lt_lex::lex;
@@ -194,18 +194,6 @@ const DEEP: [(&str, &str, &str, &str, &str, usize, usize); 11] = [
     ("enum { ", "a,", "b", "", "};", 100_000, 100_002),
     ("int a[] = {", "1,", "2", "", "};", 100_000, 200_005),
 ];
-
-fn surrounded(
-    alloc: Global,
-    front: &str,
-    inside: &[u8],
-    back: &str,
-) -> Result<Vec<u8>, AllocError> {
-    let mut bytes = Vec::from_slice(alloc, front.as_bytes())?;
-    bytes.extend_from_slice(inside)?;
-    bytes.extend_from_slice(back.as_bytes())?;
-    Ok(bytes)
-}
 
 #[test]
 fn the_deepest_and_longest_texts_are_units(rt: HostRuntime) {

@@ -7,7 +7,7 @@ use Rattle.lt_tree.specs.Typing.Steps.{◌>>=◌, settle}
 use Rattle.lt_type.proofs.Goings.{as_long}
 use Rattle.lt_type.proofs.Sequences.{gives_entered, gives_then, gives_stops, stopped}
 use Rattle.lt_type.proofs.Turns.{lacks_memory}
-use Rattle.lt_unit.proofs.FillingWalks.{ended}
+use Rattle.lt_unit.proofs.Lasting.{settled}
 use Rattle.lt_unit.proofs.initialiser.value_of_no_object.Goals as goal
 
 pub returns-in_err-_x : goal.returns-in_err-_x
@@ -23,4 +23,4 @@ returns-in_err-faults c =
 pub returns : goal.returns
 returns c =
     gives_entered (λ types node. expression (expression_of c.args.e.now) as_value >>= (λ it. settle node (bad_initialiser ∷ []))) c.in_ok-node.ensures.entered c.in_ok-node.ensures.node
-    (gives_then (λ types it. settle c.in_ok-node.node (bad_initialiser ∷ [])) c.in_ok-_x.ensures (ended c.in_ok-node.node (λ types. bad_initialiser ∷ []) (λ types h. c.in_ok-faults.ensures) c.settle.ensures.gives))
+    (gives_then (λ types it. settle c.in_ok-node.node (bad_initialiser ∷ [])) c.in_ok-_x.ensures (settled c.in_ok-node.node (λ types. bad_initialiser ∷ []) (λ types h. c.in_ok-faults.ensures) c.settle.ensures.gives))

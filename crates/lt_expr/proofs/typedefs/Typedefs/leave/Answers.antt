@@ -4,8 +4,8 @@ use Rattle.lt_expr.proofs.typedefs.Typedefs.leave.Goals as goal
 
 pub invariant_of-self-in-None : goal.invariant_of-self-in-None
 invariant_of-self-in-None c =
-    agree_leave c.self.inside.binders.items c.pop.new.self.items c.in-Some.field-0 c.self.inside.newest c.remove-gone.new.self c.as_slice.result.now None c.self.invariant
-    c.in-Some.ensures.items c.as_slice.ensures c.in-None.is c.remove-gone.ensures.updates
+    agree_leave c.self.inside.binders.items c.pop.new.self.items c.in-Some.field-0 c.self.inside.newest c.swap_remove-gone.new.self c.as_slice.result.now None c.self.invariant
+    c.in-Some.ensures.items c.as_slice.ensures c.in-None.is c.swap_remove-gone.ensures.updates
 
 pub invariant_of-self-in-Some-get_mut : goal.invariant_of-self-in-Some-get_mut
 invariant_of-self-in-Some-get_mut c =

@@ -12,9 +12,9 @@ use Rattle.lt_type.proofs.Sequences.{gives_entered, gives_then, gives_stops, giv
 use Rattle.lt_type.proofs.Turns.{lacks_memory, turns_from, passes_on, passes_stop, passes_end}
 use Rattle.lt_unit.specs.Fillings.{filling_in}
 use Rattle.lt_unit.specs.LeftParts.{run_of}
-use Rattle.lt_unit.proofs.Lasting.{gives_here, gives_it}
+use Rattle.lt_unit.proofs.Lasting.{settled, gives_here, gives_it}
 use Rattle.lt_unit.proofs.FillingSteps.{list_walk, list_none, list_some, braces_seen}
-use Rattle.lt_unit.proofs.FillingWalks.{knows_itself, ended}
+use Rattle.lt_unit.proofs.FillingWalks.{knows_itself}
 use Rattle.lt_unit.proofs.initialiser.lists.+initialisers.Goals as goal
 
 pub initialisers-list-init : goal.initialisers-list-init
@@ -95,12 +95,12 @@ fill_list-returns-in_err-settle t c =
     gives_here (λ types h. ap (λ f. goes_on (typing.initialisers (initialisers_in c.args.list.now) c.args.is_static f (known_of types c.args.walker.now)) (list_end c.args.node (initialisers_in c.args.list.now) (type_in types c.args.part.ty) (filling_in types c.args.filling)))
     (c.in_ok-inside.ensures types h (known_of types c.args.walker.now) (knows_itself types c.args.walker.now)))
     (gives_then (λ types. list_end c.args.node (initialisers_in c.args.list.now) (type_in types c.args.part.ty) (filling_in types c.args.filling)) c.in_ok-inner.ensures
-    (gives_stops _ (ended c.args.node (λ types. list_faults (type_in types c.args.part.ty) (initialisers_in c.args.list.now) (filling_in types c.in_ok-inner.inner)) (λ types h. c.in_ok-faults.ensures types h (filling_in types c.in_ok-inner.inner) refl) c.in_err-settle.ensures.gives) (stopped c.from_residual-in_err-settle.ensures)))
+    (gives_stops _ (settled c.args.node (λ types. list_faults (type_in types c.args.part.ty) (initialisers_in c.args.list.now) (filling_in types c.in_ok-inner.inner)) (λ types h. c.in_ok-faults.ensures types h (filling_in types c.in_ok-inner.inner) refl) c.in_err-settle.ensures.gives) (stopped c.from_residual-in_err-settle.ensures)))
 
 pub fill_list-returns : goal.fill_list-returns
 fill_list-returns t c =
     gives_here (λ types h. ap (λ f. goes_on (typing.initialisers (initialisers_in c.args.list.now) c.args.is_static f (known_of types c.args.walker.now)) (list_end c.args.node (initialisers_in c.args.list.now) (type_in types c.args.part.ty) (filling_in types c.args.filling)))
     (c.in_ok-inside.ensures types h (known_of types c.args.walker.now) (knows_itself types c.args.walker.now)))
     (gives_then (λ types. list_end c.args.node (initialisers_in c.args.list.now) (type_in types c.args.part.ty) (filling_in types c.args.filling)) c.in_ok-inner.ensures
-    (gives_then _ (ended c.args.node (λ types. list_faults (type_in types c.args.part.ty) (initialisers_in c.args.list.now) (filling_in types c.in_ok-inner.inner)) (λ types h. c.in_ok-faults.ensures types h (filling_in types c.in_ok-inner.inner) refl) c.in_ok-settle.ensures.gives)
+    (gives_then _ (settled c.args.node (λ types. list_faults (type_in types c.args.part.ty) (initialisers_in c.args.list.now) (filling_in types c.in_ok-inner.inner)) (λ types h. c.in_ok-faults.ensures types h (filling_in types c.in_ok-inner.inner) refl) c.in_ok-settle.ensures.gives)
     (gives_it (λ types. record (filling_in types c.args.filling) { parts = (filling_in types c.in_ok-inner.inner).parts }) (λ types. refl))))

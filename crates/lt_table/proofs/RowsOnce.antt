@@ -1,11 +1,8 @@
--- Rows that are made of rows before them, and of which none stands twice: their types are apart.
+-- Rows that are made of rows before them, and of which none stands twice: their types are apart. So are the rows of a table.
 use Rattle.std.proofs.Common.{◌≡◌, ℕ, zero, suc, ◌+◌, ◌<◌, ◌==◌, ◌⊎◌, inl, inr, Bool, true, false, ◌&&◌, List, [], ◌∷◌, ◌++◌, length, slice_get, get_or, take, slice_index_or, Some, None, is_some, Result, Ok, Err, IfOk, unwrap_or, refl, sym, ap, subst, ◌∙◌, arith, true≢false, length-append}
 use Rattle.std.specs.List.{IsDistinct}
 use Rattle.std.specs.Map.{keys_of}
 use Rattle.std.specs.Global.{Vec}
-use Rattle.std.proofs.lemmas.List.{take_more}
-use Rattle.indexmap.specs.IndexMap.{IndexMap, keys, get, insert_entry}
-use Rattle.indexmap.proofs.CallerLemmas.{insert_entry-new}
 use Rattle.std.specs.Cmp.Lexicographic.{pointwise}
 use Rattle.std.proofs.lemmas.Map.Keys.{apart_from_distinct}
 use Rattle.std.proofs.lemmas.Option.{slice_get-get_or, get_or_from_slice_get, slice_get_within}
@@ -18,10 +15,11 @@ use Rattle.lt_tree.specs.contracts.typed.types.TypeRowPartialEq.TheImpl as equal
 use Rattle.lt_tree.specs.View.{qualifiers_of}
 use Rattle.lt_tree.specs.Typing.Types.{CType, Void, Pointer, Array, Function, Qualified, a_type, same, all_same, same_qualifiers, same_bool, qualifiers_of as own_qualifiers}
 use Rattle.lt_tree.specs.Typing.TypeRows.{type_in, all_in, type_of_row, types_behind, types_of_rows, Continues}
-use Rattle.lt_table.specs.TableRows.{AllStandIn, with_type}
+use Rattle.lt_table.specs.declared.table.kind.RowFacts.{RowFacts}
+use Rattle.lt_table.specs.TableRows.{AllStandIn, CanFollow, AreRows, with_type}
 use Rattle.lt_table.proofs.TableRows.{continues_through, continues_behind, type_in-longer, all_in-longer, type_in-last, length-with_type, length-types_behind}
 use Rattle.lt_table.proofs.TableSame.{same_exact, same_self}
-use Rattle.lt_unit.specs.RowsOnce.{AllBefore, IsMadeBefore, AreOnce}
+use Rattle.lt_table.specs.RowsOnce.{AllBefore, IsMadeBefore, AreOnce}
 
 -- ---- the type of a row
 
@@ -141,41 +139,33 @@ module _ (rows : List TypeRow) (before : (k : ℕ) (r : TypeRow) → slice_get r
       let back : (equal.eq-value).it b a ≡ true = same_rows types u.place t.place (λ x y l m e. sym (parts y x m l (sym e))) b a q p (ap (same (type_of_row types b)) is ∙ same_self (type_of_row types b)) in
       apart_or_same t.place u.place (λ l. rows_apart t.place u.place a b at bt l forth) (λ l. rows_apart u.place t.place b a bt at l back)
 
-  pub are_once : AreOnce rows
+  are_once : AreOnce rows
   are_once = record { before = before; apart = λ t u within past equals. one_place (t.place + 1) t u (omega arith) within past equals }
 
--- ---- one row more
+-- ---- the rows of a table
 
-last_or : (rows : List TypeRow) (r x : TypeRow) (k : ℕ) → slice_get (rows ++ r ∷ []) k ≡ Some x → (slice_get rows k ≡ Some x) ⊎ ((k ≡ length rows) × (r ≡ x))
-last_or [] r x zero at = inr (refl, some_is at)
-last_or [] r x (suc k) at = absurd (true≢false (sym (ap is_some at)))
-last_or (y ∷ rows) r x zero at = inl at
-last_or (y ∷ rows) r x (suc k) at = elim (last_or rows r x k at) [ inl h ↦ inl h | inr h ↦ inr (omega (arith, h.0), h.1) ]
+all_before : (types : List CType) (n : ℕ) (ts : List TypeId) → length types ≡ n → AllStandIn types ts → AllBefore n ts
+all_before types n [] e h = tt
+all_before types n (t ∷ ts) e h = (omega (arith, e, h.0), all_before types n ts e h.1)
 
-pub before_none : (k : ℕ) (r : TypeRow) → slice_get [] k ≡ Some r → IsMadeBefore k r
-before_none k r at = absurd (true≢false (sym (ap is_some at)))
+follows_before : (types : List CType) (n : ℕ) (r : TypeRow) → length types ≡ n → CanFollow types r → IsMadeBefore n r
+follows_before types n row.Void e h = tt
+follows_before types n (row.Num s) e h = tt
+follows_before types n (row.Pointer t) e h = omega (arith, e, h)
+follows_before types n (row.Array t k) e h = omega (arith, e, h)
+follows_before types n (row.Struct k) e h = tt
+follows_before types n (row.Function f) e h = (omega (arith, e, h.0), all_before types n f.parameters.items e h.1)
+follows_before types n row.Floating e h = tt
+follows_before types n (row.Qualified q t) e h = omega (arith, e, h.0)
 
-pub before_more : (rows : List TypeRow) (r : TypeRow) → ((k : ℕ) (x : TypeRow) → slice_get rows k ≡ Some x → IsMadeBefore k x) → IsMadeBefore (length rows) r
-    → (k : ℕ) (x : TypeRow) → slice_get (rows ++ r ∷ []) k ≡ Some x → IsMadeBefore k x
-before_more rows r all h k x at = elim (last_or rows r x k at) [
-  | inl p ↦ all k x p
-  | inr p ↦ subst (λ y. IsMadeBefore k y) p.1 (subst (λ n. IsMadeBefore n r) (sym p.0) h)
-]
+made_before : (types : List CType) (es : List (TypeRow × RowFacts)) → AreRows types es → (n k : ℕ) (r : TypeRow) → n ≡ length types + k → slice_get (keys_of es) k ≡ Some r → IsMadeBefore n r
+made_before types [] h n k r e at = absurd (true≢false (sym (ap is_some at)))
+made_before types (x ∷ es) h n zero r e at = subst (IsMadeBefore n) (some_is at) (follows_before types n x.0 (omega (arith, e)) h.0)
+made_before types (x ∷ es) h n (suc k) r e at = made_before (with_type types x.0) es h.2 n k r (omega (arith, e, length-with_type types x.0)) at
 
-pub all_before-more : (n : ℕ) (list : List TypeId) (i : ℕ) (d : TypeId) → AllBefore n (take i list) → i < length list → (get_or list i d).place < n → AllBefore n (take (i + 1) list)
-all_before-more n list i d all within h = subst (AllBefore n) (sym (take_more list i d within)) (last (take i list) all)
-  where
-    last : (ts : List TypeId) → AllBefore n ts → AllBefore n (ts ++ get_or list i d ∷ [])
-    last [] k = (h, tt)
-    last (t ∷ ts) k = (k.0, last ts k.1)
-
-keys_last : (es : List (TypeRow × Unit {0})) (r : TypeRow) (u : Unit {0}) → keys_of (es ++ (r, u) ∷ []) ≡ keys_of es ++ r ∷ []
-keys_last [] r u = refl
-keys_last (x ∷ es) r u = ap (λ ks. x.0 ∷ ks) (keys_last es r u)
-
--- a row that wasn't there goes last
-pub kept : {S : Type 0} (m n : IndexMap TypeRow (Unit {0}) S) (r : TypeRow) (u : Unit {0}) → None ≡ get (equal.eq-value).it m r → n.entries ≡ insert_entry (equal.eq-value).it m.entries r u → keys n ≡ keys m ++ r ∷ []
-kept m n r u new put = ap keys_of (put ∙ insert_entry-new (equal.eq-value).it m r u (sym new)) ∙ keys_last m.entries r u
+-- the rows of a table, each of which is there once
+pub table_once : (es : List (TypeRow × RowFacts)) (rows : List TypeRow) → keys_of es ≡ rows → AreRows [] es → IsDistinct (equal.eq-value).it (keys_of es) → AreOnce rows
+table_once es rows same known apart = subst AreOnce same (are_once (keys_of es) (λ k r at. made_before [] es known k k r (omega arith) at) apart)
 
 pub all_once : {E : Type 0} (r : Result (Vec TypeRow) E) (rows : List TypeRow) → AreOnce rows → IfOk r (λ list. list.items ≡ rows) → IfOk r (λ list. AreOnce list.items)
 all_once (Ok list) rows once is = subst AreOnce (sym is) once
