@@ -168,7 +168,3 @@ list_made (p ∷ rest) is_definition k =
 pub last_part : {X : Type 0} (known : Known) (f : X → Part) (front : List X) (x : X) (inner : d.Built) → with_parts known (map f (front ++ x ∷ [])) inner ≡ with_parts known (map f front) (with_part known (f x) inner)
 last_part known f [] x inner = refl
 last_part known f (y ∷ front) x inner = ap (with_part known (f y)) (last_part known f front x inner)
-
-pub last_found : {X : Type 0} (f : X → Found) (front : List X) (x : X) (rest : d.Parameters) → with_all_found (map f (front ++ x ∷ [])) rest ≡ with_all_found (map f front) (with_found (f x) rest)
-last_found f [] x rest = refl
-last_found f (y ∷ front) x rest = ap (with_found (f y)) (last_found f front x rest)

@@ -24,3 +24,4 @@ pub mod Turns
 pub mod Seen
 pub mod MarkTurns
 pub mod InsideTurns
+mod ParameterTurns

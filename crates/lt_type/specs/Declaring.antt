@@ -1,13 +1,13 @@
 -- Parts of what specifiers and declarators make, each by a name.
 use Rattle.std.specs.Prelude.{ℕ, ℤ, pos, ◌+ℤ◌, Bool, true, false, ◌&&◌, List, [], ◌∷◌, ◌++◌, Option, Some, None, is_some, unwrap_or, if◌then◌else◌}
-use Rattle.lt_tree.specs.Typing.Types.{CType, a_type, Struct, is_integer, is_function, is_floating, is_pointer_to_function}
+use Rattle.lt_tree.specs.Typing.Types.{CType, CTypes, no_types, a_type, Struct, adjusted, unqualified, is_integer, is_function, is_floating, is_pointer_to_function}
 use Rattle.lt_tree.specs.Typing.Extents.{Structs, Member, has_too_many_cells}
 use Rattle.lt_tree.specs.Typing.Constants.{number}
 use Rattle.lt_tree.specs.Typing.Rules.{Rule, broken_if, unless, declared_twice, incomplete_type, floating_type, bad_length, function_as_value}
 use Rattle.lt_tree.specs.Typing.Entities.{Known, Object, Entity, a_function, type_of_object, tag_here, an_enumerator, an_object}
 use Rattle.lt_tree.specs.Typing.Steps.{Walk, ◌>>=◌, ◌>>◌, gives, changes, settle, binds, add_object}
 use Rattle.lt_tree.specs.Typing.Expressions.{Typed, own_type}
-use Rattle.lt_tree.specs.Typing.Declarators.{Parameters, is_incomplete}
+use Rattle.lt_tree.specs.Typing.Declarators.{Parameters, Declares, is_incomplete}
 use Rattle.lt_tree.specs.Typing.Declaring.{is_compatible}
 use Rattle.lt_tree.specs.Typing.Specifying.{Naming, is_complete_struct, with_members}
 use Rattle.lt_type.specs.declared.declaring.Naming as held
@@ -65,16 +65,25 @@ binding_object name object = do
   binds name (an_object n false)
   gives (n ∷ [])
 
--- a parameter of this type before others
-abbrev pub before : CType → Bool → List ℕ → List Rule → Parameters → Parameters
-before t is_named objects faults rest = record {
-  types = a_type t rest.types;
-  dots = rest.dots;
-  objects = objects ++ rest.objects;
-  are_named = is_named && rest.are_named;
-  frame = rest.frame;
-  faults = faults ++ rest.faults;
+-- a type behind others
+abbrev pub type_behind : CTypes → CType → CTypes
+type_behind no_types t = a_type t no_types
+type_behind (a_type first rest) t = a_type first (type_behind rest t)
+
+-- a parameter of this type behind others
+abbrev pub behind : Parameters → CType → Bool → List ℕ → List Rule → Parameters
+behind others t is_named objects faults = record {
+  types = type_behind others.types t;
+  dots = others.dots;
+  objects = others.objects ++ objects;
+  are_named = others.are_named && is_named;
+  frame = others.frame;
+  faults = others.faults ++ faults;
 }
+
+-- one more parameter behind others
+abbrev pub parameter_behind : Parameters → Declares → List ℕ → Parameters
+parameter_behind others it objects = behind others (unqualified (adjusted it.type)) (is_some it.name) objects it.faults
 
 -- the end of an enumerator with this value, where these rules are broken
 abbrev pub enumerator_end_at : ℕ → List ℕ → ℤ → List Rule → Walk ℤ

@@ -18,7 +18,7 @@ ghost use Rattle.lt_type.specs.Declaring.{array_breaks};
 use crate::declaring::enums::integer_in;
 use crate::declaring::judged::judged;
 pub use crate::declaring::parameter_lists::{
-    binds_parameter, parameter_before, with_dots, without_parameters,
+    binds_parameter, parameter_behind, with_dots, without_parameters,
 };
 use crate::declaring::{Built, Declares, Judging, Parameters, Specified};
 use crate::faults::Faults;

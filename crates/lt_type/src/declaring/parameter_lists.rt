@@ -10,7 +10,7 @@ ghost use Rattle.lt_tree.specs.Typing.NodeEnds.{without_parameters, with_dots};
 ghost use Rattle.lt_type.specs.NamesValue.{frame_at};
 ghost use Rattle.lt_type.specs.Going.{Gives, answering};
 ghost use Rattle.lt_type.specs.Views.{parameters_in, declares_of};
-ghost use Rattle.lt_type.specs.Declaring.{binding_object, before};
+ghost use Rattle.lt_type.specs.Declaring.{binding_object, behind, parameter_behind};
 
 use crate::declaring::{Declares, Parameters};
 use crate::faults::Faults;
@@ -136,42 +136,36 @@ fn parameter_object(
     })
 }
 
-/// One more parameter before others.
-pub fn parameter_before(
+/// One more parameter behind others.
+pub fn parameter_behind(
     walker: &mut Walker,
+    made: Box<Parameters>,
     it: Declares,
     objects: Vec<u32>,
-    rest: Box<Parameters>,
 ) -> Result<Box<Parameters>, TypeStop>
-    ensures { Gives parameters_in walker.old walker.new result (λ types. answering (λ known. typing.parameter_before (declares_of types it) objects.items (parameters_in types rest))) }
+    ensures { Gives parameters_in walker.old walker.new result (λ types. answering (λ known. parameter_behind (parameters_in types made) (declares_of types it) objects.items)) }
 {
     let ty = walker.types.adjusted(it.ty)?;
     let ty = walker.types.unqualified(ty)?;
-    let alloc = walker.types.alloc();
-    let parameters = before(alloc, ty, it.name.is_some(), objects, it.faults, rest)?;
+    let parameters = behind(made, ty, it.name.is_some(), &objects, it.faults)?;
     Ok(parameters)
 }
 
 // One more of this type, with its objects and what it breaks.
-fn before(
-    alloc: Global,
+#[tactic(auto, using(crate::proofs::ParameterTurns::types_more))]
+fn behind(
+    others: Box<Parameters>,
     ty: TypeId,
     is_named: bool,
-    objects: Vec<u32>,
+    objects: &[u32],
     faults: Faults,
-    rest: Box<Parameters>,
 ) -> Result<Box<Parameters>, AllocError>
-    ensures { IfOk result (λ p. (types : List CType) → parameters_in types p ≡ before (type_in types ty) is_named objects.items faults (parameters_in types rest)) }
+    ensures { IfOk result (λ p. (types : List CType) → parameters_in types p ≡ behind (parameters_in types others) (type_in types ty) is_named objects.now faults) }
 {
-    let mut rest = rest;
-    let mut objects = objects;
-    let mut faults = faults;
-    rest.types.insert(0, ty)?;
-    objects.extend_from_slice(&rest.objects)?;
-    let others = rest.faults.copied(alloc)?;
-    faults.append(others)?;
-    rest.objects = objects;
-    rest.faults = faults;
-    rest.are_named = is_named && rest.are_named;
-    Ok(rest)
+    let mut others = others;
+    others.types.push(ty)?;
+    others.objects.extend_from_slice(objects)?;
+    others.faults.append(faults)?;
+    others.are_named = others.are_named && is_named;
+    Ok(others)
 }

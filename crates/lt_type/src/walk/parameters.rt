@@ -14,7 +14,7 @@ ghost use Rattle.lt_type.specs.Ends.{found_end, without_any};
 ghost use Rattle.lt_type.specs.Views.{parameters_in, declares_of};
 
 use crate::declaring::declarators::{
-    binds_parameter, parameter_before, with_dots, without_parameters,
+    binds_parameter, parameter_behind, with_dots, without_parameters,
 };
 use crate::declaring::{Declares, Judging, Parameters};
 use crate::stop::TypeStop;
@@ -132,9 +132,8 @@ fn with_found(walker: &mut Walker, all: Vec<FoundParameter>) -> Result<Box<Param
     ensures { Gives parameters_in walker.old walker.new result (λ types. answering (λ known. with_all_found (map (found_of types) all.items) (without_any known))) }
 {
     let mut made = without_parameters(walker)?;
-    let mut rest = all;
-    'all: while let Some(p) = rest.pop() {
-        made = parameter_before(walker, p.declared, p.objects, made)?;
+    'all: for p in all {
+        made = parameter_behind(walker, made, p.declared, p.objects)?;
     }
     Ok(made)
 }
