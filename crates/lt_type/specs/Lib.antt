@@ -13,3 +13,4 @@ pub mod DeclaredKinds
 pub mod MarkEnds
 pub mod Found
 pub mod Membered
+pub mod TypeOf

@@ -21,5 +21,5 @@ pub use stop::TypeStop;
 pub use symbols::{Bodies, Declarations, Labels, NameFrame, NameSet, Names, Objects};
 pub use typed::{Form, Judged, Typed, Use};
 pub use values::{constancy_to, converted_to, value_in};
-pub use walk::{constant_expression, declarator, expression, mark, specifiers};
+pub use walk::{constant_expression, declarator, expression, mark, specifiers, type_of};
 pub use walker::Walker;

@@ -15,7 +15,9 @@ ghost use Rattle.lt_tree.specs.View.{expression_of};
 ghost use Rattle.lt_tree.specs.Typing.Steps.{without_marks};
 ghost use Rattle.lt_tree.specs.Typing.Expressions.{as_value};
 ghost use Rattle.lt_tree.specs.Typing.ExpressionTyping as typing;
+ghost use Rattle.lt_tree.specs.Typing.TypeRows.{type_in};
 ghost use Rattle.lt_type.specs.Going.{Gives};
+ghost use Rattle.lt_type.specs.TypeOf as wanted;
 ghost use Rattle.lt_type.specs.Views.{use_of, typed_in};
 
 use crate::stop::TypeStop;
@@ -25,7 +27,7 @@ use crate::walker::Walker;
 pub use declarators::declarator;
 use lt_model::Op;
 use lt_tree::Expr;
-use lt_tree::typed::When;
+use lt_tree::typed::{TypeId, When};
 pub use marks::mark;
 pub use naming::specifiers;
 
@@ -79,4 +81,13 @@ pub fn constant_expression(walker: &mut Walker, e: &Expr) -> Result<Box<Typed>, 
     ensures { Gives typed_in walker.old walker.new result (λ types. without_marks (typing.expression (expression_of e.now) as_value)) }
 {
     operators::unmarked(walker, e, Use::Value)
+}
+
+/// The type of an expression whose value is wanted, C11 6.5, beside what `walker` knows: the names in scope, their objects and types. `Broken`
+/// with the first rule that it breaks, and the number of its node; after that `walker` is of no use.
+pub fn type_of(walker: &mut Walker, e: &Expr) -> Result<TypeId, TypeStop>
+    ensures { Gives (λ types t. type_in types t) walker.old walker.new result (λ types. wanted.type_of (expression_of e.now)) }
+{
+    let x = expression(walker, e, Use::Value)?;
+    Ok(x.own_type())
 }

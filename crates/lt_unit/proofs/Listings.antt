@@ -1,5 +1,5 @@
 -- Types are listed one by one.
-use Rattle.std.proofs.Common.{◌≡◌, ◌≢◌, ℕ, zero, suc, ◌+◌, ◌<◌, ◌≤◌, ◌⊎◌, inl, inr, Bool, true, false, ◌||◌, List, [], ◌∷◌, ◌++◌, length, map, drop, drop-cons, slice_get, get_or, replicate, slice_index_or, Some, is_some, unwrap_or, Result, Ok, Err, refl, sym, ap, subst, ◌∙◌, arith, true≢false, add-one}
+use Rattle.std.proofs.Common.{◌≡◌, ◌≢◌, ℕ, zero, suc, ◌+◌, ◌<◌, ◌≤◌, ◌⊎◌, inl, inr, Bool, true, false, ◌||◌, List, [], ◌∷◌, ◌++◌, length, map, drop, drop-cons, slice_get, get_or, replicate, slice_index_or, Some, is_some, Result, Ok, Err, refl, sym, ap, subst, ◌∙◌, arith, true≢false, add-one}
 use Rattle.std.specs.Prelude.{slice_set, if◌then◌else◌, OnOk}
 use Rattle.std.specs.List.{list_any, flat_map}
 use Rattle.std.proofs.lemmas.List.{drop_all, length-replicate, get_or-replicate}

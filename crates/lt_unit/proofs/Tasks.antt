@@ -1,6 +1,6 @@
 -- Types are listed task by task.
-use Rattle.std.proofs.Common.{◌≡◌, ◌<◌, ℕ, Bool, true, List, [], ◌∷◌, ◌++◌, map, slice_get, Some, refl, sym, ap, subst, ◌∙◌}
-use Rattle.std.proofs.lemmas.List.{append-nil, append-assoc}
+use Rattle.std.proofs.Common.{◌≡◌, ◌<◌, ◌+◌, ℕ, List, [], ◌∷◌, ◌++◌, length, map, drop, drop-cons, get_or, slice_get, true, Some, refl, sym, ap, subst, ◌∙◌, arith, add-one}
+use Rattle.std.proofs.lemmas.List.{append-nil, append_assoc, drop_all}
 use Rattle.lt_tree.specs.declared.typed.types.TypeId.{TypeId}
 use Rattle.lt_tree.specs.declared.typed.types.TypeRow.{TypeRow}
 use Rattle.lt_tree.specs.declared.typed.types.TypeRow.TheVariants as row
@@ -23,7 +23,7 @@ use Rattle.lt_unit.proofs.Listings.{all_there}
 
 by-append : (types : List CType) (xs ys : List Task) → all_listed_by types (xs ++ ys) ≡ all_listed_by types xs ++ all_listed_by types ys
 by-append types [] ys = refl
-by-append types (x ∷ xs) ys = ap (λ l. listed_by types x ++ l) (by-append types xs ys) ∙ sym (append-assoc (listed_by types x) (all_listed_by types xs) (all_listed_by types ys))
+by-append types (x ∷ xs) ys = ap (λ l. listed_by types x ++ l) (by-append types xs ys) ∙ sym (append_assoc (listed_by types x) (all_listed_by types xs) (all_listed_by types ys))
 
 by_all : (types : List CType) (ids : List TypeId) → all_listed_by types (map task.List ids) ≡ all_made_of (all_in types ids)
 by_all types [] = refl
@@ -108,3 +108,14 @@ added types a b u rest marked e all due = record {
   closed = subst (λ l. StaysClosed (types_at types) l rest) (sym e) due.closed.1;
   rest = ap (λ l. with_new l (all_listed_by (types_at types) rest)) e ∙ due.rest;
 }
+
+-- ---- parts, the last before the others
+
+pub none_opened : (list : List TypeId) (left : ℕ) (all : List Task) → left ≡ length list → all ≡ map task.List (drop left list) ++ all
+none_opened list left all e = ap (λ l. map task.List l ++ all) (sym (drop_all left list (omega (arith, e))))
+
+pub one_opened : (list : List TypeId) (i left : ℕ) (d : TypeId) (old new all : List Task) → i + 1 ≡ left → i < length list → new ≡ task.List (get_or list i d) ∷ old → old ≡ map task.List (drop left list) ++ all
+    → new ≡ map task.List (drop i list) ++ all
+one_opened list i left d old new all e within is so_far =
+    is ∙ ap (λ l. task.List (get_or list i d) ∷ l) (so_far ∙ ap (λ k. map task.List (drop k list) ++ all) (sym e ∙ add-one i))
+    ∙ ap (λ l. map task.List l ++ all) (sym (drop-cons list i d within))

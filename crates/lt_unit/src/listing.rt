@@ -137,11 +137,18 @@ fn open(
     if has(listed, bare)? {
         return Ok(());
     }
-    let Some(row) = types.rows.get(t.place as usize) else {
+    let Some(row) = row(types, t) else {
         return Err(AllocError);
     };
     tasks.push(Task::Add(bare))?;
     open_row(tasks, row)
+}
+
+// The row of a type.
+fn row(types: &TypesByPlace, t: TypeId) -> Option<&TypeRow>
+    ensures { option_copied result ≡ slice_get types.now.rows.items t.place }
+{
+    types.rows.get(t.place as usize)
 }
 
 // The parts of a row are next.

@@ -44,3 +44,29 @@ pub fn surrounded(
     bytes.extend_from_slice(back.as_bytes())?;
     Ok(bytes)
 }
+
+// A front, a text so many times around a middle, and a back.
+fn around(alloc: Global, parts: [&str; 5], times: usize) -> Result<Vec<u8>, AllocError> {
+    let [front, opening, middle, closing, back] = parts;
+    let inside = nested(alloc, times, opening, middle, closing)?;
+    surrounded(alloc, front, inside.as_slice(), back)
+}
+
+/// A front, a text around a middle as many times as the lexer takes it, and a back.
+pub fn deepest(alloc: Global, parts: [&str; 5]) -> Result<String, AllocError> {
+    let mut times: usize = 0;
+    for step in [512, 256, 128, 64, 32, 16, 8, 4, 2, 1] {
+        let more = times.saturating_add(step);
+        if lex(alloc, around(alloc, parts, more)?.as_slice()).is_ok() {
+            times = more;
+        }
+    }
+    as_text(around(alloc, parts, times)?)
+}
+
+pub fn as_text(bytes: Vec<u8>) -> Result<String, AllocError> {
+    match String::from_utf8(bytes) {
+        Ok(text) => Ok(text),
+        Err(_) => Err(AllocError),
+    }
+}

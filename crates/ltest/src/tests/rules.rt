@@ -1,10 +1,10 @@
 //! Units that break a rule of typing first, and units that come near to that and break none.
 
-use super::reading::{nested, parsed, surrounded};
+use super::reading::{as_text, deepest, nested, parsed, surrounded};
 use lt_model::DataModel;
 use lt_type::TypeStop;
 use lt_unit::elaborate;
-use std::alloc::{AllocError, Global};
+use std::alloc::Global;
 use std::test::Fail;
 
 /// The number of the rule that a unit breaks first, 0 if it breaks none; none where the text has no unit or memory is lacking.
@@ -536,66 +536,75 @@ fn other_units_are_judged(rt: HostRuntime) {
     }
 }
 
-// a front, so many times a text, a middle, as many times another, and a back, with the rule that is broken
-const DEEP: [(&str, &str, &str, &str, &str, usize, u8); 15] = [
-    ("void f(void) { ", "{", "", "}", " }", 998, 0),
+// a front, a text around a middle as often as may be, and a back, with the rule that is broken
+const DEEP: [([&str; 5], u8); 13] = [
+    (["void f(void) { ", "{", "", "}", " }"], 0),
     (
-        "void f(int a) { ",
-        "if (a) ; else ",
-        "if (a) ;",
-        "",
-        " }",
-        332,
+        ["void f(int a) { ", "if (a) ; else ", "if (a) ;", "", " }"],
         0,
     ),
-    ("void f(int a) { ", "if (a) ", ";", "", " }", 499, 0),
-    ("void f(int a) { ", "do ", ";", " while (a);", " }", 998, 0),
-    ("void f(int a) { ", "while (a) ", ";", "", " }", 499, 0),
-    ("void f(int a) { ", "for (;;) ", ";", "", " }", 499, 0),
+    (["void f(int a) { ", "if (a) ", ";", "", " }"], 0),
+    (["void f(int a) { ", "do ", ";", " while (a);", " }"], 0),
+    (["void f(int a) { ", "while (a) ", ";", "", " }"], 0),
+    (["void f(int a) { ", "for (;;) ", ";", "", " }"], 0),
     (
-        "void f(int a) { ",
-        "switch (a) { case 1: ",
-        ";",
-        "}",
-        " }",
-        499,
+        ["void f(int a) { ", "switch (a) { case 1: ", ";", "}", " }"],
         0,
     ),
-    ("int ", "*", "x", "", ";", 1000, 0),
-    ("int x = ", "{", "1", "}", ";", 999, 28),
-    ("int a", "[1]", " = {1}", "", ";", 900, 0),
+    (
+        [
+            "void f(int a) { ",
+            "pc_label(a, 1, \"A\"), ",
+            "a;",
+            "",
+            " }",
+        ],
+        30,
+    ),
+    (["int ", "*", "x", "", ";"], 0),
+    (["int x = ", "{", "1", "}", ";"], 28),
+    (["int a", "[1]", " = {1}", "", ";"], 0),
+    (["int f(", "int (*)(", "int", ")", ");"], 0),
     // types that nest deeper than brackets can
     (
-        "typedef int T; void f(void) { ",
-        "{ typedef T **********T; ",
-        "T x; x = x;",
-        "}",
-        " }",
-        998,
+        [
+            "typedef int T; void f(void) { ",
+            "{ typedef T **********T; ",
+            "T x; x = x;",
+            "}",
+            " }",
+        ],
         0,
     ),
-    ("", "int a;", "", "", "", 100_000, 0),
-    ("void f(void) { ", "1;", "", "", "}", 100_000, 0),
-    ("int a[] = {", "1,", "2", "", "};", 100_000, 0),
-    ("int f(", "int, ", "int", "", ");", 100_000, 0),
 ];
 
-fn deep_text(alloc: Global, parts: [&str; 5], times: usize) -> Result<String, AllocError> {
-    let inside = nested(alloc, times, parts[1], parts[2], parts[3])?;
-    let text = surrounded(alloc, parts[0], inside.as_slice(), parts[4])?;
-    match String::from_utf8(text) {
-        Ok(text) => Ok(text),
-        Err(_) => Err(AllocError),
+// a front, so many times a text, a middle and a back
+const LONG: [(&str, &str, &str, &str, usize); 4] = [
+    ("", "int a;", "", "", 100_000),
+    ("void f(void) { ", "1;", "", "}", 100_000),
+    ("int a[] = {", "1,", "2", "};", 100_000),
+    ("int f(", "int, ", "int", ");", 100_000),
+];
+
+#[test]
+fn the_deepest_units_are_judged(rt: HostRuntime) -> Result<(), Fail> {
+    let alloc = rt.alloc();
+    for (parts, rule) in DEEP {
+        let text = deepest(alloc, parts)?;
+        let broken = first_broken(alloc, DataModel::Lp64, text.as_str());
+        assert!(rt; broken == Some(rule), "{parts:?}: {broken:?}");
     }
+    Ok(())
 }
 
 #[test]
-fn the_deepest_and_longest_units_are_judged(rt: HostRuntime) -> Result<(), Fail> {
+fn long_units_are_judged(rt: HostRuntime) -> Result<(), Fail> {
     let alloc = rt.alloc();
-    for (front, opening, middle, closing, back, times, rule) in DEEP {
-        let text = deep_text(alloc, [front, opening, middle, closing, back], times)?;
+    for (front, opening, middle, back, times) in LONG {
+        let inside = nested(alloc, times, opening, middle, "")?;
+        let text = as_text(surrounded(alloc, front, inside.as_slice(), back)?)?;
         let broken = first_broken(alloc, DataModel::Lp64, text.as_str());
-        assert!(rt; broken == Some(rule), "{times} times {opening}: {broken:?}");
+        assert!(rt; broken == Some(0), "{opening}: {broken:?}");
     }
     Ok(())
 }

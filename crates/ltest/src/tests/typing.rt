@@ -1,6 +1,6 @@
 //! Expressions of C that are typed beside some declarations.
 
-use super::reading::{nested, parsed};
+use super::reading::{deepest, parsed};
 use lt_model::{DataModel, Name, Scalar};
 use lt_table::{Kind, Types};
 use lt_tree::typed::{Entity, Life, Object};
@@ -10,6 +10,7 @@ use lt_type::{
     Use, Walker, declarator, expression, specifiers,
 };
 use std::alloc::{AllocError, Global};
+use std::test::Fail;
 
 const DECLARED: &str = "int x; long l; unsigned u; char c; const int k = 1; volatile int w;
 int *p, *q; const int *r; void *v; int a[4]; struct s { int a; int b[2]; } t; struct o *h;
@@ -123,7 +124,12 @@ fn typed(walker: &mut Walker, e: &Expr) -> Option<Judged> {
 // The verdict on an expression beside the declarations; none for want of memory, or where the text has no unit.
 fn judgement(alloc: Global, text: &str) -> Option<Judged> {
     let text = function(alloc, text).ok()?;
-    let parsed = parsed(alloc, text.as_slice())?;
+    judgement_of(alloc, text.as_slice())
+}
+
+// The same of the expression that a function of this text gives.
+fn judgement_of(alloc: Global, text: &[u8]) -> Option<Judged> {
+    let parsed = parsed(alloc, text)?;
     let mut walker = known(alloc)?;
     typed(&mut walker, given(&parsed.unit)?)
 }
@@ -211,30 +217,34 @@ fn expressions_break_their_rules(rt: HostRuntime) {
     }
 }
 
-// Whether an expression of this depth is typed, or refused by a rule, on the usual stack.
-fn is_judged(alloc: Global, times: usize, parts: [&str; 3]) -> Option<bool> {
-    let nest = nested(alloc, times, parts[0], parts[1], parts[2]).ok()?;
-    let text = String::from_utf8(nest).ok()?;
-    Some(judgement(alloc, text.as_str()).is_some())
+// what stands around an expression, once and as often as may be
+const DEEP: [[&str; 3]; 9] = [
+    ["!", "x", ""],
+    ["g(", "x", ")"],
+    ["a[", "0", "]"],
+    ["x + ", "x", ""],
+    ["x ? x : ", "x", ""],
+    ["(x, ", "x", ")"],
+    ["(int)sizeof(int[", "1", "])"],
+    ["sizeof(struct { int m[", "1", "]; })"],
+    ["(pc_label(", "x", ", 1, \"A\"), x)"],
+];
+
+// The expression that stands as deep as may be where a function gives it.
+fn deep_judgement(alloc: Global, parts: [&str; 3]) -> Result<Option<Judged>, AllocError> {
+    let [opening, middle, closing] = parts;
+    let text = deepest(
+        alloc,
+        ["int f(void) { return ", opening, middle, closing, "; }"],
+    )?;
+    Ok(judgement_of(alloc, text.as_bytes()))
 }
 
 #[test]
-fn the_deepest_nests_are_typed(rt: HostRuntime) {
-    let rows = [
-        (950, ["!", "x", ""]),
-        (950, ["g(", "x", ")"]),
-        (950, ["a[", "0", "]"]),
-        (950, ["x + ", "x", ""]),
-        (450, ["x ? x : ", "x", ""]),
-        (450, ["(x, ", "x", ")"]),
-        (200, ["(int)sizeof(int[", "1", "])"]),
-        (200, ["sizeof(struct { int m[", "1", "]; })"]),
-        (200, ["(pc_label(", "x", ", 1, \"A\"), x)"]),
-    ];
-    for (times, parts) in rows {
-        assert!(rt;
-            is_judged(rt.alloc(), times, parts) == Some(true),
-            "{times}"
-        );
+fn the_deepest_nests_are_typed(rt: HostRuntime) -> Result<(), Fail> {
+    for parts in DEEP {
+        let judged = deep_judgement(rt.alloc(), parts)?;
+        assert!(rt; judged.is_some(), "{parts:?}");
     }
+    Ok(())
 }
