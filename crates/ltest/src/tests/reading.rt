@@ -52,12 +52,16 @@ fn around(alloc: Global, parts: [&str; 5], times: usize) -> Result<Vec<u8>, Allo
     surrounded(alloc, front, inside.as_slice(), back)
 }
 
+fn is_lexed(alloc: Global, text: &[u8]) -> bool {
+    text.len() < 10_000_000 && lex(alloc, text).is_ok()
+}
+
 /// A front, a text around a middle as many times as the lexer takes it, and a back.
 pub fn deepest(alloc: Global, parts: [&str; 5]) -> Result<String, AllocError> {
     let mut times: usize = 0;
     for step in [512, 256, 128, 64, 32, 16, 8, 4, 2, 1] {
         let more = times.saturating_add(step);
-        if lex(alloc, around(alloc, parts, more)?.as_slice()).is_ok() {
+        if is_lexed(alloc, around(alloc, parts, more)?.as_slice()) {
             times = more;
         }
     }

@@ -1,6 +1,7 @@
 //! Where the rule stands that a unit breaks first.
 
 use super::reading::parsed;
+use lt_decl::Parsed;
 use lt_model::DataModel;
 use lt_type::TypeStop;
 use lt_unit::elaborate;
@@ -8,10 +9,10 @@ use std::alloc::Global;
 
 // The number of the rule that a unit breaks first, and the byte at which its node begins.
 fn first_broken(alloc: Global, text: &str) -> Option<(u8, u32)> {
-    let parsed = parsed(alloc, text.as_bytes())?;
-    match elaborate(alloc, parsed.unit, DataModel::Lp64) {
+    let Parsed { unit, spots } = parsed(alloc, text.as_bytes())?;
+    match elaborate(alloc, unit, DataModel::Lp64) {
         Err(TypeStop::Broken(rule, node)) => {
-            let spot = parsed.spots.get(node as usize)?;
+            let spot = spots.get(node as usize)?;
             Some((rule.number(), *spot))
         }
         _ => None,
