@@ -22,3 +22,6 @@ mod unit;
 mod word;
 
 pub use unit::print_unit;
+
+#[cfg(test)]
+mod tests;

@@ -1,7 +1,7 @@
 //! Trees made by hand, with their texts.
 
+use crate::print_unit;
 use lt_model::{Name, Op, Quals};
-use lt_print::print_unit;
 use lt_tree::{
     BasicType, Binding, Declaration, Declarator, DeclaratorPart, Enumerator, Expr, External,
     ForStart, FunctionDefinition, InitDeclarator, Initialiser, Item, Label, Mark, Member,
