@@ -1,8 +1,7 @@
 -- Rows that are made of rows before them, and of which none stands twice: their types are apart. So are the rows of a table.
-use Rattle.std.proofs.Common.{◌≡◌, ℕ, zero, suc, ◌+◌, ◌<◌, ◌==◌, ◌⊎◌, inl, inr, Bool, true, false, ◌&&◌, List, [], ◌∷◌, ◌++◌, length, slice_get, get_or, take, slice_index_or, Some, None, is_some, Result, Ok, Err, IfOk, unwrap_or, refl, sym, ap, subst, ◌∙◌, arith, true≢false, length-append}
+use Rattle.std.proofs.Common.{◌≡◌, ℕ, zero, suc, ◌+◌, ◌<◌, ◌==◌, Bool, true, false, ◌&&◌, List, [], ◌∷◌, length, slice_get, get_or, Some, is_some, unwrap_or, refl, sym, ap, subst, ◌∙◌, arith, true≢false}
 use Rattle.std.specs.List.{IsDistinct}
 use Rattle.std.specs.Map.{keys_of}
-use Rattle.std.specs.Global.{Vec}
 use Rattle.std.specs.Cmp.Lexicographic.{pointwise}
 use Rattle.std.proofs.lemmas.Map.Keys.{apart_from_distinct}
 use Rattle.std.proofs.lemmas.Option.{slice_get-get_or, get_or_from_slice_get, slice_get_within}
@@ -13,11 +12,11 @@ use Rattle.lt_tree.specs.declared.typed.types.TypeRow.TheVariants as row
 use Rattle.lt_tree.specs.contracts.typed.types.TypeIdPartialEq.TheImpl as equal_id
 use Rattle.lt_tree.specs.contracts.typed.types.TypeRowPartialEq.TheImpl as equal
 use Rattle.lt_tree.specs.View.{qualifiers_of}
-use Rattle.lt_tree.specs.Typing.Types.{CType, Void, Pointer, Array, Function, Qualified, a_type, same, all_same, same_qualifiers, same_bool, qualifiers_of as own_qualifiers}
+use Rattle.lt_tree.specs.Typing.Types.{CType, Void, Pointer, Array, Function, Qualified, same, all_same, same_qualifiers, same_bool, qualifiers_of as own_qualifiers}
 use Rattle.lt_tree.specs.Typing.TypeRows.{type_in, all_in, type_of_row, types_behind, types_of_rows, Continues}
 use Rattle.lt_table.specs.declared.table.kind.RowFacts.{RowFacts}
 use Rattle.lt_table.specs.TableRows.{AllStandIn, CanFollow, AreRows, with_type}
-use Rattle.lt_table.proofs.TableRows.{continues_through, continues_behind, type_in-longer, all_in-longer, type_in-last, length-with_type, length-types_behind}
+use Rattle.lt_table.proofs.TableRows.{continues_through, continues_behind, type_in-longer, all_in-longer, type_in-last, length-with_type}
 use Rattle.lt_table.proofs.TableSame.{same_exact, same_self}
 use Rattle.lt_table.specs.RowsOnce.{AllBefore, IsMadeBefore, AreOnce}
 
@@ -166,7 +165,3 @@ made_before types (x ∷ es) h n (suc k) r e at = made_before (with_type types x
 -- the rows of a table, each of which is there once
 pub table_once : (es : List (TypeRow × RowFacts)) (rows : List TypeRow) → keys_of es ≡ rows → AreRows [] es → IsDistinct (equal.eq-value).it (keys_of es) → AreOnce rows
 table_once es rows same known apart = subst AreOnce same (are_once (keys_of es) (λ k r at. made_before [] es known k k r (omega arith) at) apart)
-
-pub all_once : {E : Type 0} (r : Result (Vec TypeRow) E) (rows : List TypeRow) → AreOnce rows → IfOk r (λ list. list.items ≡ rows) → IfOk r (λ list. AreOnce list.items)
-all_once (Ok list) rows once is = subst AreOnce (sym is) once
-all_once (Err e) rows once is = tt

@@ -1,14 +1,14 @@
 -- How what two parts give makes what both give.
 use Rattle.std.proofs.Common.{◌≡◌, ℕ, List, [], ◌∷◌, ◌++◌, Result, Ok, Err, refl, ap, ◌∙◌}
 use Rattle.lt_tree.specs.Typing.Types.{CType}
-use Rattle.lt_tree.specs.Typing.TypeRows.{Continues, Lasts}
+use Rattle.lt_tree.specs.Typing.TypeRows.{Continues}
 use Rattle.lt_tree.specs.Typing.Entities.{Known}
 use Rattle.lt_tree.specs.Typing.Steps.{Outcome, Goes, Breaks, Walk, goes_on}
 use Rattle.lt_type.specs.NamesValue.{NamesValue, KeepsOuter}
 use Rattle.lt_type.specs.declared.walker.Walker.{Walker}
 use Rattle.lt_type.specs.declared.stop.TypeStop.{TypeStop}
 use Rattle.lt_type.specs.declared.stop.TypeStop.TheVariants.{Broken, NoMemory}
-use Rattle.lt_type.specs.Going.{At, Ends, Gives, types_in, known_of}
+use Rattle.lt_type.specs.Going.{At, Ends, types_in, known_of}
 
 assoc : {A : Type 0} (xs ys zs : List A) → (xs ++ ys) ++ zs ≡ xs ++ (ys ++ zs)
 assoc [] ys zs = refl

@@ -1,43 +1,39 @@
 -- How loops over members, enumerators, parameters and parts of declarators go on, and what is made of what they found.
-use Rattle.std.proofs.Common.{◌≡◌, ℕ, ◌+◌, ℤ, Bool, true, false, List, [], ◌∷◌, ◌++◌, map, Option, Some, None, refl, sym, ap, ◌∙◌}
+use Rattle.std.proofs.Common.{◌≡◌, ℕ, ◌+◌, ℤ, Bool, false, List, [], ◌∷◌, ◌++◌, map, Option, Some, None, refl, sym, ap, ◌∙◌}
 use Rattle.std.specs.Prelude.{is_some}
 use Rattle.std.specs.Global.{Box, Vec}
-use Rattle.lt_model.specs.declared.name.Name.{Name}
 use Rattle.lt_tree.specs.declared.expression.Expr.{Expr}
 use Rattle.lt_tree.specs.declared.expression.Expr.TheVariants as variant
 use Rattle.lt_tree.specs.declared.specifier.TypeName.{TypeName}
 use Rattle.lt_tree.specs.declared.specifier.TypeSpecifier.{TypeSpecifier}
 use Rattle.lt_tree.specs.declared.specifier.TypeSpecifier.TheVariants as kind
-use Rattle.lt_tree.specs.declared.specifier.Member as declared_member
 use Rattle.lt_tree.specs.declared.specifier.Member.{Member}
-use Rattle.lt_tree.specs.declared.specifier.MemberDeclarator.{MemberDeclarator}
 use Rattle.lt_tree.specs.declared.specifier.Enumerator.{Enumerator}
 use Rattle.lt_tree.specs.declared.declarator.Declarator.{Declarator}
 use Rattle.lt_tree.specs.declared.declarator.DeclaratorPart.{DeclaratorPart}
-use Rattle.lt_tree.specs.declared.declarator.DeclaratorPart.TheVariants as piece
 use Rattle.lt_tree.specs.declared.declarator.DeclaratorPart.TheBlock as at
 use Rattle.lt_tree.specs.declared.declarator.Parameter.{Parameter}
 use Rattle.lt_tree.specs.declared.declarator.Parameters.{Parameters}
 use Rattle.lt_tree.specs.declared.declarator.Parameters.TheVariants as listing
 use Rattle.lt_tree.specs.Tree as c
-use Rattle.lt_tree.specs.View.{expression_of, type_of, maybe_of, parameters_of, part_before}
-use Rattle.lt_tree.specs.Records.{maybe_in, specifiers_of, declarator_of, members_in, member_declarators_in, enumerators_in, parts_in, parameter_list_in}
+use Rattle.lt_tree.specs.View.{expression_of, type_of, maybe_of, parameters_of}
+use Rattle.lt_tree.specs.Records.{maybe_in, specifiers_of, declarator_of, members_in, enumerators_in, parts_in, parameter_list_in}
 use Rattle.lt_tree.specs.Typing.Types.{CType, adjusted}
 use Rattle.lt_tree.specs.Typing.Rules.{Rule}
 use Rattle.lt_tree.specs.Typing.Extents as x
 use Rattle.lt_tree.specs.Typing.Entities.{Known}
-use Rattle.lt_tree.specs.Typing.Steps.{Outcome, Goes, Breaks, Walk, ◌>>=◌, goes_on, gives, in_block}
+use Rattle.lt_tree.specs.Typing.Steps.{Outcome, Goes, Breaks, Walk, goes_on, gives, in_block}
 use Rattle.lt_tree.specs.Typing.Specifying as s
 use Rattle.lt_tree.specs.Typing.Declarators as d
 use Rattle.lt_tree.specs.Typing.ExpressionTyping as typing
 use Rattle.lt_tree.specs.Typing.NodeEnds.{end_of_enumerator}
 use Rattle.lt_tree.proofs.Rows.{sizeof_is, cast_is, struct_is, enum_is, listed_is, open_is}
 use Rattle.lt_type.specs.declared.declaring.Judging.TheVariants as judging
-use Rattle.lt_type.specs.Ends.{enumerator, array_end, without_any}
+use Rattle.lt_type.specs.Ends.{enumerator, without_any}
 use Rattle.lt_type.specs.Found as found
 use Rattle.lt_type.specs.Found.{Part, a_pointer, an_array, a_function, with_part, with_parts, Found, with_all_found, with_found}
 use Rattle.lt_type.specs.Views.{judging_of}
-use Rattle.lt_type.proofs.Turns.{behind, behind_both}
+use Rattle.lt_type.proofs.Turns.{behind}
 
 -- ---- expressions with type names
 

@@ -1,18 +1,15 @@
 -- What judgements give: they answer, and of what is known only types are more.
-use Rattle.std.proofs.Common.{◌≡◌, List, Result, Ok, Err, refl, sym, ap, subst, ◌∙◌}
+use Rattle.std.proofs.Common.{◌≡◌, List, Ok, Err, refl, sym, ap, subst, ◌∙◌}
 use Rattle.lt_tree.specs.declared.typed.types.TypeRow.{TypeRow}
 use Rattle.lt_tree.specs.Typing.Types.{CType}
 use Rattle.lt_tree.specs.Typing.EntityView.{structs_of}
-use Rattle.lt_tree.specs.Typing.TypeRows.{Continues, Lasts}
 use Rattle.lt_tree.specs.Typing.Entities.{Known}
-use Rattle.lt_tree.specs.Typing.Steps.{Outcome, Goes, Breaks, Walk}
+use Rattle.lt_tree.specs.Typing.Steps.{Goes, Walk}
 use Rattle.lt_table.specs.TableRows.{Stays}
 use Rattle.lt_table.specs.TypesValue.{TypesValue, Widens}
-use Rattle.lt_type.specs.NamesValue.{KeepsOuter}
 use Rattle.lt_type.specs.declared.walker.Walker.{Walker}
-use Rattle.lt_type.specs.declared.stop.TypeStop.{TypeStop}
-use Rattle.lt_type.specs.declared.stop.TypeStop.TheVariants.{Broken, NoMemory}
-use Rattle.lt_type.specs.Going.{At, Ends, Gives, types_in, known_of, answering}
+use Rattle.lt_type.specs.declared.stop.TypeStop.TheVariants.{NoMemory}
+use Rattle.lt_type.specs.Going.{Gives, known_of, answering}
 use Rattle.lt_type.proofs.Goings.{as_long, longer_still}
 
 pub widens_on : {a b c : TypesValue} → Widens a b → Widens b c → Widens a c

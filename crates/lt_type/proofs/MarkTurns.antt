@@ -1,5 +1,5 @@
 -- What loops over marks and over the names that they bind have found.
-use Rattle.std.proofs.Common.{◌≡◌, ℕ, suc, ◌<◌, List, [], ◌∷◌, ◌++◌, length, get_or, refl, sym, ap, ◌∙◌, arith}
+use Rattle.std.proofs.Common.{◌≡◌, ℕ, ◌<◌, List, [], ◌∷◌, ◌++◌, length, get_or, refl, sym, ap, ◌∙◌, arith}
 use Rattle.std.specs.Global.{Box}
 use Rattle.lt_tree.specs.declared.mark.Binding.{Binding}
 use Rattle.lt_tree.specs.declared.typed.tree.Mark.{Mark}

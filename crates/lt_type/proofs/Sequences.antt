@@ -1,10 +1,9 @@
 -- What a sequence of calls gives, of which each may stop it.
-use Rattle.std.proofs.Common.{◌≡◌, ℕ, ◌+◌, List, [], ◌∷◌, ◌++◌, drop, Result, Ok, Err, refl, sym, ap, subst, ◌∙◌}
+use Rattle.std.proofs.Common.{◌≡◌, ℕ, ◌+◌, List, ◌∷◌, drop, Result, Ok, Err, refl, sym, ap, subst, ◌∙◌}
 use Rattle.std.specs.Result.{OnOk, IsErr, IsErrAnd}
 use Rattle.lt_tree.specs.Typing.Types.{CType}
-use Rattle.lt_tree.specs.Typing.TypeRows.{Continues, Lasts}
 use Rattle.lt_tree.specs.Typing.Entities.{Known, Frame, no_names}
-use Rattle.lt_tree.specs.Typing.Steps.{Outcome, Goes, Breaks, Walk, goes_on, enter, ◌>>=◌, gives, left, in_block}
+use Rattle.lt_tree.specs.Typing.Steps.{Outcome, Goes, Walk, goes_on, enter, ◌>>=◌, gives, left, in_block}
 use Rattle.lt_scope.specs.Names as scope
 use Rattle.lt_tree.specs.declared.typed.entity.Entity.{Entity}
 use Rattle.lt_tree.specs.declared.typed.entity.Tagged.{Tagged}
@@ -15,7 +14,7 @@ use Rattle.lt_type.specs.NamesValue.{NamesValue, NameFrameValue, KeepsOuter, fra
 use Rattle.lt_type.specs.declared.walker.Walker.{Walker}
 use Rattle.lt_type.specs.declared.stop.TypeStop.{TypeStop}
 use Rattle.lt_type.specs.declared.stop.TypeStop.TheVariants.{Broken, NoMemory}
-use Rattle.lt_type.specs.Going.{At, Ends, Gives, types_in, known_of}
+use Rattle.lt_type.specs.Going.{At, Gives, types_in, known_of}
 use Rattle.lt_type.proofs.Goings.{longer_still, as_long, kept_still, ends_stops, ends_then}
 
 -- ---- sequences of calls

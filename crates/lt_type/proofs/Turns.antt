@@ -1,16 +1,15 @@
 -- Loops over lists: what a walk over a whole list gives is what the walk over the rest of it gives from here, with what was found before.
 use Rattle.std.proofs.Common.{◌≡◌, ℕ, suc, ◌+◌, ◌<◌, ◌≤◌, List, [], ◌∷◌, ◌++◌, length, length-append, map, drop, get_or, drop-cons, Result, Ok, Err, refl, sym, ap, ◌∙◌, arith}
-use Rattle.std.specs.Result.{OnOk}
 use Rattle.std.proofs.lemmas.List.{drop_all}
 use Rattle.lt_tree.specs.Typing.Types.{CType}
 use Rattle.lt_tree.specs.Typing.TypeRows.{Continues, Lasts}
 use Rattle.lt_tree.specs.Typing.Entities.{Known}
 use Rattle.lt_tree.specs.Typing.Steps.{Outcome, Goes, Breaks, Walk, goes_on, gives}
-use Rattle.lt_type.specs.NamesValue.{NamesValue, KeepsOuter}
+use Rattle.lt_type.specs.NamesValue.{KeepsOuter}
 use Rattle.lt_type.specs.declared.walker.Walker.{Walker}
 use Rattle.lt_type.specs.declared.stop.TypeStop.{TypeStop}
 use Rattle.lt_type.specs.declared.stop.TypeStop.TheVariants.{Broken, NoMemory}
-use Rattle.lt_type.specs.Going.{At, Ends, Gives, types_in, known_of}
+use Rattle.lt_type.specs.Going.{At, Gives, types_in, known_of}
 use Rattle.lt_type.proofs.Goings.{longer_still, as_long, kept_still}
 
 -- The walk over the whole gives what the walk `next` gives from here, and `last` behind it.

@@ -1,5 +1,5 @@
 -- What parts of declarators and parameters are, once they were gone over: types are made of them from the last to the first.
-use Rattle.std.specs.Prelude.{ℕ, ℤ, Bool, false, List, [], ◌∷◌, map, Option}
+use Rattle.std.specs.Prelude.{ℕ, Bool, false, List, [], ◌∷◌, Option}
 use Rattle.lt_tree.specs.declared.declarator.DeclaratorPart.{DeclaratorPart}
 use Rattle.lt_tree.specs.declared.declarator.DeclaratorPart.TheBlock as at
 use Rattle.lt_tree.specs.declared.declarator.Parameter.{Parameter}

@@ -1,5 +1,5 @@
 -- What going over a part of a unit gives, whatever types are added later.
-use Rattle.std.specs.Prelude.{◌≡◌, ℕ, List, map, Result, Ok, Err, OnOk}
+use Rattle.std.specs.Prelude.{◌≡◌, List, map, Result, Ok, Err, OnOk}
 use Rattle.lt_tree.specs.Typing.Types.{CType}
 use Rattle.lt_tree.specs.Typing.TypeRows.{types_of_rows, Continues, Lasts}
 use Rattle.lt_tree.specs.Typing.EntityView.{rule_of, object_of, declared_of, function_of, label_of, fact_of}

@@ -1,10 +1,8 @@
 -- Typed expressions and declarations that lie in memory, where types stand in a table.
-use Rattle.std.specs.Prelude.{ℕ, Bool, ◌||◌, List, [], ◌∷◌, ◌++◌, map, Option, Some, None, option_map}
+use Rattle.std.specs.Prelude.{ℕ, Bool, ◌||◌, List, [], ◌∷◌, ◌++◌, map, Option, option_map}
 use Rattle.std.specs.Global.{Box}
-use Rattle.lt_tree.specs.Tree as c
 use Rattle.lt_tree.specs.View.{expression_of}
 use Rattle.lt_tree.specs.declared.mark.Binding.{Binding}
-use Rattle.lt_tree.specs.declared.typed.types.TypeId.{TypeId}
 use Rattle.lt_tree.specs.declared.typed.entity.Member.{Member}
 use Rattle.lt_tree.specs.Typing.Types.{CType, is_function}
 use Rattle.lt_tree.specs.Typing.TypeRows.{type_in, all_in}

@@ -1,4 +1,4 @@
-use Rattle.std.proofs.Common.{◌≡◌, ℕ, ◌+◌, ◌*◌, max, pos, true, map, length, [], drop, ◌++◌}
+use Rattle.std.proofs.Common.{◌≡◌, ◌+◌, ◌*◌, max, pos, true, map, length, [], drop, ◌++◌}
 use denote.Param.Weighed.{most}
 use Rattle.lt_tree.specs.declared.expression.Expr.{size-Expr}
 use Rattle.lt_tree.specs.declared.mark.Mark.{size-Mark}

@@ -1,4 +1,4 @@
-use Rattle.std.proofs.Common.{Some, option_map, sym, ap, ◌∙◌}
+use Rattle.std.proofs.Common.{option_map, sym, ap, ◌∙◌}
 use Rattle.lt_type.specs.Views.{typed_in, typed_of}
 use Rattle.lt_type.proofs.Judgements.{judged, widens_none}
 use Rattle.lt_model.specs.Layout.{then_some}

@@ -1,6 +1,5 @@
 use Rattle.std.proofs.Common.{ap, ◌∙◌}
 use Rattle.lt_type.proofs.Judgements.{judged, widens_on}
-use Rattle.lt_type.proofs.Steps.{made}
 use Rattle.lt_tree.specs.View.{qualifiers_of}
 use Rattle.lt_tree.specs.Typing.Types.{qualified}
 use Rattle.lt_tree.specs.Typing.Declarators as declarators

@@ -1,4 +1,4 @@
-use Rattle.std.proofs.Common.{if◌then◌else◌, sym, ap, ◌∙◌}
+use Rattle.std.proofs.Common.{sym, ap, ◌∙◌}
 use Rattle.lt_tree.specs.Typing.Steps as steps
 use Rattle.lt_tree.specs.Typing.Specifying as typing
 use Rattle.lt_type.specs.Going.{known_of}

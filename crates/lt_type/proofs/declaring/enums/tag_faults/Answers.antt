@@ -1,4 +1,4 @@
-use Rattle.std.proofs.Common.{◌++◌, is_some, ap, ◌∙◌}
+use Rattle.std.proofs.Common.{◌++◌, ap, ◌∙◌}
 use Rattle.lt_tree.specs.Typing.EntityView.{tagged_of}
 use Rattle.lt_tree.specs.Typing.Rules.{broken_if, declared_twice}
 use Rattle.lt_type.proofs.Steps.{some_mapped}

@@ -1,4 +1,4 @@
-use Rattle.std.proofs.Common.{Some, is_some, sym, ap, ◌∙◌}
+use Rattle.std.proofs.Common.{is_some, sym, ap, ◌∙◌}
 use Rattle.lt_tree.specs.Typing.EntityView.{entity_of}
 use Rattle.lt_tree.specs.Typing.Entities.{declared_here}
 use Rattle.lt_type.specs.Going.{known_of}

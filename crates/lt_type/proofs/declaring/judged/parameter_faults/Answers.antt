@@ -1,7 +1,6 @@
 use Rattle.std.proofs.Common.{ap, ◌∙◌}
 use Rattle.lt_type.specs.Going.{known_of}
 use Rattle.lt_type.proofs.Judgements.{judged}
-use Rattle.lt_type.proofs.Steps.{made}
 use Rattle.lt_tree.specs.Typing.TypeRows.{type_in}
 use Rattle.lt_tree.specs.Typing.EntityView.{structs_of}
 use Rattle.lt_tree.specs.Typing.Declarators as declarators

@@ -1,5 +1,5 @@
-use Rattle.std.proofs.Common.{if◌then◌else◌, false, ap, ◌∙◌}
-use Rattle.std.proofs.Common.{◌&&◌, not, if◌then◌else◌}
+use Rattle.std.proofs.Common.{ap, ◌∙◌}
+use Rattle.std.proofs.Common.{◌&&◌, not}
 use Rattle.lt_tree.specs.declared.specifier.Storage.TheVariants as storage
 use Rattle.lt_tree.specs.Typing.Declaring as declaring
 use Rattle.lt_type.proofs.declaring.kinds.is_register.Goals as goal

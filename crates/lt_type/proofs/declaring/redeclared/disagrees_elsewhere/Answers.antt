@@ -1,8 +1,8 @@
-use Rattle.std.proofs.Common.{if◌then◌else◌, false, ap, ◌∙◌}
+use Rattle.std.proofs.Common.{ap, ◌∙◌}
 use Rattle.lt_tree.specs.Typing.EntityView.{entity_of}
 use Rattle.lt_type.specs.Going.{known_of}
 use Rattle.lt_type.proofs.Steps.{some_mapped}
-use Rattle.std.proofs.Common.{◌&&◌, not, if◌then◌else◌}
+use Rattle.std.proofs.Common.{◌&&◌, not}
 use Rattle.lt_tree.specs.Typing.Types.{same}
 use Rattle.lt_tree.specs.Typing.TypeRows.{type_in}
 use Rattle.lt_tree.specs.Typing.Entities.{declared_among}

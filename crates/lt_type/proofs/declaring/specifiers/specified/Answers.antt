@@ -4,7 +4,6 @@ use Rattle.lt_tree.specs.Typing.Specifying as typing
 use Rattle.lt_type.specs.Views.{naming_of}
 use Rattle.lt_type.specs.Declaring.{all_faults}
 use Rattle.lt_type.proofs.Judgements.{judged, widens_on}
-use Rattle.lt_type.proofs.Steps.{made}
 use Rattle.std.proofs.Common.{◌&&◌, nat_le, length}
 use Rattle.lt_tree.specs.View.{words_of}
 use Rattle.lt_tree.specs.Typing.Types.{qualified}

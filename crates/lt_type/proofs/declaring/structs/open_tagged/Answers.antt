@@ -1,5 +1,4 @@
 use Rattle.std.proofs.Common.{[], Some, None, sym, ap, ◌∙◌}
-use Rattle.lt_tree.specs.Typing.Types.{Struct}
 use Rattle.lt_tree.specs.Typing.EntityView.{tagged_of}
 use Rattle.lt_tree.specs.Typing.Specifying as typing
 use Rattle.lt_type.specs.Going.{known_of}

@@ -1,5 +1,5 @@
-use Rattle.std.proofs.Common.{Some, None, sym, ap, ◌∙◌}
-use Rattle.lt_tree.specs.Typing.Types.{Num, Struct}
+use Rattle.std.proofs.Common.{Some, sym, ap, ◌∙◌}
+use Rattle.lt_tree.specs.Typing.Types.{Num}
 use Rattle.lt_tree.specs.Typing.EntityView.{tagged_of}
 use Rattle.lt_tree.specs.Typing.Steps as steps
 use Rattle.lt_tree.specs.Typing.Specifying as typing

@@ -1,4 +1,4 @@
-use Rattle.std.proofs.Common.{if◌then◌else◌, true, false, sym, ap, ◌∙◌}
+use Rattle.std.proofs.Common.{if◌then◌else◌, sym, ap, ◌∙◌}
 use Rattle.lt_tree.specs.Typing.Entities.{tagged_in, tag_here}
 use Rattle.lt_type.specs.NamesValue.{frames_at}
 use Rattle.lt_type.specs.Going.{known_of}

@@ -1,4 +1,4 @@
-use Rattle.std.proofs.Common.{◌≡◌, sym, ap, ◌∙◌}
+use Rattle.std.proofs.Common.{◌∙◌}
 use Rattle.lt_tree.specs.Typing.TypeRows.{type_in}
 use Rattle.lt_table.proofs.TableFound.{then_ok}
 use Rattle.lt_type.specs.Views.{all_typed}

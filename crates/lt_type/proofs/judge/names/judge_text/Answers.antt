@@ -1,7 +1,3 @@
-use Rattle.std.proofs.Common.{ap, ◌∙◌}
-use Rattle.lt_tree.specs.Typing.Constants.{address}
-use Rattle.lt_tree.specs.Typing.Expressions.{placed, judgement}
-use Rattle.lt_tree.specs.Typing.TypedTree as e
 use Rattle.lt_tree.specs.Typing.NodeEnds.{text_at}
 use Rattle.lt_type.proofs.Judgements.{judged}
 use Rattle.lt_type.proofs.judge.names.judge_text.Goals as goal

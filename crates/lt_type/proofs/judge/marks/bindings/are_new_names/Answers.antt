@@ -1,4 +1,4 @@
-use Rattle.std.proofs.Common.{[], ◌∷◌, ◌++◌, ◌≡◌, ℕ, ◌+◌, ◌-◌, List, drop, sym, ap, subst, ◌∙◌, arith}
+use Rattle.std.proofs.Common.{[], ◌∷◌, ◌++◌, ◌≡◌, ◌+◌, ◌-◌, drop, sym, ap, ◌∙◌, arith}
 use Rattle.std.specs.Prelude.{◌&&◌, not}
 use Rattle.lt_tree.specs.Typing.Operations.{is_among}
 use Rattle.lt_tree.specs.Typing.MarkRules.{is_new_name, are_new_names}
