@@ -3,11 +3,16 @@ use Rattle.std.proofs.Common.{◌≡◌, ℕ, Bool, true, false, List, [], ◌�
 use Rattle.std.specs.Prelude.{◌&&◌, All, Contains}
 use Rattle.std.specs.List.{flat_map}
 use Rattle.std.proofs.lemmas.List.Elements.{All-head, All-tail, All-cons, All-nil, All-weaker}
-use Rattle.lt_tree.specs.SmallTree.{Tree, Named, Number, Unary as unary, Binary as binary, Label, Test, Statement, Compound, Assigns, If as if_only, IfElse, While as while_loop, Return as return_of, Items, no_items, a_statement, a_mark, Program, names_in_tree, names_in_test, names_in_statement, names_in}
+use Rattle.lt_tree.specs.SmallTree.{Tree, Named, Number, Minus, Not, Binary as binary, Label, Test, Statement, Compound, Assigns, If as if_only, IfElse, While as while_loop, Return as return_of, Items, no_items, a_statement, a_mark, Program, names_in_tree, names_in_test, names_in_statement, names_in}
 use Rattle.lt_tree.specs.declared.stop.Stop.{Stop}
 use Rattle.lt_tree.specs.declared.stop.Stop.TheVariants.{NotOfForm, NoMemory}
 use Rattle.lt_replay.specs.Form.{variables, NamesFit, IdsFit}
-use Rattle.lt_replay.specs.Resolving.{fits, fits_labels, fits_test, fits_statement, fits_items, Gives, IsResolved}
+use Rattle.lt_tree.specs.Tree as t
+use Rattle.lt_tree.specs.SmallTree.{IsSmallBody, small_items}
+use Rattle.lt_replay.specs.Resolving as pure
+use Rattle.lt_replay.specs.Resolving.{Gives, IsResolved}
+use Rattle.lt_replay.proofs.FormFits.{fits, fits_labels, fits_test, fits_statement, fits_items}
+use Rattle.lt_replay.proofs.SmallFits.{body_fits}
 use Rattle.lt_replay.specs.Numbers.{Numbers, has_name, AreNumbered}
 use Rattle.lt_replay.proofs.NameLemmas.{found_declared, declared_found}
 
@@ -48,7 +53,8 @@ module _ (has : List ℕ → Bool) where
   tree_names : (e : Tree) → fits has e ≡ true → Each has (names_in_tree e)
   tree_names (Named name) fit = (fit, tt)
   tree_names (Number z) fit = tt
-  tree_names (unary op e) fit = tree_names e fit
+  tree_names (Minus e) fit = tree_names e fit
+  tree_names (Not e) fit = tree_names e fit
   tree_names (binary op left right) fit =
       let both = and_parts (fits has left) (fits has right) fit in
       each_append has (names_in_tree left) (names_in_tree right) (tree_names left both.0) (tree_names right both.1)
@@ -92,7 +98,8 @@ module _ (has : List ℕ → Bool) where
   tree_fits : (e : Tree) → Each has (names_in_tree e) → fits has e ≡ true
   tree_fits (Named name) each = each.0
   tree_fits (Number z) each = refl
-  tree_fits (unary op e) each = tree_fits e each
+  tree_fits (Minus e) each = tree_fits e each
+  tree_fits (Not e) each = tree_fits e each
   tree_fits (binary op left right) each =
       and_both (tree_fits left (each_front has (names_in_tree left) (names_in_tree right) each)) (tree_fits right (each_back has (names_in_tree left) (names_in_tree right) each))
 
@@ -128,18 +135,20 @@ module _ (has : List ℕ → Bool) where
     items_fit (a_mark label rest) each =
         and_both (tree_fits label.predicate (each_front has (names_in_tree label.predicate) (names_in rest) each)) (items_fit rest (each_back has (names_in_tree label.predicate) (names_in rest) each))
 
--- where a function fits, its names are known
-pub known_names : (f : Program) (numbers : Numbers) → AreNumbered f numbers → fits_items (has_name numbers) f.items ≡ true → All (Contains (variables f)) (names_in f.items)
-known_names f numbers are fit =
-    All-weaker (λ name. has_name numbers name ≡ true) (Contains (variables f)) (λ name has. found_declared name are.scope has) (names_in f.items) (each_all (has_name numbers) (names_in f.items) (item_names (has_name numbers) f.items fit))
+-- where the body of a function fits, its names are known
+pub known_names : (f : Program) (numbers : Numbers) (items : t.Items) → AreNumbered f numbers → small_items items ≡ f.items → IsSmallBody items → pure.fits_items (has_name numbers) items ≡ true → All (Contains (variables f)) (names_in f.items)
+known_names f numbers items are same small fit =
+    let fit_too : fits_items (has_name numbers) f.items ≡ true = sym (ap (fits_items (has_name numbers)) same) ∙ sym (body_fits (has_name numbers) small) ∙ fit in
+    All-weaker (λ name. has_name numbers name ≡ true) (Contains (variables f)) (λ name has. found_declared name are.scope has) (names_in f.items) (each_all (has_name numbers) (names_in f.items) (item_names (has_name numbers) f.items fit_too))
 
 -- a function that doesn't fit lacks something
-pub lacks : (f : Program) (numbers : Numbers) → AreNumbered f numbers → fits_items (has_name numbers) f.items ≡ false → NamesFit f → IdsFit f → ⊥
+lacks : (f : Program) (numbers : Numbers) → AreNumbered f numbers → fits_items (has_name numbers) f.items ≡ false → NamesFit f → IdsFit f → ⊥
 lacks f numbers are unfit names ids =
     let each = all_each (has_name numbers) (names_in f.items) (All-weaker (Contains (variables f)) (λ name. has_name numbers name ≡ true) (λ name has. declared_found name are.scope has) (names_in f.items) names.known) in
     let clash : false ≡ true = sym unfit ∙ items_fit (has_name numbers) f.items each in
     cc
 
-pub stops : {X : Type 0} (Is : X → Type 0) (f : Program) (numbers : Numbers) (items : Items) (stop : Stop) → AreNumbered f numbers → items ≡ f.items → Gives (fits_items (has_name numbers) items) Is (Err stop) → IsResolved f (Err stop)
-stops Is f numbers items NotOfForm are same given = lacks f numbers are (ap (fits_items (has_name numbers)) (sym same) ∙ given)
-stops Is f numbers items NoMemory are same given = tt
+pub stops : {X : Type 0} (Is : X → Type 0) (f : Program) (numbers : Numbers) (items : t.Items) (stop : Stop) → AreNumbered f numbers → small_items items ≡ f.items → IsSmallBody items → Gives (pure.fits_items (has_name numbers) items) Is (Err stop) → IsResolved f (Err stop)
+stops Is f numbers items NotOfForm are same small given =
+    lacks f numbers are (sym (ap (fits_items (has_name numbers)) same) ∙ sym (body_fits (has_name numbers) small) ∙ given)
+stops Is f numbers items NoMemory are same small given = tt

@@ -1,15 +1,17 @@
 -- Reading the parts of a function one after another, as the loops do.
 use Rattle.std.proofs.Common.{◌≡◌, ℕ, suc, ◌+◌, Bool, true, List, [], ◌∷◌, ◌++◌, length, refl, sym, ap, ◌∙◌, arith, length-append, append_assoc, drop, get_or, drop-cons, ◌<◌}
 use Rattle.std.specs.Prelude.{◌&&◌}
-use Rattle.std.specs.Global.{Vec}
 use Rattle.std.proofs.lemmas.List.{length-map, map-append}
-use Rattle.lt_tree.specs.declared.small.statement.Item.{Item}
-use Rattle.lt_tree.specs.declared.small.statement.Item as item
-use Rattle.lt_tree.specs.declared.small.statement.Stmt.{Stmt}
-use Rattle.lt_tree.specs.declared.small.statement.Stmt as stmt
-use Rattle.lt_tree.specs.declared.small.statement.Stmt.TheVariants as variant
-use mathlib.Core.Former.{Count}
-use Rattle.lt_tree.specs.SmallTree.{Label, Statement, Items, Compound, Test, If as if_only, IfElse, a_statement, a_mark, labels_in_statement, statement_of, items_of, items_in, label_of}
+use Rattle.lt_tree.specs.declared.statement.Item.{Item}
+use Rattle.std.specs.Prelude.{Option, None}
+use Rattle.std.specs.Global.{Box}
+use Rattle.lt_model.specs.declared.operator.Op.{Op}
+use Rattle.lt_tree.specs.declared.expression.Expr.{Expr}
+use Rattle.lt_tree.specs.declared.expression.Expr.TheVariants as variant
+use Rattle.lt_tree.specs.Tree as t
+use Rattle.lt_tree.specs.View.{expression_of}
+use Rattle.lt_tree.specs.UnitView.{items_in}
+use Rattle.lt_tree.specs.SmallTree.{Label, Statement, Items, Test, If as if_only, IfElse, a_statement, a_mark, labels_in_statement}
 use Rattle.lt_replay.specs.declared.code.Command.{Command}
 use Rattle.lt_replay.specs.Code.{Check, Step, Steps, Block, If, Mark, end, then_steps, step_of, steps_in}
 use Rattle.lt_replay.specs.Resolving.{numbered_label, numbered_test, numbered_statement, numbered_items, ids_of}
@@ -45,21 +47,6 @@ mark_goes find commands command ids new label rest is new_is =
 pub ids_go : (ids : List ℕ) (xs ys : List Label) → (ids ++ ids_of xs) ++ ids_of ys ≡ ids ++ ids_of (xs ++ ys)
 ids_go ids xs ys = append_assoc ids (ids_of xs) (ids_of ys) ∙ ap (λ more. ids ++ more) (sym (map-append (λ (label : Label). label.id) xs ys))
 
-row_is : (m : _) (row : stmt.Row_of-Item m) → items_of row ≡ items_in (stmt.items-the_row-Item m row)
-row_is m stmt.end_of-Item = refl
-row_is m (stmt.more_of-Item (item.Statement first) rest) = ap (a_statement (statement_of first)) (row_is _ rest)
-row_is m (stmt.more_of-Item (item.Mark label) rest) = ap (a_mark (label_of label)) (row_is _ rest)
-
-abbrev row_in : Stmt → (n : Count) × stmt.Row_of-Item n
-row_in (stmt.Compound' shape row) = (_, row)
-row_in _ = (_, stmt.end_of-Item)
-
--- the items of a block, as a list
-pub compound_is : (all : Vec Item) → statement_of (variant.Compound all) ≡ Compound (items_in all.items)
-compound_is all =
-    let row = row_in (variant.Compound all) in
-    ap Compound (row_is row.0 row.1 ∙ ap items_in (stmt.items_hidden-the_row-Item-0 all))
-
 pub next_item : (items : List Item) (i : ℕ) (x : Item) → i < length items → x ≡ get_or items i x → items_in (drop i items) ≡ items_in (x ∷ drop (i + 1) items)
 next_item items i x within is =
     let more : suc i ≡ i + 1 = omega arith in
@@ -82,3 +69,7 @@ else_is find ids new newer test body other check b o check_is new_is b_is newer_
     let counts : length newer ≡ length ids + length test.labels + length (labels_in_statement body) = ap length newer_is ∙ more_ids new (labels_in_statement body) ∙ ap (λ n. n + length (labels_in_statement body)) count in
     ap (λ (c : Check). If c b o) check_is ∙ ap (λ (x : Step). If (numbered_test find (length ids) test) x o) (b_is ∙ ap (λ n. numbered_statement find n body) count)
     ∙ ap (λ (x : Step). If (numbered_test find (length ids) test) (numbered_statement find (length ids + length test.labels) body) x) (o_is ∙ ap (λ n. numbered_statement find n other) counts)
+
+-- a simple assignment
+pub assign_is : (e : Expr) (op : Option Op) (target value : Box Expr) → e ≡ variant.Assign op target value → op ≡ None → expression_of e ≡ t.Assign None (expression_of target.value) (expression_of value.value)
+assign_is e op target value is none = ap expression_of is ∙ ap (λ o. t.Assign o (expression_of target.value) (expression_of value.value)) none

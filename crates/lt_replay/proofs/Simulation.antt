@@ -18,8 +18,7 @@ use Rattle.lt_model.specs.declared.scalar.Scalar.TheVariants.{Int}
 use Rattle.lt_model.specs.Operators.{truth, value_of}
 use Rattle.lt_model.specs.Memory.{Memory, then_result, load, store}
 use Rattle.lt_model.specs.State.{At, Bound, Made, Answer, Gives, Ends, bind}
-use Rattle.lt_tree.specs.declared.small.expression.UnaryOp.TheVariants.{Minus, Not}
-use Rattle.lt_tree.specs.SmallTree.{Tree, Named, Number, Unary as unary, Binary as binary, Label, Test, Statement, Compound, Assigns, If as if_only, IfElse, While as while_loop, Return as return_of, Items, no_items, a_statement, a_mark, labels_in, labels_in_statement, names_in_tree, names_in_test, names_in_statement, names_in}
+use Rattle.lt_tree.specs.SmallTree.{Tree, Named, Number, Minus, Not, Binary as binary, Label, Test, Statement, Compound, Assigns, If as if_only, IfElse, While as while_loop, Return as return_of, Items, no_items, a_statement, a_mark, labels_in, labels_in_statement, names_in_tree, names_in_test, names_in_statement, names_in}
 use Rattle.lt_tree.specs.SmallMeaning as M
 use Rattle.lt_tree.specs.SmallMeaning.{object_of, number_in, int, holds, has_true, marked, marked_all}
 use Rattle.lt_replay.specs.declared.running.Flow.TheVariants as F
@@ -107,9 +106,9 @@ value_same scope at variables scope_is memory_is (Named name) known =
     ap (λ (memory : Memory). then_result (load Lp64 memory (object_of at.scope name) int) number_in) memory_is ∙ ap (λ (bounds : List Bound). then_result (load Lp64 (memory_of variables) (object_of bounds name) int) number_in) scope_is
     ∙ ap (λ (o : Option Address). then_result (load Lp64 (memory_of variables) o int) number_in) (object_found scope name known.0) ∙ load_is variables (number_of (object_of scope name))
 value_same scope at variables scope_is memory_is (Number z) known = refl
-value_same scope at variables scope_is memory_is (unary Minus e) known =
+value_same scope at variables scope_is memory_is (Minus e) known =
     ap (λ (r : Result ℤ Ub). then_result r (λ z. value_of Lp64 Sub Int (pos 0) z)) (value_same scope at variables scope_is memory_is e known)
-value_same scope at variables scope_is memory_is (unary Not e) known =
+value_same scope at variables scope_is memory_is (Not e) known =
     ap (λ (r : Result ℤ Ub). then_result r (λ z. Ok (truth (int_eq z (pos 0))))) (value_same scope at variables scope_is memory_is e known)
 value_same scope at variables scope_is memory_is (binary op left right) known =
     ap (λ (r : Result ℤ Ub). then_result r (λ a. then_result (M.value at right) (λ b. value_of Lp64 op Int a b))) (value_same scope at variables scope_is memory_is left (known_front scope (names_in_tree left) (names_in_tree right) known))

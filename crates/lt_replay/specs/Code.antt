@@ -1,7 +1,6 @@
 -- Code as a value: trees in which variables and labels are numbers.
 use Rattle.std.specs.Prelude.{ℕ, ℤ, List, [], ◌∷◌, map}
 use Rattle.lt_model.specs.declared.operator.Op.{Op}
-use Rattle.lt_tree.specs.declared.small.expression.UnaryOp.{UnaryOp}
 use Rattle.lt_replay.specs.declared.code.Term.{Term}
 use Rattle.lt_replay.specs.declared.code.Term.TheVariants as term
 use Rattle.lt_replay.specs.declared.code.Point.{Point}
@@ -13,7 +12,8 @@ use Rattle.lt_replay.specs.declared.code.Command as command
 pub data Formula : Type 0 where
   Variable : (place : ℕ) → Formula
   Constant : (value : ℤ) → Formula
-  Unary : (op : UnaryOp) (e : Formula) → Formula
+  Minus : (e : Formula) → Formula
+  Not : (e : Formula) → Formula
   Binary : (op : Op) (left right : Formula) → Formula
 
 -- a mark of a numbered label
@@ -44,7 +44,8 @@ mutual
 abbrev pub formula_of : Term → Formula
 formula_of (term.Variable place) = Variable place
 formula_of (term.Constant value) = Constant value
-formula_of (term.Unary' op p e) = Unary op (formula_of e)
+formula_of (term.Minus' p e) = Minus (formula_of e)
+formula_of (term.Not' p e) = Not (formula_of e)
 formula_of (term.Binary' op p left q right) = Binary op (formula_of left) (formula_of right)
 
 abbrev pub spot_of : Point → Spot

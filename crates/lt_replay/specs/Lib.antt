@@ -1,4 +1,5 @@
 pub mod Form
+pub mod Heading
 pub mod Coverage
 pub mod Code
 pub mod Hits
@@ -7,3 +8,13 @@ pub mod Resolving
 pub mod Numbers
 pub mod Measuring
 pub mod First
+pub mod Words
+pub mod Pieces
+pub mod Lexing
+pub mod Nest
+pub mod Grammar
+pub mod Parsed
+pub mod Gives
+pub mod Scan
+pub mod Reading
+pub mod Depths

@@ -5,7 +5,9 @@ use Rattle.lt_model.specs.declared.cell.Address.{Address}
 use Rattle.lt_model.specs.declared.run.End.{End}
 use Rattle.lt_model.specs.declared.run.End.TheVariants as E
 use Rattle.lt_model.specs.State.{Bound}
-use Rattle.lt_tree.specs.SmallTree.{Tree, Named, Number, Unary as unary, Binary as binary, Label, Test, Statement, Compound, Assigns, If as if_only, IfElse, While as while_loop, Return as return_of, Items, no_items, a_statement, a_mark, Program, labels_in, labels_in_statement}
+use Rattle.lt_tree.specs.declared.expression.UnaryOp.TheVariants as prefix
+use Rattle.lt_tree.specs.Tree as t
+use Rattle.lt_tree.specs.SmallTree.{Tree, Named, Number, Minus as minus, Not as negation, Binary as binary, Label, Test, Statement, Compound, Assigns, If as if_only, IfElse, While as while_loop, Return as return_of, Items, no_items, a_statement, a_mark, Program, labels_in, labels_in_statement}
 use Rattle.lt_tree.specs.SmallMeaning.{object_of, run, has_true}
 use Rattle.lt_replay.specs.declared.code.Code.{Code}
 use Rattle.lt_tree.specs.declared.stop.Stop.{Stop}
@@ -13,7 +15,7 @@ use Rattle.lt_tree.specs.declared.stop.Stop.TheVariants.{NotOfForm, NoMemory}
 use Rattle.lt_replay.specs.declared.running.Flow.{Flow}
 use Rattle.lt_replay.specs.declared.running.Flow.TheVariants.{Next, Returned, Undefined, Steps as NoTicks}
 use Rattle.lt_replay.specs.Form.{variables, ids_in, NamesFit, IdsFit}
-use Rattle.lt_replay.specs.Code.{Formula, Variable, Constant, Unary, Binary, Spot, Check, Step, Steps, Block, Assign, If, While, Return, Mark, end, then_steps, steps_in}
+use Rattle.lt_replay.specs.Code.{Formula, Variable, Constant, Minus, Not, Binary, Spot, Check, Step, Steps, Block, Assign, If, While, Return, Mark, end, then_steps, steps_in}
 
 -- names in scope, with numbers from n
 abbrev pub bound_from : List Bound → ℕ → List (List ℕ) → List Bound
@@ -35,7 +37,8 @@ place_in scope name = number_of (object_of scope name)
 abbrev pub numbered : (List ℕ → ℕ) → Tree → Formula
 numbered find (Named name) = Variable (find name)
 numbered find (Number z) = Constant z
-numbered find (unary op e) = Unary op (numbered find e)
+numbered find (minus e) = Minus (numbered find e)
+numbered find (negation e) = Not (numbered find e)
 numbered find (binary op left right) = Binary op (numbered find left) (numbered find right)
 
 abbrev pub numbered_label : (List ℕ → ℕ) → ℕ → Label → Spot
@@ -68,33 +71,52 @@ abbrev mutual
 abbrev pub ids_of : List Label → List ℕ
 ids_of labels = map (λ (label : Label). label.id) labels
 
--- whether each name of an expression passes
-abbrev pub fits : (List ℕ → Bool) → Tree → Bool
-fits has (Named name) = has name
-fits has (Number z) = true
-fits has (unary op e) = fits has e
-fits has (binary op left right) = fits has left && fits has right
+-- whether an expression is a small one of which each name passes
+abbrev pub fits : (List ℕ → Bool) → t.Expression → Bool
+fits has (t.Name name) = has name
+fits has (t.Constant text) = true
+fits has (t.Unary prefix.Minus e) = fits has e
+fits has (t.Unary prefix.Not e) = fits has e
+fits has (t.Binary op left right) = fits has left && fits has right
+fits has _ = false
 
-abbrev pub fits_labels : (List ℕ → Bool) → List Label → Bool
-fits_labels has [] = true
-fits_labels has (label ∷ labels) = fits has label.predicate && fits_labels has labels
+-- a mark of a small function binds no names
+abbrev pub fits_mark : (List ℕ → Bool) → t.Mark → Bool
+fits_mark has (t.mark predicate id tag t.no_bindings) = fits has predicate
+fits_mark has _ = false
 
-abbrev pub fits_test : (List ℕ → Bool) → Test → Bool
-fits_test has test = fits_labels has test.labels && fits has test.value
+abbrev pub fits_marks : (List ℕ → Bool) → t.Marks → Bool
+fits_marks has t.no_marks = true
+fits_marks has (t.a_mark first rest) = fits_mark has first && fits_marks has rest
+
+abbrev pub fits_test : (List ℕ → Bool) → t.Expression → Bool
+fits_test has (t.Marked marks value) = fits_marks has marks && fits has value
+fits_test has e = fits has e
+
+abbrev pub fits_assigned : (List ℕ → Bool) → t.Expression → t.Expression → Bool
+fits_assigned has (t.Name target) value = has target && fits has value
+fits_assigned has _ value = false
+
+abbrev pub fits_evaluated : (List ℕ → Bool) → t.Expression → Bool
+fits_evaluated has (t.Assign None target value) = fits_assigned has target value
+fits_evaluated has _ = false
 
 abbrev mutual
-  pub fits_statement : (List ℕ → Bool) → Statement → Bool
-  fits_statement has (Compound items) = fits_items has items
-  fits_statement has (Assigns target e) = has target && fits has e
-  fits_statement has (if_only test body) = fits_test has test && fits_statement has body
-  fits_statement has (IfElse test body other) = fits_test has test && (fits_statement has body && fits_statement has other)
-  fits_statement has (while_loop test body) = fits_test has test && fits_statement has body
-  fits_statement has (return_of e) = fits has e
+  pub fits_statement : (List ℕ → Bool) → t.Statement → Bool
+  fits_statement has (t.Compound items) = fits_items has items
+  fits_statement has (t.Evaluates e) = fits_evaluated has e
+  fits_statement has (t.If test body) = fits_test has test && fits_statement has body
+  fits_statement has (t.IfElse test body other) = fits_test has test && (fits_statement has body && fits_statement has other)
+  fits_statement has (t.While test body) = fits_test has test && fits_statement has body
+  fits_statement has (t.Return (Some e)) = fits has e
+  fits_statement has _ = false
 
-  pub fits_items : (List ℕ → Bool) → Items → Bool
-  fits_items has no_items = true
-  fits_items has (a_statement first rest) = fits_statement has first && fits_items has rest
-  fits_items has (a_mark label rest) = fits has label.predicate && fits_items has rest
+  -- declarations use no names
+  pub fits_items : (List ℕ → Bool) → t.Items → Bool
+  fits_items has t.no_items = true
+  fits_items has (t.a_declaration first rest) = fits_items has rest
+  fits_items has (t.a_statement first rest) = fits_statement has first && fits_items has rest
+  fits_items has (t.a_label first rest) = fits_mark has first && fits_items has rest
 
 -- what reading a part gives: where it fits, its code
 abbrev pub Gives : {X : Type 0} → Bool → (X → Type 0) → Result X Stop → Type 0

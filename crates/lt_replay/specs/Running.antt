@@ -9,11 +9,10 @@ use Rattle.lt_model.specs.declared.operator.Ub.TheVariants as U
 use Rattle.lt_model.specs.Scalar.{convert_of}
 use Rattle.lt_model.specs.Operators.{truth, value_of}
 use Rattle.lt_model.specs.Memory.{then_result}
-use Rattle.lt_tree.specs.declared.small.expression.UnaryOp.TheVariants.{Minus, Not}
 use Rattle.lt_tree.specs.SmallMeaning.{holds}
 use Rattle.lt_replay.specs.declared.running.Flow.{Flow}
 use Rattle.lt_replay.specs.declared.running.Flow.TheVariants.{Next, Returned, Undefined, Steps as NoTicks}
-use Rattle.lt_replay.specs.Code.{Formula, Variable, Constant, Unary, Binary, Spot, Check, Step, Steps, Block, Assign, If, While, Return, Mark, end, then_steps}
+use Rattle.lt_replay.specs.Code.{Formula, Variable, Constant, Minus, Not, Binary, Spot, Check, Step, Steps, Block, Assign, If, While, Return, Mark, end, then_steps}
 
 -- the variables, of which an unset one is None; the ticks left; and for each label whether a mark of it was true
 pub record State : Type 0 where
@@ -41,8 +40,8 @@ held (Some (Some z)) = Ok (convert_of Lp64 Int z)
 abbrev pub formula_value : List (Option ℤ) → Formula → Result ℤ Ub
 formula_value variables (Variable place) = held (slice_get variables place)
 formula_value variables (Constant z) = Ok z
-formula_value variables (Unary Minus e) = then_result (formula_value variables e) (λ z. value_of Lp64 Sub Int (pos 0) z)
-formula_value variables (Unary Not e) = then_result (formula_value variables e) (λ z. Ok (truth (int_eq z (pos 0))))
+formula_value variables (Minus e) = then_result (formula_value variables e) (λ z. value_of Lp64 Sub Int (pos 0) z)
+formula_value variables (Not e) = then_result (formula_value variables e) (λ z. Ok (truth (int_eq z (pos 0))))
 formula_value variables (Binary op left right) =
     then_result (formula_value variables left) (λ a. then_result (formula_value variables right) (λ b. value_of Lp64 op Int a b))
 

@@ -1,12 +1,12 @@
 use lt_model::Op;
-use lt_tree::small::UnaryOp;
 
 /// An expression over variables by their numbers.
 #[derive(Drop)]
 pub enum Term {
     Variable(usize),
     Constant(i32),
-    Unary(UnaryOp, Box<Term>),
+    Minus(Box<Term>),
+    Not(Box<Term>),
     Binary(Op, Box<Term>, Box<Term>),
 }
 

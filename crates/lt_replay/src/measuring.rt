@@ -3,7 +3,10 @@ ghost use Rattle.std.specs.List.Sorted.{IsPermutation, IsSortedByKey};
 ghost use Rattle.std.specs.Ordering.{nat_cmp};
 ghost use Rattle.std.specs.Cmp.Lexicographic.{slice_cmp};
 ghost use Rattle.lt_model.specs.declared.run.End.{End};
-ghost use Rattle.lt_tree.specs.SmallTree.{Label, Program, program_of, label_of, statement_of, items_in, labels_in, labels_in_statement};
+ghost use Rattle.lt_tree.specs.View.{expression_of, mark_of};
+ghost use Rattle.lt_tree.specs.UnitView.{statement_of, items_in};
+ghost use Rattle.lt_tree.specs.SmallTree.{Label, Program, label_of, test_of, small_statement, small_items, labels_in, labels_in_statement};
+ghost use Rattle.lt_replay.specs.Heading.{function_of};
 ghost use Rattle.lt_tree.specs.SmallMeaning.{is_ended};
 ghost use Rattle.lt_input.specs.Cases.{TestCase, case_of, cases_of};
 ghost use Rattle.lt_replay.specs.Coverage.{row_of_test, IsTable};
@@ -11,12 +14,14 @@ ghost use Rattle.lt_replay.specs.Resolving.{IsCodeOf};
 ghost use Rattle.lt_replay.specs.Measuring.{credited, credited_all, AreFirsts, name_at, rows_from};
 
 use crate::code::Code;
+use crate::guard::unmarked;
+use crate::heading::Function;
 use crate::hits::Hits;
 use crate::running::run;
 use lt_cover::{Coverage, LabelRow, TestRow};
 use lt_input::Test;
 use lt_model::{End, Name};
-use lt_tree::small::{Function, Item, Mark, Marked, Stmt};
+use lt_tree::{Expr, Item, Mark, Stmt, id_number};
 use std::alloc::{AllocError, Global};
 
 // The ticks of a run.
@@ -100,11 +105,12 @@ fn run_tests(alloc: Global, code: &Code, tests: &[Test]) -> Result<Runs, AllocEr
     Ok(Runs { rows, firsts })
 }
 
-// Adds the labels of a guard.
-fn collect_guard<'a>(test: &'a Marked, labels: &mut Vec<&'a Mark>) -> Result<(), AllocError>
-    ensures { OnOk result (map (λ m. label_of m.now) labels.new.items ≡ map (λ m. label_of m.now) labels.old.items ++ map label_of test.now.marks.items) }
+// Adds the labels of a controlling expression.
+fn collect_guard<'a>(test: &'a Expr, labels: &mut Vec<&'a Mark>) -> Result<(), AllocError>
+    ensures { OnOk result (map (λ m. label_of (mark_of m.now)) labels.new.items ≡ map (λ m. label_of (mark_of m.now)) labels.old.items ++ (test_of (expression_of test.now)).labels) }
 {
-    'marks: for mark in &test.marks {
+    let (marks, _) = unmarked(test);
+    'marks: for mark in marks {
         labels.push(mark)?;
     }
     Ok(())
@@ -113,11 +119,10 @@ fn collect_guard<'a>(test: &'a Marked, labels: &mut Vec<&'a Mark>) -> Result<(),
 // Adds the labels of a statement.
 #[cycle(collecting)]
 fn collect_statement<'a>(statement: &'a Stmt, labels: &mut Vec<&'a Mark>) -> Result<(), AllocError>
-    ensures { OnOk result (map (λ m. label_of m.now) labels.new.items ≡ map (λ m. label_of m.now) labels.old.items ++ labels_in_statement (statement_of statement.now)) }
+    ensures { OnOk result (map (λ m. label_of (mark_of m.now)) labels.new.items ≡ map (λ m. label_of (mark_of m.now)) labels.old.items ++ labels_in_statement (small_statement (statement_of statement.now))) }
 {
     match statement {
         Stmt::Compound(items) => collect_items(items.as_slice(), labels),
-        Stmt::Expression(_) | Stmt::Return(_) => Ok(()),
         Stmt::If(test, body, other) => {
             collect_guard(test, labels)?;
             collect_statement(body, labels)?;
@@ -130,16 +135,25 @@ fn collect_statement<'a>(statement: &'a Stmt, labels: &mut Vec<&'a Mark>) -> Res
             collect_guard(test, labels)?;
             collect_statement(body, labels)
         }
+        Stmt::Expression(_)
+        | Stmt::Null
+        | Stmt::Do(..)
+        | Stmt::For(..)
+        | Stmt::Switch(..)
+        | Stmt::Break
+        | Stmt::Continue
+        | Stmt::Return(_) => Ok(()),
     }
 }
 
 // Adds the labels of the items of a block.
 #[cycle(collecting)]
 fn collect_items<'a>(items: &'a [Item], labels: &mut Vec<&'a Mark>) -> Result<(), AllocError>
-    ensures { OnOk result (map (λ m. label_of m.now) labels.new.items ≡ map (λ m. label_of m.now) labels.old.items ++ labels_in (items_in items.now)) }
+    ensures { OnOk result (map (λ m. label_of (mark_of m.now)) labels.new.items ≡ map (λ m. label_of (mark_of m.now)) labels.old.items ++ labels_in (small_items (items_in items.now))) }
 {
     'items: for item in items {
         match item {
+            Item::Declaration(_) => {}
             Item::Statement(statement) => collect_statement(statement, labels)?,
             Item::Mark(mark) => labels.push(mark)?,
         }
@@ -160,19 +174,26 @@ fn first_name(alloc: Global, runs: &Runs, label: usize) -> Result<Option<Name>, 
     }
 }
 
+// The row of a label.
+fn label_row(alloc: Global, mark: &Mark, by: Option<Name>) -> Result<LabelRow, AllocError>
+    ensures { IfOk result (λ row. row ≡ record { id = (label_of (mark_of mark.now)).id; tag = (label_of (mark_of mark.now)).tag; by = by }) }
+{
+    let tag = Name::new(alloc, mark.tag.as_slice())?;
+    Ok(LabelRow {
+        id: id_number(mark.id.as_slice()),
+        tag,
+        by,
+    })
+}
+
 // A row for each label.
 fn label_rows(alloc: Global, labels: &[&Mark], runs: &Runs) -> Result<Vec<LabelRow>, AllocError>
-    ensures { IfOk result (λ rows. rows.items ≡ rows_from 0 (map (λ m. label_of m.now) labels.now) runs.now.firsts.items runs.now.rows.items) }
+    ensures { IfOk result (λ rows. rows.items ≡ rows_from 0 (map (λ m. label_of (mark_of m.now)) labels.now) runs.now.firsts.items runs.now.rows.items) }
 {
     let mut rows = Vec::new(alloc);
     'labels: for label in labels {
         let by = first_name(alloc, runs, rows.len())?;
-        let tag = Name::new(alloc, label.tag.as_slice())?;
-        rows.push(LabelRow {
-            id: label.id,
-            tag,
-            by,
-        })?;
+        rows.push(label_row(alloc, label, by)?)?;
     }
     Ok(rows)
 }
@@ -189,17 +210,17 @@ fn sort_labels(rows: &mut Vec<LabelRow>) -> Result<(), AllocError>
 /// label gets the first test in that order that covers it.
 pub fn measure(
     alloc: Global,
-    f: &Function,
+    f: &Function<'_>,
     code: &Code,
     mut tests: Vec<Test>,
 ) -> Result<Coverage, AllocError>
-    requires { IsCodeOf (program_of f.now) code.now }
-    ensures { IfOk result (λ coverage. IsTable (program_of f.now) (cases_of tests.items) coverage.tests.items coverage.labels.items) }
+    requires { IsCodeOf (function_of f.now) code.now }
+    ensures { IfOk result (λ coverage. IsTable (function_of f.now) (cases_of tests.items) coverage.tests.items coverage.labels.items) }
 {
     sort_tests(&mut tests)?;
     let runs = run_tests(alloc, code, tests.as_slice())?;
     let mut labels = Vec::new(alloc);
-    collect_items(f.items.as_slice(), &mut labels)?;
+    collect_items(f.items, &mut labels)?;
     let mut rows = label_rows(alloc, labels.as_slice(), &runs)?;
     sort_labels(&mut rows)?;
     Ok(Coverage {

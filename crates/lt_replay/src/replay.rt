@@ -1,11 +1,12 @@
 ghost use Rattle.std.specs.Prelude.{IfOk, IfErr};
 ghost use Rattle.lt_replay.specs.First.{IsReplay, StopsAt};
 
+use crate::heading::heading;
 use crate::measuring::measure;
+use crate::parsing::{one_function, parse, tags_are_plain, trees_are_small};
 use crate::resolving::resolve;
 use lt_cover::write_cover;
 use lt_input::{names_of_tests_are_plain, suite_of};
-use lt_small::{one_function, parse, tags_are_plain};
 use lt_tree::Stop;
 use std::alloc::{AllocError, Global};
 use thiserror::Error;
@@ -28,8 +29,14 @@ pub fn first(alloc: Global, text: &[u8], suite: &[u8]) -> Result<Vec<u8>, FirstS
 {
     one_function();
     tags_are_plain();
+    trees_are_small();
     names_of_tests_are_plain();
-    let f = match parse(alloc, text) {
+    let unit = match parse(alloc, text) {
+        Ok(unit) => unit,
+        Err(Stop::NotOfForm) => return Err(FirstStop::NotYet(1)),
+        Err(Stop::NoMemory) => return Err(FirstStop::NoMemory),
+    };
+    let f = match heading(alloc, &unit) {
         Ok(f) => f,
         Err(Stop::NotOfForm) => return Err(FirstStop::NotYet(1)),
         Err(Stop::NoMemory) => return Err(FirstStop::NoMemory),

@@ -1,16 +1,20 @@
+use crate::heading::Function;
 use crate::hits::Hits;
 use crate::measuring::measure;
 use crate::resolving::resolve;
 use crate::running::run;
 use lt_input::Test;
 use lt_model::{End, Name, Op, Ub};
-use lt_tree::Stop;
-use lt_tree::small::{Assign, Expr, Function, Item, Mark, Marked, Stmt};
+use lt_tree::{Expr, Item, Mark, Stmt, Stop};
 use std::alloc::{AllocError, Global};
 use std::test::Fail;
 
 fn variable(alloc: Global, name: &[u8]) -> Result<Expr, AllocError> {
     Ok(Expr::Name(Name::new(alloc, name)?))
+}
+
+fn constant(alloc: Global, text: &[u8]) -> Result<Expr, AllocError> {
+    Ok(Expr::Constant(Name::new(alloc, text)?))
 }
 
 fn binary(alloc: Global, op: Op, left: Expr, right: Expr) -> Result<Expr, AllocError> {
@@ -19,16 +23,24 @@ fn binary(alloc: Global, op: Op, left: Expr, right: Expr) -> Result<Expr, AllocE
 }
 
 fn assign(alloc: Global, target: &[u8], value: Expr) -> Result<Stmt, AllocError> {
-    let target = Name::new(alloc, target)?;
-    Ok(Stmt::Expression(Assign { target, value }))
+    let target = Box::new(alloc, variable(alloc, target)?)?;
+    let value = Box::new(alloc, value)?;
+    Ok(Stmt::Expression(Expr::Assign(None, target, value)))
 }
 
-fn label(alloc: Global, id: u32, predicate: Expr) -> Result<Mark, AllocError> {
+fn label(alloc: Global, id: &[u8], predicate: Expr) -> Result<Mark, AllocError> {
+    let id = Name::new(alloc, id)?;
     let tag = Name::new(alloc, b"tag")?;
-    Ok(Mark { predicate, id, tag })
+    let bound = Vec::new(alloc);
+    Ok(Mark {
+        predicate,
+        id,
+        tag,
+        bound,
+    })
 }
 
-fn function(alloc: Global, items: Vec<Item>) -> Result<Function, AllocError> {
+fn function(alloc: Global, items: &[Item]) -> Result<Function<'_>, AllocError> {
     let name = Name::new(alloc, b"f")?;
     let mut params = Vec::new(alloc);
     params.push(Name::new(alloc, b"n")?)?;
@@ -43,35 +55,42 @@ fn function(alloc: Global, items: Vec<Item>) -> Result<Function, AllocError> {
 }
 
 // i = 0; while (i < n) i = i + 1; return i; where the loop's test marks label 7 if i == 2.
-fn counting(alloc: Global) -> Result<Function, AllocError> {
-    let start = assign(alloc, b"i", Expr::Constant(0))?;
-    let next = binary(alloc, Op::Add, variable(alloc, b"i")?, Expr::Constant(1))?;
-    let is_two = binary(alloc, Op::Eq, variable(alloc, b"i")?, Expr::Constant(2))?;
+fn counting(alloc: Global) -> Result<Vec<Item>, AllocError> {
+    let start = assign(alloc, b"i", constant(alloc, b"0")?)?;
+    let one = constant(alloc, b"1")?;
+    let next = binary(alloc, Op::Add, variable(alloc, b"i")?, one)?;
+    let two = constant(alloc, b"2")?;
+    let is_two = binary(alloc, Op::Eq, variable(alloc, b"i")?, two)?;
     let mut marks = Vec::new(alloc);
-    marks.push(label(alloc, 7, is_two)?)?;
+    marks.push(label(alloc, b"7", is_two)?)?;
     let value = binary(
         alloc,
         Op::Lt,
         variable(alloc, b"i")?,
         variable(alloc, b"n")?,
     )?;
+    let test = Expr::Marked(marks, Box::new(alloc, value)?);
     let body = Box::new(alloc, assign(alloc, b"i", next)?)?;
     let mut items = Vec::new(alloc);
     items.push(Item::Statement(start))?;
-    items.push(Item::Statement(Stmt::While(Marked { marks, value }, body)))?;
-    items.push(Item::Statement(Stmt::Return(variable(alloc, b"i")?)))?;
-    function(alloc, items)
+    items.push(Item::Statement(Stmt::While(test, body)))?;
+    let result = Some(variable(alloc, b"i")?);
+    items.push(Item::Statement(Stmt::Return(result)))?;
+    Ok(items)
 }
 
 // a mark of label 1 on 1 / n > 0, and then return 1 / n
-fn dividing(alloc: Global) -> Result<Function, AllocError> {
-    let quotient = binary(alloc, Op::Div, Expr::Constant(1), variable(alloc, b"n")?)?;
-    let predicate = binary(alloc, Op::Gt, quotient, Expr::Constant(0))?;
-    let value = binary(alloc, Op::Div, Expr::Constant(1), variable(alloc, b"n")?)?;
+fn dividing(alloc: Global) -> Result<Vec<Item>, AllocError> {
+    let one = constant(alloc, b"1")?;
+    let quotient = binary(alloc, Op::Div, one, variable(alloc, b"n")?)?;
+    let none = constant(alloc, b"0")?;
+    let predicate = binary(alloc, Op::Gt, quotient, none)?;
+    let one = constant(alloc, b"1")?;
+    let value = binary(alloc, Op::Div, one, variable(alloc, b"n")?)?;
     let mut items = Vec::new(alloc);
-    items.push(Item::Mark(label(alloc, 1, predicate)?))?;
-    items.push(Item::Statement(Stmt::Return(value)))?;
-    function(alloc, items)
+    items.push(Item::Mark(label(alloc, b"1", predicate)?))?;
+    items.push(Item::Statement(Stmt::Return(Some(value))))?;
+    Ok(items)
 }
 
 fn test(alloc: Global, name: &[u8], value: i32) -> Result<Test, AllocError> {
@@ -84,7 +103,8 @@ fn test(alloc: Global, name: &[u8], value: i32) -> Result<Test, AllocError> {
 #[test]
 fn counts_ticks(rt: HostRuntime) -> Result<(), Fail> {
     let alloc = rt.alloc();
-    let f = counting(alloc)?;
+    let items = counting(alloc)?;
+    let f = function(alloc, items.as_slice())?;
     let code = resolve(alloc, &f)?;
     let mut hits = Hits::new(alloc, code.labels)?;
     let enough = run(alloc, &code, [3].as_slice(), 10, &mut hits)?;
@@ -102,8 +122,8 @@ fn counts_ticks(rt: HostRuntime) -> Result<(), Fail> {
 fn unset_local(rt: HostRuntime) -> Result<(), Fail> {
     let alloc = rt.alloc();
     let mut items = Vec::new(alloc);
-    items.push(Item::Statement(Stmt::Return(variable(alloc, b"i")?)))?;
-    let f = function(alloc, items)?;
+    items.push(Item::Statement(Stmt::Return(Some(variable(alloc, b"i")?))))?;
+    let f = function(alloc, items.as_slice())?;
     let code = resolve(alloc, &f)?;
     let mut hits = Hits::new(alloc, code.labels)?;
     let end = run(alloc, &code, [3].as_slice(), 10, &mut hits)?;
@@ -114,7 +134,8 @@ fn unset_local(rt: HostRuntime) -> Result<(), Fail> {
 #[test]
 fn undefined_predicate(rt: HostRuntime) -> Result<(), Fail> {
     let alloc = rt.alloc();
-    let f = dividing(alloc)?;
+    let items = dividing(alloc)?;
+    let f = function(alloc, items.as_slice())?;
     let code = resolve(alloc, &f)?;
     let mut hits = Hits::new(alloc, code.labels)?;
     let end = run(alloc, &code, [0].as_slice(), 10, &mut hits)?;
@@ -126,7 +147,8 @@ fn undefined_predicate(rt: HostRuntime) -> Result<(), Fail> {
 #[test]
 fn lesser_name(rt: HostRuntime) -> Result<(), Fail> {
     let alloc = rt.alloc();
-    let f = counting(alloc)?;
+    let items = counting(alloc)?;
+    let f = function(alloc, items.as_slice())?;
     let code = resolve(alloc, &f)?;
     let mut tests = Vec::new(alloc);
     tests.push(test(alloc, b"c", 3)?)?;
@@ -146,9 +168,9 @@ fn lesser_name(rt: HostRuntime) -> Result<(), Fail> {
 fn repeated_label(rt: HostRuntime) -> Result<(), Fail> {
     let alloc = rt.alloc();
     let mut items = Vec::new(alloc);
-    items.push(Item::Mark(label(alloc, 4, Expr::Constant(1))?))?;
-    items.push(Item::Mark(label(alloc, 4, Expr::Constant(1))?))?;
-    let f = function(alloc, items)?;
+    items.push(Item::Mark(label(alloc, b"4", constant(alloc, b"1")?)?))?;
+    items.push(Item::Mark(label(alloc, b"4", constant(alloc, b"1")?)?))?;
+    let f = function(alloc, items.as_slice())?;
     assert!(rt; matches!(resolve(alloc, &f), Err(Stop::NotOfForm)));
     Ok(())
 }

@@ -1,13 +1,18 @@
-ghost use Rattle.std.specs.Prelude.{◌≡◌, MatchBool, MatchOption, Contains, ◌↔◌, IsTrue, IfOk, List, ◌++◌, ◌∷◌, [], ℕ, map, length, OnOk};
-ghost use Rattle.lt_tree.specs.SmallTree.{Assigns, program_of, tree_of, label_of, test_of, statement_of, items_in, labels_in, labels_in_statement};
+ghost use Rattle.std.specs.Prelude.{◌≡◌, MatchBool, MatchOption, Contains, ◌↔◌, IsTrue, IfOk, List, ◌++◌, ◌∷◌, [], ℕ, pos, map, length, OnOk};
+ghost use Rattle.lt_tree.specs.View.{expression_of, mark_of};
+ghost use Rattle.lt_tree.specs.Records.{marks_in};
+ghost use Rattle.lt_tree.specs.UnitView.{statement_of, items_in};
+ghost use Rattle.lt_tree.specs.SmallTree.{IsSmallBody, number_of as number_written, tree_of, label_of, labels_of, test_of, assigned, evaluated, small_statement, small_items, labels_in, labels_in_statement};
+ghost use Rattle.lt_replay.specs.Heading.{function_of};
 ghost use Rattle.lt_replay.specs.Code.{formula_of, spot_of, check_of, step_of, steps_in};
-ghost use Rattle.lt_replay.specs.Resolving.{numbered, numbered_label, numbered_labels, numbered_test, numbered_statement, numbered_items, ids_of, fits, fits_labels, fits_test, fits_statement, fits_items, Gives, IsResolved};
+ghost use Rattle.lt_replay.specs.Resolving.{numbered, numbered_label, numbered_labels, numbered_test, numbered_statement, numbered_items, ids_of, fits, fits_mark, fits_marks, fits_test, fits_assigned, fits_evaluated, fits_statement, fits_items, Gives, IsResolved};
 ghost use Rattle.lt_replay.specs.Numbers.{found, number_by, has_name, declared_names, IsScope, AreTwice, AreNumbered, FitIds};
 
 use crate::code::{Code, Command, Guard, Point, Term};
+use crate::guard::unmarked;
+use crate::heading::Function;
 use lt_model::Name;
-use lt_tree::Stop;
-use lt_tree::small::{Assign, Expr, Function, Item, Mark, Marked, Stmt};
+use lt_tree::{Expr, Item, Mark, Stmt, Stop, UnaryOp, id_number};
 use std::alloc::{AllocError, Global};
 use std::collections::{BTreeMap, BTreeSet};
 
@@ -38,8 +43,11 @@ fn declare_all<'a>(
 }
 
 // The number of each variable, unless a name is declared twice.
-fn variables_of(alloc: Global, f: &Function) -> Result<Option<BTreeMap<&[u8], usize>>, AllocError>
-    ensures { IfOk result (λ found. MatchOption found (AreTwice (declared_names (program_of f.now))) (AreNumbered (program_of f.now))) }
+fn variables_of<'a>(
+    alloc: Global,
+    f: &'a Function<'_>,
+) -> Result<Option<BTreeMap<&'a [u8], usize>>, AllocError>
+    ensures { IfOk result (λ found. MatchOption found (AreTwice (declared_names (function_of f.now))) (AreNumbered (function_of f.now))) }
 {
     let mut numbers = BTreeMap::new(alloc);
     if !declare_all(&mut numbers, f.params.as_slice())? {
@@ -72,14 +80,14 @@ fn ids_fit(alloc: Global, ids: &[u32]) -> Result<bool, AllocError>
 
 /// The code of a function. It isn't of the form if a name is declared twice or used and not declared, or if the numbers of
 /// its labels don't differ or aren't in range.
-pub fn resolve(alloc: Global, f: &Function) -> Result<Code, Stop>
-    ensures { IsResolved (program_of f.now) result }
+pub fn resolve(alloc: Global, f: &Function<'_>) -> Result<Code, Stop>
+    ensures { IsSmallBody (items_in f.now.items.now) → IsResolved (function_of f.now) result }
 {
     let Some(numbers) = variables_of(alloc, f)? else {
         return Err(Stop::NotOfForm);
     };
     let mut ids = Vec::new(alloc);
-    let items = resolve_items(alloc, &numbers, f.items.as_slice(), &mut ids)?;
+    let items = resolve_items(alloc, &numbers, f.items, &mut ids)?;
     if !ids_fit(alloc, ids.as_slice())? {
         return Err(Stop::NotOfForm);
     }
@@ -98,23 +106,35 @@ fn number_of(numbers: &BTreeMap<&[u8], usize>, name: &Name) -> Option<usize>
     numbers.get(name.as_slice()).copied()
 }
 
+// The value of a constant.
+#[tactic(auto, using(crate::proofs::Written::written_small))]
+fn constant_of(text: &Name) -> i32
+    ensures { result ≡ pos (number_written text.now) }
+{
+    id_number(text.as_slice()) as i32
+}
+
 // The code of an expression.
 fn resolve_expression(
     alloc: Global,
     numbers: &BTreeMap<&[u8], usize>,
     e: &Expr,
 ) -> Result<Term, Stop>
-    ensures { Gives (fits (has_name numbers.now) (tree_of e.now)) (λ term. formula_of term ≡ numbered (number_by numbers.now) (tree_of e.now)) result }
+    ensures { Gives (fits (has_name numbers.now) (expression_of e.now)) (λ term. formula_of term ≡ numbered (number_by numbers.now) (tree_of (expression_of e.now))) result }
 {
     match e {
         Expr::Name(name) => match number_of(numbers, name) {
             Some(number) => Ok(Term::Variable(number)),
             None => Err(Stop::NotOfForm),
         },
-        Expr::Constant(value) => Ok(Term::Constant(*value)),
-        Expr::Unary(op, inner) => {
+        Expr::Constant(text) => Ok(Term::Constant(constant_of(text))),
+        Expr::Unary(UnaryOp::Minus, inner) => {
             let inner = resolve_expression(alloc, numbers, inner)?;
-            Ok(Term::Unary(*op, Box::new(alloc, inner)?))
+            Ok(Term::Minus(Box::new(alloc, inner)?))
+        }
+        Expr::Unary(UnaryOp::Not, inner) => {
+            let inner = resolve_expression(alloc, numbers, inner)?;
+            Ok(Term::Not(Box::new(alloc, inner)?))
         }
         Expr::Binary(op, left, right) => {
             let left = resolve_expression(alloc, numbers, left)?;
@@ -122,22 +142,48 @@ fn resolve_expression(
             let left = Box::new(alloc, left)?;
             Ok(Term::Binary(*op, left, Box::new(alloc, right)?))
         }
+        Expr::Unary(
+            UnaryOp::AddressOf | UnaryOp::Dereference | UnaryOp::Plus | UnaryOp::Complement,
+            _,
+        )
+        | Expr::Text(_)
+        | Expr::Index(..)
+        | Expr::Call(..)
+        | Expr::Member(..)
+        | Expr::Arrow(..)
+        | Expr::PostInc(_)
+        | Expr::PostDec(_)
+        | Expr::PreInc(_)
+        | Expr::PreDec(_)
+        | Expr::SizeofExpr(_)
+        | Expr::SizeofType(_)
+        | Expr::Cast(..)
+        | Expr::Logical(..)
+        | Expr::Conditional(..)
+        | Expr::Assign(..)
+        | Expr::Comma(_)
+        | Expr::Marked(..)
+        | Expr::Decide(..)
+        | Expr::After(..) => Err(Stop::NotOfForm),
     }
 }
 
-// The code of a mark, whose label gets the next number.
+// The code of a mark, whose label gets the next number. A mark that binds names is refused.
 fn resolve_mark(
     alloc: Global,
     numbers: &BTreeMap<&[u8], usize>,
     mark: &Mark,
     ids: &mut Vec<u32>,
 ) -> Result<Point, Stop>
-    ensures is { Gives (fits (has_name numbers.now) (label_of mark.now).predicate) (λ point. spot_of point ≡ numbered_label (number_by numbers.now) (length ids.old.items) (label_of mark.now)) result }
-    ensures ids { OnOk result (ids.new.items ≡ ids.old.items ++ mark.now.id ∷ []) }
+    ensures is { Gives (fits_mark (has_name numbers.now) (mark_of mark.now)) (λ point. spot_of point ≡ numbered_label (number_by numbers.now) (length ids.old.items) (label_of (mark_of mark.now))) result }
+    ensures ids { OnOk result (ids.new.items ≡ ids.old.items ++ (label_of (mark_of mark.now)).id ∷ []) }
 {
+    if !mark.bound.is_empty() {
+        return Err(Stop::NotOfForm);
+    }
     let predicate = resolve_expression(alloc, numbers, &mark.predicate)?;
     let label = ids.len();
-    ids.push(mark.id)?;
+    ids.push(id_number(mark.id.as_slice()))?;
     Ok(Point { predicate, label })
 }
 
@@ -148,8 +194,8 @@ fn resolve_marks(
     marks: &[Mark],
     ids: &mut Vec<u32>,
 ) -> Result<Vec<Point>, Stop>
-    ensures is { Gives (fits_labels (has_name numbers.now) (map label_of marks.now)) (λ points. map spot_of points.items ≡ numbered_labels (number_by numbers.now) (length ids.old.items) (map label_of marks.now)) result }
-    ensures ids { OnOk result (ids.new.items ≡ ids.old.items ++ ids_of (map label_of marks.now)) }
+    ensures is { Gives (fits_marks (has_name numbers.now) (marks_in marks.now)) (λ points. map spot_of points.items ≡ numbered_labels (number_by numbers.now) (length ids.old.items) (labels_of (marks_in marks.now))) result }
+    ensures ids { OnOk result (ids.new.items ≡ ids.old.items ++ ids_of (labels_of (marks_in marks.now))) }
 {
     let mut points = Vec::new(alloc);
     'marks: for mark in marks {
@@ -158,36 +204,56 @@ fn resolve_marks(
     Ok(points)
 }
 
-// The code of an expression with marks.
+// The code of a controlling expression.
 fn resolve_guard(
     alloc: Global,
     numbers: &BTreeMap<&[u8], usize>,
-    test: &Marked,
+    test: &Expr,
     ids: &mut Vec<u32>,
 ) -> Result<Guard, Stop>
-    ensures is { Gives (fits_test (has_name numbers.now) (test_of test.now)) (λ guard. check_of guard ≡ numbered_test (number_by numbers.now) (length ids.old.items) (test_of test.now)) result }
-    ensures ids { OnOk result (ids.new.items ≡ ids.old.items ++ ids_of (test_of test.now).labels) }
+    ensures is { Gives (fits_test (has_name numbers.now) (expression_of test.now)) (λ guard. check_of guard ≡ numbered_test (number_by numbers.now) (length ids.old.items) (test_of (expression_of test.now))) result }
+    ensures ids { OnOk result (ids.new.items ≡ ids.old.items ++ ids_of (test_of (expression_of test.now)).labels) }
 {
-    let points = resolve_marks(alloc, numbers, test.marks.as_slice(), ids)?;
-    let value = resolve_expression(alloc, numbers, &test.value)?;
+    let (marks, value) = unmarked(test);
+    let points = resolve_marks(alloc, numbers, marks, ids)?;
+    let value = resolve_expression(alloc, numbers, value)?;
     Ok(Guard { points, value })
 }
 
-// The code of an assignment.
-fn resolve_assignment(
+// The code of an assignment to a name.
+fn resolve_assigned(
     alloc: Global,
     numbers: &BTreeMap<&[u8], usize>,
-    assign: &Assign,
+    target: &Expr,
+    value: &Expr,
 ) -> Result<Command, Stop>
-    ensures { (n : ℕ) → Gives (fits_statement (has_name numbers.now) (Assigns assign.now.target (tree_of assign.now.value)))
-        (λ command. step_of command ≡ numbered_statement (number_by numbers.now) n (Assigns assign.now.target (tree_of assign.now.value))) result }
+    ensures { (n : ℕ) → Gives (fits_assigned (has_name numbers.now) (expression_of target.now) (expression_of value.now))
+        (λ command. step_of command ≡ numbered_statement (number_by numbers.now) n (assigned (expression_of target.now) (expression_of value.now))) result }
 {
-    match number_of(numbers, &assign.target) {
+    let Expr::Name(target) = target else {
+        return Err(Stop::NotOfForm);
+    };
+    match number_of(numbers, target) {
         None => Err(Stop::NotOfForm),
-        Some(place) => Ok(Command::Assign(
-            place,
-            resolve_expression(alloc, numbers, &assign.value)?,
-        )),
+        Some(place) => Ok(Command::Assign(place, resolve_expression(alloc, numbers, value)?)),
+    }
+}
+
+// The code of an expression as a statement.
+fn resolve_evaluated(
+    alloc: Global,
+    numbers: &BTreeMap<&[u8], usize>,
+    e: &Expr,
+) -> Result<Command, Stop>
+    ensures { (n : ℕ) → Gives (fits_evaluated (has_name numbers.now) (expression_of e.now))
+        (λ command. step_of command ≡ numbered_statement (number_by numbers.now) n (evaluated (expression_of e.now))) result }
+{
+    match e {
+        Expr::Assign(op, target, value) => match op {
+            None => resolve_assigned(alloc, numbers, target, value),
+            Some(_) => Err(Stop::NotOfForm),
+        },
+        _ => Err(Stop::NotOfForm),
     }
 }
 
@@ -199,8 +265,8 @@ fn resolve_statement(
     statement: &Stmt,
     ids: &mut Vec<u32>,
 ) -> Result<Command, Stop>
-    ensures is { Gives (fits_statement (has_name numbers.now) (statement_of statement.now)) (λ command. step_of command ≡ numbered_statement (number_by numbers.now) (length ids.old.items) (statement_of statement.now)) result }
-    ensures ids { OnOk result (ids.new.items ≡ ids.old.items ++ ids_of (labels_in_statement (statement_of statement.now))) }
+    ensures is { Gives (fits_statement (has_name numbers.now) (statement_of statement.now)) (λ command. step_of command ≡ numbered_statement (number_by numbers.now) (length ids.old.items) (small_statement (statement_of statement.now))) result }
+    ensures ids { OnOk result (ids.new.items ≡ ids.old.items ++ ids_of (labels_in_statement (small_statement (statement_of statement.now)))) }
 {
     match statement {
         Stmt::Compound(items) => Ok(Command::Block(resolve_items(
@@ -209,7 +275,7 @@ fn resolve_statement(
             items.as_slice(),
             ids,
         )?)),
-        Stmt::Expression(assign) => resolve_assignment(alloc, numbers, assign),
+        Stmt::Expression(e) => resolve_evaluated(alloc, numbers, e),
         Stmt::If(test, body, other) => {
             let guard = resolve_guard(alloc, numbers, test, ids)?;
             let body = resolve_statement(alloc, numbers, body, ids)?;
@@ -225,11 +291,20 @@ fn resolve_statement(
             let body = resolve_statement(alloc, numbers, body, ids)?;
             Ok(Command::While(guard, Box::new(alloc, body)?))
         }
-        Stmt::Return(value) => Ok(Command::Return(resolve_expression(alloc, numbers, value)?)),
+        Stmt::Return(Some(value)) => {
+            Ok(Command::Return(resolve_expression(alloc, numbers, value)?))
+        }
+        Stmt::Null
+        | Stmt::Do(..)
+        | Stmt::For(..)
+        | Stmt::Switch(..)
+        | Stmt::Break
+        | Stmt::Continue
+        | Stmt::Return(None) => Err(Stop::NotOfForm),
     }
 }
 
-// The code of the items of a block.
+// The code of the items of a block, in which declarations do nothing.
 #[cycle(resolving)]
 fn resolve_items(
     alloc: Global,
@@ -237,12 +312,13 @@ fn resolve_items(
     items: &[Item],
     ids: &mut Vec<u32>,
 ) -> Result<Vec<Command>, Stop>
-    ensures is { Gives (fits_items (has_name numbers.now) (items_in items.now)) (λ commands. steps_in commands.items ≡ numbered_items (number_by numbers.now) (length ids.old.items) (items_in items.now)) result }
-    ensures ids { OnOk result (ids.new.items ≡ ids.old.items ++ ids_of (labels_in (items_in items.now))) }
+    ensures is { Gives (fits_items (has_name numbers.now) (items_in items.now)) (λ commands. steps_in commands.items ≡ numbered_items (number_by numbers.now) (length ids.old.items) (small_items (items_in items.now))) result }
+    ensures ids { OnOk result (ids.new.items ≡ ids.old.items ++ ids_of (labels_in (small_items (items_in items.now)))) }
 {
     let mut commands = Vec::new(alloc);
     'items: for item in items {
         let command = match item {
+            Item::Declaration(_) => continue,
             Item::Statement(statement) => resolve_statement(alloc, numbers, statement, ids)?,
             Item::Mark(mark) => Command::Mark(resolve_mark(alloc, numbers, mark, ids)?),
         };

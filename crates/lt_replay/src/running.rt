@@ -11,7 +11,6 @@ use crate::code::{Code, Command, Guard, Point, Term};
 use crate::hits::Hits;
 use crate::operator::{negated, operated};
 use lt_model::{End, Ub};
-use lt_tree::small::UnaryOp;
 use std::alloc::{AllocError, Global};
 
 /// How a statement is done: normally, by a return, by undefined behaviour, or for want of a tick.
@@ -41,8 +40,8 @@ fn value_of(values: &[Option<i32>], e: &Term) -> Result<i32, Ub>
     match e {
         Term::Variable(place) => held(values, *place),
         Term::Constant(value) => Ok(*value),
-        Term::Unary(UnaryOp::Minus, inner) => negated(value_of(values, inner)?),
-        Term::Unary(UnaryOp::Not, inner) => {
+        Term::Minus(inner) => negated(value_of(values, inner)?),
+        Term::Not(inner) => {
             let value = value_of(values, inner)?;
             Ok(if value == 0 { 1 } else { 0 })
         }

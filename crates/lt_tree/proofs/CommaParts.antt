@@ -1,9 +1,8 @@
 -- A comma expression of the parts that stand in a list.
-use Rattle.std.proofs.Common.{◌≡◌, refl, sym, ap, subst, ◌∙◌, ℕ, suc, ◌<◌, ◌++◌, List, [], ◌∷◌, length, take, drop, slice_index_or, Bool, true, false, arith}
+use Rattle.std.proofs.Common.{◌≡◌, refl, sym, ap, subst, ◌∙◌, ◌<◌, ◌++◌, List, [], ◌∷◌, length, take, drop, slice_index_or, false, arith}
 use Rattle.std.specs.Prelude.{Result, IfOk}
 use Rattle.std.specs.Global.{Vec}
 use Rattle.std.proofs.lemmas.Result.{IfOk-weaker}
-use Rattle.lt_tree.specs.declared.declarator.DeclaratorPart.TheBlock as at
 use Rattle.lt_tree.specs.declared.declarator.DeclaratorPart.TheOpen as opened
 use Rattle.lt_tree.specs.declared.declarator.DeclaratorPart.TheViews as views
 use Rattle.lt_tree.specs.declared.expression.Expr.{Expr}
@@ -12,7 +11,7 @@ use Rattle.lt_tree.specs.Tree as t
 use Rattle.lt_tree.specs.Comma.{comma_of, followed_by, is_comma}
 use Rattle.lt_tree.specs.View.{expression_of}
 use Rattle.lt_tree.specs.Records.{expressions_in}
-use Rattle.lt_tree.specs.Erasure.{erased, erased_comma, erased_expressions}
+use Rattle.lt_tree.specs.Erasure.{erased_comma, erased_expressions}
 use Rattle.lt_tree.proofs.Rows.{comma_is}
 
 pub expressions_joined : (xs ys : List Expr) → expressions_in (xs ++ ys) ≡ followed_by (expressions_in xs) (expressions_in ys)

@@ -1,5 +1,5 @@
 -- The greatest of the ids of two lists.
-use Rattle.std.proofs.Common.{◌≡◌, refl, sym, ap, ◌∙◌, ℕ, suc, ◌+◌, ◌<◌, max, List, [], ◌∷◌, ◌++◌, length, drop, get_or, drop-cons, arith}
+use Rattle.std.proofs.Common.{◌≡◌, sym, ap, ◌∙◌, ℕ, suc, ◌+◌, ◌<◌, max, List, [], ◌∷◌, ◌++◌, length, drop, get_or, drop-cons, arith}
 use Rattle.lt_tree.specs.Constants.{value_of}
 use Rattle.lt_tree.specs.Ids.{greatest_id, within}
 

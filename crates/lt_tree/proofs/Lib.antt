@@ -10,7 +10,6 @@ mod Pure
 pub mod Rows
 pub mod UnitRows
 pub mod TypedRows
-mod SmallRows
 mod Spots
 mod SpotsOfExpressions
 mod SpotsOfUnits

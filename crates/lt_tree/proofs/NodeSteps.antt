@@ -1,11 +1,11 @@
 -- How the numbers of nodes go on while a unit is typed.
-use Rattle.std.proofs.Common.{◌≡◌, refl, sym, subst, ap, ◌∙◌, ℕ, suc, ◌+◌, ◌<◌, ◌≤◌, List, [], ◌∷◌, ◌++◌, length, Bool, true, Option, Some, None, append_assoc, arith}
+use Rattle.std.proofs.Common.{◌≡◌, sym, subst, ℕ, ◌+◌, ◌<◌, ◌≤◌, List, [], ◌∷◌, ◌++◌, length, Bool, true, Option, Some, None, append_assoc, arith}
 use Rattle.std.proofs.lemmas.List.{length-append, append-nil}
 use Rattle.lt_tree.specs.Nodes.{Node}
 use Rattle.lt_tree.specs.Typing.Rules.{Rule, least}
 use Rattle.lt_tree.specs.Typing.Entities.{Known, Frame, no_names}
 use Rattle.lt_tree.specs.Typing.Steps.{Outcome, Goes, Breaks, goes_on, unless_broken, settle, gives, left, marked_again}
-use Rattle.lt_tree.specs.Typing.Expressions.{Typed, Use, Judged, faults_of_any, finish}
+use Rattle.lt_tree.specs.Typing.Expressions.{Use, Judged, faults_of_any, finish}
 use Rattle.lt_tree.specs.Typing.NodeNumbers.{GoesOver}
 
 -- From a node of number `start` on these nodes are gone over; what is broken on the way is broken at a node from `low` on.

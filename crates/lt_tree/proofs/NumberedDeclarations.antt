@@ -8,7 +8,7 @@ use Rattle.lt_tree.specs.Nodes as n
 use Rattle.lt_tree.specs.Nodes.{in_expression, in_initialiser, in_initialisers, in_optional_initialiser, in_init_declarator, in_declaration}
 use Rattle.lt_tree.specs.Typing.Types.{CType, struct_of, is_array}
 use Rattle.lt_tree.specs.Typing.Extents.{has_too_many_cells}
-use Rattle.lt_tree.specs.Typing.Rules.{Rule, broken_if, bad_length, bad_initialiser}
+use Rattle.lt_tree.specs.Typing.Rules.{broken_if, bad_length, bad_initialiser}
 use Rattle.lt_tree.specs.Typing.TypedTree.{Start, Local}
 use Rattle.lt_tree.specs.Typing.Entities.{Known, Object, Life, a_typedef, a_function, is_linked, is_static, linked_object, bind_name, type_of_object, declared_among}
 use Rattle.lt_tree.specs.Typing.Steps.{Walk, ◌>>◌, gives, settle}
@@ -18,8 +18,8 @@ use Rattle.lt_tree.specs.Typing.Specifying.{Specified}
 use Rattle.lt_tree.specs.Typing.Declarators.{Declares}
 use Rattle.lt_tree.specs.Typing.Filling.{Run, Filling, opened, is_struct_of, is_character_array, is_too_long_for, letters_of, value_faults, text_in, filling_of, nothing_to_fill, list_faults}
 use Rattle.lt_tree.specs.Typing.InitialiserTyping.{Judges, literal_alone, filled_by, fill_value, value_initialiser, fill_text, initialiser_without_braces, filling_for, faults_of_list, initialiser, initialisers, with_length, whole_value, whole_text, whole_without_braces, listed_length, object_initialiser, initialiser_of_none}
-use Rattle.lt_tree.specs.Typing.Declaring.{Kind, a_type_name, a_function_name, an_object_of, kind_of, declaration_faults, with_declared, new_object, object_for, declare_object, with_start, length_faults}
-use Rattle.lt_tree.specs.Typing.DeclarationTyping.{no_object, started_object, declare, declare_named, init_declarator, init_declarators, has_no_declarator, declaration_by}
+use Rattle.lt_tree.specs.Typing.Declaring.{Kind, a_type_name, a_function_name, an_object_of, kind_of, declaration_faults, with_declared, new_object, object_for, declare_object, length_faults}
+use Rattle.lt_tree.specs.Typing.DeclarationTyping.{no_object, started_object, declare, init_declarators, has_no_declarator, declaration_by}
 use Rattle.lt_tree.proofs.NodeSteps.{Covers, Whole, entered, done, done_at, after, joined, quiet, node, last, judges, as_many, from_here}
 use Rattle.lt_tree.proofs.NumberedExpressions.{of_expression, of_specifiers, of_declarator}
 

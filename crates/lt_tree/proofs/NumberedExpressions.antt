@@ -1,5 +1,5 @@
 -- The nodes of expressions, and of what stands inside them, have the numbers of their walk.
-use Rattle.std.proofs.Common.{◌≡◌, refl, subst, ℕ, ℤ, pos, Bool, true, false, if◌then◌else◌, List, [], ◌∷◌, ◌++◌, length, Option, Some, None, append_assoc}
+use Rattle.std.proofs.Common.{◌≡◌, refl, ℕ, ℤ, pos, Bool, true, false, if◌then◌else◌, List, [], ◌∷◌, ◌++◌, length, Option, Some, None}
 use Rattle.lt_model.specs.declared.operator.Op.TheVariants as O
 use Rattle.lt_tree.specs.Tree as c
 use Rattle.lt_tree.specs.Nodes as n
@@ -17,7 +17,7 @@ use Rattle.lt_tree.specs.Typing.MarkRules.{is_good_mark, judge_decide, inside_ma
 use Rattle.lt_tree.specs.Typing.Specifying.{OpenStruct, Specified, is_complete_struct, struct_tagged, open_tagged, open_struct, open_enum, with_members, close_struct, value_given, enumerator_faults}
 use Rattle.lt_tree.specs.Typing.Declarators.{Built, all_faults, type_name_faults, parameter_faults, binds_parameter, member_faults, with_member, has_width}
 use Rattle.lt_tree.specs.Typing.NodeEnds.{text_object, text_at, judge_unary, operand_of, also, is_no_declarator, alone_faults}
-use Rattle.lt_tree.specs.Typing.ExpressionTyping.{expression, expressions, maybe, marks, mark, bindings, specifiers, type_specifiers, type_specifier, members, struct_member, member_declarators, enumerators, declarator, parts, parameters, parameter_list}
+use Rattle.lt_tree.specs.Typing.ExpressionTyping.{expression, expressions, maybe, marks, mark, bindings, specifiers, type_specifiers, type_specifier, members, member_declarators, enumerators, declarator, parts, parameters, parameter_list}
 use Rattle.lt_tree.proofs.NodeSteps.{Covers, Whole, entered, unmarked_here, in_new_frame, done, done_at, after, joined, quiet, grouped, node, part, last, rest_of, judges, finished, unmarked, scoped}
 
 -- ---- what has no nodes

@@ -1,8 +1,7 @@
 -- The nodes of statements and units have the numbers of their walk.
-use Rattle.std.proofs.Common.{◌≡◌, ℕ, ◌<◌, Bool, true, false, List, [], ◌∷◌, ◌++◌, length, Option, Some, None, arith}
+use Rattle.std.proofs.Common.{◌≡◌, ℕ, ◌<◌, true, false, List, [], ◌∷◌, ◌++◌, length, Option, Some, None, arith}
 use Rattle.std.specs.Prelude.{filter_map, unwrap_or, ◌||◌}
 use Rattle.std.specs.List.{flat_map}
-use Rattle.lt_model.specs.declared.scalar.DataModel.{DataModel}
 use Rattle.lt_model.specs.declared.scalar.Scalar.{Scalar}
 use Rattle.lt_tree.specs.Tree as c
 use Rattle.lt_tree.specs.Nodes.{Node, in_expression, in_declaration, in_specifiers, in_declarator, in_optional, in_start, in_label, in_statement, in_items, in_cases, in_external, nodes}
@@ -14,8 +13,8 @@ use Rattle.lt_tree.specs.Typing.Expressions.{as_value, as_truth, own_type}
 use Rattle.lt_tree.specs.Typing.Declaring.{definition_faults, with_declared}
 use Rattle.lt_tree.specs.Typing.DeclarationTyping.{declaration, effective_in_for}
 use Rattle.lt_tree.specs.Typing.StatementTyping.{Around, in_a_loop, in_a_switch, test_faults, optional_test_faults, optional_expression, optional_test, for_start, switch_type, Seen, is_new_case, with_case, case_value, labels, return_faults, statement, items, cases}
-use Rattle.lt_tree.specs.Typing.Programs.{Typing, typed, broken}
-use Rattle.lt_tree.specs.Typing.UnitTyping.{around_body, frame_of, external, externals, defined_in, answer, typing, BreaksFirst}
+use Rattle.lt_tree.specs.Typing.Programs.{broken}
+use Rattle.lt_tree.specs.Typing.UnitTyping.{around_body, frame_of, external, externals, defined_in, answer, typing}
 use Rattle.lt_tree.specs.Typing.NodeNumbers.{PartsAreNumbered, BrokenNodesAreThere}
 use Rattle.lt_tree.proofs.NodeSteps.{Covers, went, broke, Whole, as_said, entered, unmarked_here, in_new_frame, done, after, joined, grouped, node, part, last, rest_of, judges, unmarked, blocked, scoped, from_here, inner}
 use Rattle.lt_tree.proofs.NumberedExpressions.{of_expression, of_mark, of_specifiers, of_declarator}

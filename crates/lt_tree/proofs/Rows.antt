@@ -25,8 +25,8 @@ use Rattle.lt_tree.specs.declared.specifier.Member as mem
 use Rattle.lt_tree.specs.declared.declarator.Declarator as decl
 use Rattle.lt_tree.specs.declared.declarator.Parameters as params
 use Rattle.lt_tree.specs.Tree as t
-use Rattle.lt_tree.specs.View.{words_of, expression_of, expressions_of, mark_of, marks_of, bindings_of, type_of, types_of, member_of, members_of, member_declarators_of, maybe_of, enumerators_of, part_before, parts_of, parameters_of, parameter_list_of}
-use Rattle.lt_tree.specs.Records.{expressions_in, maybe_in, marks_in, bindings_in, types_in, parts_in, specifiers_of, declarator_of, parameter_list_in, members_in, member_declarators_in, enumerators_in}
+use Rattle.lt_tree.specs.View.{words_of, expression_of, expressions_of, mark_of, marks_of, bindings_of, type_of, types_of, member_of, members_of, member_declarators_of, enumerators_of, part_before, parts_of, parameters_of, parameter_list_of}
+use Rattle.lt_tree.specs.Records.{expressions_in, marks_in, bindings_in, types_in, parts_in, specifiers_of, declarator_of, parameter_list_in, members_in, member_declarators_in, enumerators_in}
 
 expressions_row : {n : _} → (row : at.Row_of-Expr n) → expressions_of row ≡ expressions_in (at.items-the_row-Expr n row)
 expressions_row at.end_of-Expr = refl

@@ -1,5 +1,5 @@
 -- Trees without their marks.
-use Rattle.std.specs.Prelude.{List, Option, option_map, map}
+use Rattle.std.specs.Prelude.{option_map, map}
 use Rattle.lt_tree.specs.Comma.{comma_of}
 use Rattle.lt_tree.specs.Tree as t
 

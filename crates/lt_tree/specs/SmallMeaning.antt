@@ -18,8 +18,7 @@ use Rattle.lt_model.specs.declared.run.End.TheVariants.{Returned, Stopped, Undef
 use Rattle.lt_model.specs.Operators.{truth, value_of}
 use Rattle.lt_model.specs.Memory.{Block, then_result, load, store, create}
 use Rattle.lt_model.specs.State.{At, Bound, Made, Answer, Gives, Ends, bind}
-use Rattle.lt_tree.specs.declared.small.expression.UnaryOp.TheVariants.{Minus, Not}
-use Rattle.lt_tree.specs.SmallTree.{Tree, Named, Number, Unary, Binary, Label, Test, Statement, Compound, Assigns, If, IfElse, While, Return, Items, no_items, a_statement, a_mark, Program}
+use Rattle.lt_tree.specs.SmallTree.{Tree, Named, Number, Minus, Not, Binary, Label, Test, Statement, Compound, Assigns, If, IfElse, While, Return, Items, no_items, a_statement, a_mark, Program}
 
 -- every object has one cell of type int
 abbrev pub int : CellType
@@ -40,8 +39,8 @@ number_in (content.Address at) = Err U.NoCell
 abbrev pub value : At → Tree → Result ℤ Ub
 value at (Named name) = then_result (load Lp64 at.memory (object_of at.scope name) int) number_in
 value at (Number z) = Ok z
-value at (Unary Minus e) = then_result (value at e) (λ z. value_of Lp64 Sub Int (pos 0) z)
-value at (Unary Not e) = then_result (value at e) (λ z. Ok (truth (int_eq z (pos 0))))
+value at (Minus e) = then_result (value at e) (λ z. value_of Lp64 Sub Int (pos 0) z)
+value at (Not e) = then_result (value at e) (λ z. Ok (truth (int_eq z (pos 0))))
 value at (Binary op left right) = then_result (value at left) (λ a. then_result (value at right) (λ b. value_of Lp64 op Int a b))
 
 -- undefined behaviour ends the run

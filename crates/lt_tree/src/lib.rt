@@ -12,7 +12,6 @@ pub mod laws;
 pub mod makes;
 mod mark;
 mod purity;
-pub mod small;
 mod specifier;
 mod statement;
 mod stop;
@@ -20,6 +19,7 @@ mod terminal;
 pub mod typed;
 mod unit;
 
+pub use constants::id_number;
 pub use declaration::{Declaration, InitDeclarator, Initialiser};
 pub use declarator::{Declarator, DeclaratorPart, Parameter, Parameters};
 pub use erasure::erase;

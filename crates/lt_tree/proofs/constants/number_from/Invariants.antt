@@ -1,4 +1,4 @@
-use Rattle.std.proofs.Common.{◌≡◌, ℕ, ◌^◌, ◌≤◌, min, length}
+use Rattle.std.proofs.Common.{◌≡◌, ◌^◌, ◌≤◌, min, length}
 use Rattle.lt_tree.specs.Constants.{number_from}
 use Rattle.lt_tree.proofs.constants.number_from.Given as goal
 

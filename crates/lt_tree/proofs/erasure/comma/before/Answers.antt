@@ -1,4 +1,4 @@
-use Rattle.std.proofs.Common.{◌≡◌, ◌<◌, ◌∙◌, length, arith}
+use Rattle.std.proofs.Common.{◌<◌, length, arith}
 use Rattle.std.proofs.lemmas.Grind.{common_steps}
 use Rattle.lt_tree.proofs.CommaParts.{longer_is, alone_is}
 use Rattle.lt_tree.proofs.erasure.comma.before.Goals as goal

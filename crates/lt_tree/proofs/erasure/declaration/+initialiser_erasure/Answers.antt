@@ -1,4 +1,4 @@
-use Rattle.std.proofs.Common.{◌≡◌, ap, sym, ◌∙◌, refl}
+use Rattle.std.proofs.Common.{ap, sym, ◌∙◌, refl}
 use Rattle.lt_tree.specs.Tree as tree
 use Rattle.lt_tree.specs.UnitView.{initialiser_of, initialisers_in}
 use Rattle.lt_tree.specs.Erasure.{erased_initialisers}

@@ -1,4 +1,4 @@
-use Rattle.std.proofs.Common.{◌≡◌, ap, ap₂, sym, ◌∙◌, refl, ◌+◌, drop}
+use Rattle.std.proofs.Common.{ap, ap₂, sym, ◌∙◌, refl, ◌+◌, drop}
 use Rattle.std.specs.Prelude.{map}
 use Rattle.lt_tree.specs.Tree as tree
 use Rattle.lt_tree.specs.UnitView.{label_of, statement_of, item_before, items_in, cases_in}

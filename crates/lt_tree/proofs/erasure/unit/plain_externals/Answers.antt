@@ -1,4 +1,4 @@
-use Rattle.std.proofs.Common.{◌≡◌, ap, sym, refl, ◌∷◌}
+use Rattle.std.proofs.Common.{ap, sym, refl, ◌∷◌}
 use Rattle.std.specs.Prelude.{map}
 use Rattle.lt_tree.specs.UnitView.{external_of}
 use Rattle.lt_tree.specs.Erasure.{erased_external}

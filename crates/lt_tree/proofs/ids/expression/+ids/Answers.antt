@@ -1,4 +1,4 @@
-use Rattle.std.proofs.Common.{◌≡◌, ap, ◌∙◌, max, ◌++◌}
+use Rattle.std.proofs.Common.{ap, ◌∙◌, max, ◌++◌}
 use Rattle.lt_tree.specs.View.{expression_of, mark_of, type_of, member_of}
 use Rattle.lt_tree.specs.Records.{maybe_in, specifiers_of, declarator_of, parts_in, expressions_in, marks_in, bindings_in, types_in, members_in, member_declarators_in, enumerators_in, parameter_list_in}
 use Rattle.lt_tree.specs.Ids.{greatest_id, within, ids_in, ids_in_mark, ids_in_type, ids_in_member, ids_in_maybe, ids_in_specifiers, ids_in_declarator, ids_in_parts, ids_in_expressions, ids_in_marks, ids_in_bindings, ids_in_types, ids_in_members, ids_in_member_declarators, ids_in_enumerators, ids_in_parameter_list}

@@ -1,8 +1,8 @@
 use Rattle.std.proofs.Common.{◌≡◌, max, drop}
 use Rattle.std.specs.Prelude.{map}
 use Rattle.std.specs.List.{flat_map}
-use Rattle.lt_tree.specs.UnitView.{initialisers_in, init_declarator_of, label_of, items_in, cases_in, external_of}
-use Rattle.lt_tree.specs.Ids.{greatest_id, ids_in_init_declarator, ids_in_initialisers, ids_in_label, ids_in_items, ids_in_cases, ids_in_external}
+use Rattle.lt_tree.specs.UnitView.{init_declarator_of}
+use Rattle.lt_tree.specs.Ids.{greatest_id, ids_in_init_declarator}
 use Rattle.lt_tree.proofs.ids.unit.in_init_declarators.Given as goal
 
 abbrev pub invariant-list : goal.invariant-list

@@ -1,8 +1,7 @@
-use Rattle.std.proofs.Common.{◌≡◌, ap, ◌∙◌, ◌++◌}
 use Rattle.std.specs.Prelude.{map}
 use Rattle.std.specs.List.{flat_map}
-use Rattle.lt_tree.specs.UnitView.{initialiser_of, initialisers_in, init_declarator_of, label_of, statement_of, items_in, cases_in, external_of}
-use Rattle.lt_tree.specs.Ids.{greatest_id, ids_in_init_declarator, ids_in_initialiser, ids_in_initialisers, ids_in_label, ids_in_statement, ids_in_items, ids_in_cases, ids_in_external}
+use Rattle.lt_tree.specs.UnitView.{label_of}
+use Rattle.lt_tree.specs.Ids.{ids_in_label}
 use Rattle.lt_tree.proofs.Greatest.{preserved, joined}
 use Rattle.lt_tree.proofs.ids.unit.in_labels.Goals as goal
 

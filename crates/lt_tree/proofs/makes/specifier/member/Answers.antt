@@ -1,4 +1,4 @@
-use Rattle.std.proofs.Common.{◌≡◌, ap, ◌∙◌}
+use Rattle.std.proofs.Common.{ap, ◌∙◌}
 use Rattle.lt_tree.specs.declared.declarator.DeclaratorPart.TheViews as views
 use Rattle.lt_tree.specs.View.{member_of}
 use Rattle.lt_tree.proofs.Rows.{member_is}
