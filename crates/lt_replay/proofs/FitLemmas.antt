@@ -8,11 +8,11 @@ use Rattle.lt_tree.specs.declared.stop.Stop.{Stop}
 use Rattle.lt_tree.specs.declared.stop.Stop.TheVariants.{NotOfForm, NoMemory}
 use Rattle.lt_replay.specs.Form.{variables, NamesFit, IdsFit}
 use Rattle.lt_tree.specs.Tree as t
-use Rattle.lt_tree.specs.SmallTree.{IsSmallBody, small_items}
+use Rattle.lt_tree.specs.SmallTree.{small_items}
 use Rattle.lt_replay.specs.Resolving as pure
 use Rattle.lt_replay.specs.Resolving.{Gives, IsResolved}
 use Rattle.lt_replay.proofs.FormFits.{fits, fits_labels, fits_test, fits_statement, fits_items}
-use Rattle.lt_replay.proofs.SmallFits.{body_fits}
+use Rattle.lt_replay.proofs.SmallFits.{body_fits, items_pass}
 use Rattle.lt_replay.specs.Numbers.{Numbers, has_name, AreNumbered}
 use Rattle.lt_replay.proofs.NameLemmas.{found_declared, declared_found}
 
@@ -136,9 +136,9 @@ module _ (has : List ℕ → Bool) where
         and_both (tree_fits label.predicate (each_front has (names_in_tree label.predicate) (names_in rest) each)) (items_fit rest (each_back has (names_in_tree label.predicate) (names_in rest) each))
 
 -- where the body of a function fits, its names are known
-pub known_names : (f : Program) (numbers : Numbers) (items : t.Items) → AreNumbered f numbers → small_items items ≡ f.items → IsSmallBody items → pure.fits_items (has_name numbers) items ≡ true → All (Contains (variables f)) (names_in f.items)
-known_names f numbers items are same small fit =
-    let fit_too : fits_items (has_name numbers) f.items ≡ true = sym (ap (fits_items (has_name numbers)) same) ∙ sym (body_fits (has_name numbers) small) ∙ fit in
+pub known_names : (f : Program) (numbers : Numbers) (items : t.Items) → AreNumbered f numbers → small_items items ≡ f.items → pure.fits_items (has_name numbers) items ≡ true → All (Contains (variables f)) (names_in f.items)
+known_names f numbers items are same fit =
+    let fit_too : fits_items (has_name numbers) f.items ≡ true = sym (ap (fits_items (has_name numbers)) same) ∙ items_pass (has_name numbers) items fit in
     All-weaker (λ name. has_name numbers name ≡ true) (Contains (variables f)) (λ name has. found_declared name are.scope has) (names_in f.items) (each_all (has_name numbers) (names_in f.items) (item_names (has_name numbers) f.items fit_too))
 
 -- a function that doesn't fit lacks something
@@ -148,7 +148,7 @@ lacks f numbers are unfit names ids =
     let clash : false ≡ true = sym unfit ∙ items_fit (has_name numbers) f.items each in
     cc
 
-pub stops : {X : Type 0} (Is : X → Type 0) (f : Program) (numbers : Numbers) (items : t.Items) (stop : Stop) → AreNumbered f numbers → small_items items ≡ f.items → IsSmallBody items → Gives (pure.fits_items (has_name numbers) items) Is (Err stop) → IsResolved f (Err stop)
-stops Is f numbers items NotOfForm are same small given =
+pub stops : {X : Type 0} (Is : X → Type 0) (f : Program) (numbers : Numbers) (items : t.Items) (stop : Stop) → AreNumbered f numbers → small_items items ≡ f.items → Gives (pure.fits_items (has_name numbers) items) Is (Err stop) → IsResolved items f (Err stop)
+stops Is f numbers items NotOfForm are same given = λ small.
     lacks f numbers are (sym (ap (fits_items (has_name numbers)) same) ∙ sym (body_fits (has_name numbers) small) ∙ given)
-stops Is f numbers items NoMemory are same small given = tt
+stops Is f numbers items NoMemory are same given = tt

@@ -1,15 +1,59 @@
--- A small tree fits where the names of what it comes to pass.
-use Rattle.std.proofs.Common.{◌≡◌, refl, ap, ◌∙◌, ℕ, List, Bool}
+-- A tree that fits comes to what has only names that pass, and a small tree fits where these names pass.
+use Rattle.std.proofs.Common.{◌≡◌, refl, ap, ◌∙◌, ℕ, List, Bool, true, false, Some, None}
+use Rattle.lt_tree.specs.declared.expression.UnaryOp.TheVariants as prefix
 use Rattle.std.specs.Prelude.{◌&&◌}
 use Rattle.lt_tree.specs.Tree as t
-use Rattle.lt_tree.specs.SmallTree.{IsSmallExpression, a_name, a_constant, a_minus, a_negation, an_operation, AreSmallMarks, marks_end, marks_more, IsSmallTest, plain, behind_marks, IsSmallStatement, a_block, an_assignment, an_if, an_if_else, a_while, a_return, AreSmallItems, items_end, items_statement, items_label, IsSmallBody, body_items, body_local, tree_of, labels_of, test_of, small_statement, small_items}
+use Rattle.lt_tree.specs.SmallTree.{IsSmallExpression, a_name, a_constant, a_minus, a_negation, an_operation, AreSmallMarks, marks_end, marks_more, IsSmallTest, plain, behind_marks, IsSmallStatement, a_block, an_assignment, an_if, an_if_else, a_while, a_return, AreSmallItems, items_end, items_statement, items_label, IsSmallBody, body_items, body_local, tree_of, label_of, labels_of, test_of, evaluated, small_statement, small_items}
 use Rattle.lt_replay.specs.Resolving as pure
 use Rattle.lt_replay.proofs.FormFits as form
 
 both : {a b c d : Bool} → a ≡ c → b ≡ d → (a && b) ≡ (c && d)
 both {a} {b} {c} {d} p q = ap (λ x. x && b) p ∙ ap (λ x. c && x) q
 
+both_true : {a b c d : Bool} → (a ≡ true → c ≡ true) → (b ≡ true → d ≡ true) → (a && b) ≡ true → (c && d) ≡ true
+both_true {a = true} {d = d} p q is = ap (λ x. x && d) (p refl) ∙ q is
+both_true {a = false} p q is = cc
+
 module _ (has : List ℕ → Bool) where
+  expression_passes : (e : t.Expression) → pure.fits has e ≡ true → form.fits has (tree_of e) ≡ true
+  expression_passes (t.Name name) fit = fit
+  expression_passes (t.Unary prefix.Minus e) fit = expression_passes e fit
+  expression_passes (t.Unary prefix.Not e) fit = expression_passes e fit
+  expression_passes (t.Binary op left right) fit = both_true (expression_passes left) (expression_passes right) fit
+  expression_passes e fit = refl
+
+  mark_passes : (m : t.Mark) → pure.fits_mark has m ≡ true → form.fits has (label_of m).predicate ≡ true
+  mark_passes (t.mark predicate id tag t.no_bindings) fit = expression_passes predicate fit
+  mark_passes (t.mark predicate id tag (t.a_binding name value rest)) fit = cc
+
+  marks_pass : (marks : t.Marks) → pure.fits_marks has marks ≡ true → form.fits_labels has (labels_of marks) ≡ true
+  marks_pass t.no_marks fit = refl
+  marks_pass (t.a_mark first rest) fit = both_true (mark_passes first) (marks_pass rest) fit
+
+  test_passes : (e : t.Expression) → pure.fits_test has e ≡ true → form.fits_test has (test_of e) ≡ true
+  test_passes (t.Marked marks value) fit = both_true (marks_pass marks) (expression_passes value) fit
+  test_passes e fit = expression_passes e fit
+
+  evaluated_passes : (e : t.Expression) → pure.fits_evaluated has e ≡ true → form.fits_statement has (evaluated e) ≡ true
+  evaluated_passes (t.Assign None (t.Name target) value) fit = both_true (λ p. p) (expression_passes value) fit
+  evaluated_passes e fit = refl
+
+  mutual
+    statement_passes : (s : t.Statement) → pure.fits_statement has s ≡ true → form.fits_statement has (small_statement s) ≡ true
+    statement_passes (t.Compound items) fit = items_pass items fit
+    statement_passes (t.Evaluates e) fit = evaluated_passes e fit
+    statement_passes (t.If test body) fit = both_true (test_passes test) (statement_passes body) fit
+    statement_passes (t.IfElse test body other) fit = both_true (test_passes test) (both_true (statement_passes body) (statement_passes other)) fit
+    statement_passes (t.While test body) fit = both_true (test_passes test) (statement_passes body) fit
+    statement_passes (t.Return (Some e)) fit = expression_passes e fit
+    statement_passes s fit = refl
+
+    pub items_pass : (items : t.Items) → pure.fits_items has items ≡ true → form.fits_items has (small_items items) ≡ true
+    items_pass t.no_items fit = refl
+    items_pass (t.a_declaration first rest) fit = items_pass rest fit
+    items_pass (t.a_statement first rest) fit = both_true (statement_passes first) (items_pass rest) fit
+    items_pass (t.a_label first rest) fit = both_true (mark_passes first) (items_pass rest) fit
+
   expression_fits : {e : t.Expression} → IsSmallExpression e → pure.fits has e ≡ form.fits has (tree_of e)
   expression_fits a_name = refl
   expression_fits a_constant = refl

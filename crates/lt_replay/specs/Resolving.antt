@@ -7,7 +7,7 @@ use Rattle.lt_model.specs.declared.run.End.TheVariants as E
 use Rattle.lt_model.specs.State.{Bound}
 use Rattle.lt_tree.specs.declared.expression.UnaryOp.TheVariants as prefix
 use Rattle.lt_tree.specs.Tree as t
-use Rattle.lt_tree.specs.SmallTree.{Tree, Named, Number, Minus as minus, Not as negation, Binary as binary, Label, Test, Statement, Compound, Assigns, If as if_only, IfElse, While as while_loop, Return as return_of, Items, no_items, a_statement, a_mark, Program, labels_in, labels_in_statement}
+use Rattle.lt_tree.specs.SmallTree.{IsSmallBody, Tree, Named, Number, Minus as minus, Not as negation, Binary as binary, Label, Test, Statement, Compound, Assigns, If as if_only, IfElse, While as while_loop, Return as return_of, Items, no_items, a_statement, a_mark, Program, labels_in, labels_in_statement}
 use Rattle.lt_tree.specs.SmallMeaning.{object_of, run, has_true}
 use Rattle.lt_replay.specs.declared.code.Code.{Code}
 use Rattle.lt_tree.specs.declared.stop.Stop.{Stop}
@@ -133,11 +133,11 @@ pub record IsCodeOf (f : Program) (code : Code) : Type 0 where
   pub labels : code.labels ≡ length (labels_in f.items)
   pub items : steps_in code.items.items ≡ numbered_items (place_in (scope_of f)) 0 f.items
 
--- The code of a function, or what the function lacks.
-abbrev pub IsResolved : Program → Result Code Stop → Type 0
-IsResolved f (Ok code) = IsCodeOf f code
-IsResolved f (Err NotOfForm) = NamesFit f → IdsFit f → ⊥
-IsResolved f (Err NoMemory) = Unit {0}
+-- The code of a function, or what the function lacks if its body is a small one.
+abbrev pub IsResolved : t.Items → Program → Result Code Stop → Type 0
+IsResolved body f (Ok code) = IsCodeOf f code
+IsResolved body f (Err NotOfForm) = IsSmallBody body → NamesFit f → IdsFit f → ⊥
+IsResolved body f (Err NoMemory) = Unit {0}
 
 -- the parameters have the values that they are given, and 0 where none is left
 abbrev pub given : ℕ → List ℤ → List (Option ℤ)

@@ -2,7 +2,7 @@ ghost use Rattle.std.specs.Prelude.{◌≡◌, MatchBool, MatchOption, Contains,
 ghost use Rattle.lt_tree.specs.View.{expression_of, mark_of};
 ghost use Rattle.lt_tree.specs.Records.{marks_in};
 ghost use Rattle.lt_tree.specs.UnitView.{statement_of, items_in};
-ghost use Rattle.lt_tree.specs.SmallTree.{IsSmallBody, number_of as number_written, tree_of, label_of, labels_of, test_of, assigned, evaluated, small_statement, small_items, labels_in, labels_in_statement};
+ghost use Rattle.lt_tree.specs.SmallTree.{number_of as number_written, tree_of, label_of, labels_of, test_of, assigned, evaluated, small_statement, small_items, labels_in, labels_in_statement};
 ghost use Rattle.lt_replay.specs.Heading.{function_of};
 ghost use Rattle.lt_replay.specs.Code.{formula_of, spot_of, check_of, step_of, steps_in};
 ghost use Rattle.lt_replay.specs.Resolving.{numbered, numbered_label, numbered_labels, numbered_test, numbered_statement, numbered_items, ids_of, fits, fits_mark, fits_marks, fits_test, fits_assigned, fits_evaluated, fits_statement, fits_items, Gives, IsResolved};
@@ -81,7 +81,7 @@ fn ids_fit(alloc: Global, ids: &[u32]) -> Result<bool, AllocError>
 /// The code of a function. It isn't of the form if a name is declared twice or used and not declared, or if the numbers of
 /// its labels don't differ or aren't in range.
 pub fn resolve(alloc: Global, f: &Function<'_>) -> Result<Code, Stop>
-    ensures { IsSmallBody (items_in f.now.items.now) → IsResolved (function_of f.now) result }
+    ensures { IsResolved (items_in f.now.items.now) (function_of f.now) result }
 {
     let Some(numbers) = variables_of(alloc, f)? else {
         return Err(Stop::NotOfForm);

@@ -5,6 +5,7 @@ use Rattle.lt_outside.specs.Shelf.{Files}
 use Rattle.lt_replay.specs.First.{IsReplay, IsSmall, IsNoSmall, IsNoSuite, StopsAt}
 use Rattle.lt_replay.specs.declared.replay.FirstStop.TheVariants as first
 use Rattle.lt_input.specs.Suite.{IsSuite}
+use Rattle.lt_tree.specs.SmallTree.{program_of}
 use Rattle.ltest.specs.Words.{Plan}
 use Rattle.ltest.specs.Top.{IsDue, no_file, long_file, no_suite_file, long_suite_file, no_small_text, no_suite, replayed, IsRead, IsLong, AreRead, Gave, ReadEnds, Ends, PutEnds, IsText, IsOutside}
 use Rattle.ltest.specs.declared.status.Status.{Status}
@@ -140,25 +141,25 @@ at_no_small_text s q n (long_file l') = absurd (read_long q.file l')
 at_no_small_text s q n (no_suite_file r' e') = absurd (read_none q.suite_file e')
 at_no_small_text s q n (long_suite_file r' l') = absurd (read_long q.suite_file l')
 at_no_small_text s q n (no_small_text q' n') = refl
-at_no_small_text s q n (no_suite q' h') = absurd (n h'.f (subst (λ t. IsSmall t h'.f) (same_read q'.file q.file) h'.small))
-at_no_small_text s q n (replayed q' h') = absurd (n h'.f (subst (λ t. IsSmall t h'.f) (same_read q'.file q.file) h'.small))
+at_no_small_text s q n (no_suite q' h') = absurd (n h'.u (subst (λ t. IsSmall t h'.u) (same_read q'.file q.file) h'.small))
+at_no_small_text s q n (replayed q' h') = absurd (n h'.u (subst (λ t. IsSmall t h'.u) (same_read q'.file q.file) h'.small))
 
 at_no_suite : {files : Files} {plan : Plan} {text suite : List ℕ} (s : Status) → AreRead files plan text suite → IsNoSuite text suite → IsDue files plan s → s ≡ Refused (NotYet 2)
 at_no_suite s q h (no_file e') = absurd (read_none q.file e')
 at_no_suite s q h (long_file l') = absurd (read_long q.file l')
 at_no_suite s q h (no_suite_file r' e') = absurd (read_none q.suite_file e')
 at_no_suite s q h (long_suite_file r' l') = absurd (read_long q.suite_file l')
-at_no_suite s q h (no_small_text q' n') = absurd (n' h.f (subst (λ t. IsSmall t h.f) (same_read q.file q'.file) h.small))
+at_no_suite s q h (no_small_text q' n') = absurd (n' h.u (subst (λ t. IsSmall t h.u) (same_read q.file q'.file) h.small))
 at_no_suite s q h (no_suite q' h') = refl
-at_no_suite s q h (replayed q' h') = absurd (h.no_suite h'.f h'.cases (subst (λ t. IsSmall t h'.f) (same_read q'.file q.file) h'.small) (subst (λ t. IsSuite h'.f.params t h'.cases) (same_read q'.suite_file q.suite_file) h'.suite_is))
+at_no_suite s q h (replayed q' h') = absurd (h.no_suite h'.u h'.cases (subst (λ t. IsSmall t h'.u) (same_read q'.file q.file) h'.small) (subst (λ t. IsSuite (program_of h'.u).params t h'.cases) (same_read q'.suite_file q.suite_file) h'.suite_is))
 
 at_replayed : {files : Files} {plan : Plan} {text suite out : List ℕ} (s : Status) → AreRead files plan text suite → IsReplay text suite out → IsDue files plan s → s ≡ Done
 at_replayed s q h (no_file e') = absurd (read_none q.file e')
 at_replayed s q h (long_file l') = absurd (read_long q.file l')
 at_replayed s q h (no_suite_file r' e') = absurd (read_none q.suite_file e')
 at_replayed s q h (long_suite_file r' l') = absurd (read_long q.suite_file l')
-at_replayed s q h (no_small_text q' n') = absurd (n' h.f (subst (λ t. IsSmall t h.f) (same_read q.file q'.file) h.small))
-at_replayed s q h (no_suite q' h') = absurd (h'.no_suite h.f h.cases (subst (λ t. IsSmall t h.f) (same_read q.file q'.file) h.small) (subst (λ t. IsSuite h.f.params t h.cases) (same_read q.suite_file q'.suite_file) h.suite_is))
+at_replayed s q h (no_small_text q' n') = absurd (n' h.u (subst (λ t. IsSmall t h.u) (same_read q.file q'.file) h.small))
+at_replayed s q h (no_suite q' h') = absurd (h'.no_suite h.u h.cases (subst (λ t. IsSmall t h.u) (same_read q.file q'.file) h.small) (subst (λ t. IsSuite (program_of h.u).params t h.cases) (same_read q.suite_file q'.suite_file) h.suite_is))
 at_replayed s q h (replayed q' h') = refl
 
 -- No two answers are due.

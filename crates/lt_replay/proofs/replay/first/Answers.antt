@@ -13,9 +13,6 @@ use Rattle.lt_replay.specs.Resolving.{IsCodeOf}
 use Rattle.lt_replay.proofs.Plain.{table_plain}
 use Rattle.lt_replay.proofs.replay.first.Goals as goal
 
-pub measure-requires : goal.measure-requires
-measure-requires c = c.in-Ok-resolve.ensures (c.in-Ok-heading.ensures.1 (c.trees_are_small.ensures c.args.text.now (unit_of c.in-Ok.unit) c.in-Ok.ensures))
-
 pub write_cover-requires : goal.write_cover-requires
 write_cover-requires c =
     let u = unit_of c.in-Ok.unit in
@@ -41,14 +38,15 @@ pub returns-in-Err-NotOfForm-resolve-clause-stops : goal.returns-in-Err-NotOfFor
 returns-in-Err-NotOfForm-resolve-clause-stops c =
     let u = unit_of c.in-Ok.unit in
     let same : function_of c.in-Ok-heading.f ≡ program_of u = c.in-Ok-heading.ensures.0 in
-    let none = rw c.in-Err-NotOfForm-resolve.field-0-is at (c.in-Err-NotOfForm-resolve.ensures (c.in-Ok-heading.ensures.1 (c.trees_are_small.ensures c.args.text.now u c.in-Ok.ensures))) in
+    let none = rw c.in-Err-NotOfForm-resolve.field-0-is at c.in-Err-NotOfForm-resolve.ensures in
+    let small_body = c.in-Ok-heading.ensures.1 (c.trees_are_small.ensures c.args.text.now u c.in-Ok.ensures) in
     inl (
       refl,
       λ v small.
           let one : v ≡ u = c.one_function.ensures c.args.text.now v u small.parsed c.in-Ok.ensures in
           let names : NamesFit (program_of u) = subst (λ (w : UnitTree). NamesFit (program_of w)) one small.names in
           let ids : IdsFit (program_of u) = subst (λ (w : UnitTree). IdsFit (program_of w)) one small.ids in
-          none (subst NamesFit (sym same) names) (subst IdsFit (sym same) ids),
+          none small_body (subst NamesFit (sym same) names) (subst IdsFit (sym same) ids),
     )
 
 pub returns-in-Err-NotOfForm-suite_of-clause-stops : goal.returns-in-Err-NotOfForm-suite_of-clause-stops
@@ -56,7 +54,7 @@ returns-in-Err-NotOfForm-suite_of-clause-stops c =
     let u = unit_of c.in-Ok.unit in
     let f = c.in-Ok-heading.f in
     let same : function_of f ≡ program_of u = c.in-Ok-heading.ensures.0 in
-    let code : IsCodeOf (function_of f) c.in-Ok-resolve.code = c.in-Ok-resolve.ensures (c.in-Ok-heading.ensures.1 (c.trees_are_small.ensures c.args.text.now u c.in-Ok.ensures)) in
+    let code : IsCodeOf (function_of f) c.in-Ok-resolve.code = c.in-Ok-resolve.ensures in
     let none = rw (c.in-Err-NotOfForm-suite_of.field-0-is, c.as_slice.ensures.value) at c.in-Err-NotOfForm-suite_of.ensures in
     inr (
       refl,
@@ -75,7 +73,7 @@ returns-in-Ok-write_cover-clause-ok c =
     let u = unit_of c.in-Ok.unit in
     let f = c.in-Ok-heading.f in
     let same : function_of f ≡ program_of u = c.in-Ok-heading.ensures.0 in
-    let code : IsCodeOf (function_of f) c.in-Ok-resolve.code = c.in-Ok-resolve.ensures (c.in-Ok-heading.ensures.1 (c.trees_are_small.ensures c.args.text.now u c.in-Ok.ensures)) in
+    let code : IsCodeOf (function_of f) c.in-Ok-resolve.code = c.in-Ok-resolve.ensures in
     let cases = cases_of c.in-Ok-suite_of.tests.items in
     let suite : IsSuite f.params.items c.args.suite.now cases = rw c.as_slice.ensures.value at c.in-Ok-suite_of.ensures in
     let coverage = c.in-Ok-measure.coverage in

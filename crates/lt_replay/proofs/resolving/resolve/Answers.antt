@@ -13,16 +13,16 @@ use Rattle.lt_replay.proofs.FitLemmas.{known_names, stops}
 use Rattle.lt_replay.proofs.resolving.resolve.Goals as goal
 
 pub returns-in_err-items : goal.returns-in_err-items
-returns-in_err-items c = λ small.
+returns-in_err-items c =
     let f = function_of c.args.f.now in
     let body = items_in c.args.f.now.items.now in
     let numbered : AreNumbered f c.in-Some.numbers = rw c.in-Some.is at c.in_ok-numbers.ensures in
     let same : c.from_residual-in_err-items.result ≡ Err c.in_err-items.field-0.0 = search rules in
     let Is : Vec Command Global → Type 0 = λ commands. steps_in commands.items ≡ numbered_items (number_by c.in-Some.numbers) (length c.new-ids.result.items) (small_items body) in
-    subst (IsResolved f) (sym same) (stops Is f c.in-Some.numbers body c.in_err-items.field-0.0 numbered refl small c.in_err-items.ensures.is)
+    subst (IsResolved body f) (sym same) (stops Is f c.in-Some.numbers body c.in_err-items.field-0.0 numbered refl c.in_err-items.ensures.is)
 
 pub returns : goal.returns
-returns c = λ small.
+returns c =
     let f = function_of c.args.f.now in
     let body = items_in c.args.f.now.items.now in
     let numbers = c.in-Some.numbers in
@@ -34,7 +34,7 @@ returns c = λ small.
     let ids : FitIds (ids_in f) = subst FitIds (c.as_slice.ensures.value ∙ all) (c.in_ok-ids_fit.ensures.0 c.if-not-branch.false) in
     let items : steps_in c.in_ok-items.items.items ≡ numbered_items (number_by numbers) 0 f.items = rw none at given.is.1 in
     record {
-      names = record { differ = numbered.differ; known = known_names f numbers body numbered refl small fit };
+      names = record { differ = numbered.differ; known = known_names f numbers body numbered refl fit };
       ids = record { differ = ids.0; in_range = ids.1 };
       params = omega (arith, c.len.ensures, c.args.f.now.params.ok.0);
       locals = omega (arith, c.len-2.ensures, c.args.f.now.locals.ok.0);
