@@ -1,0 +1,159 @@
+-- Values and footprints, C11 5.1.2.3 and 6.5: what the evaluation of an expression may meet. A number and an address are a content; a struct is
+-- said by the address where it lies, and its cells are read where they are copied; where there is no value, the content is unset.
+use Rattle.std.specs.Prelude.{ℕ, suc, ℤ, pos, negsuc, ◌+◌, ◌*ℤ◌, List, [], ◌∷◌, ◌++◌, Bool, true, false, not, Option, Some, None, Ok, Err, if◌then◌else◌}
+use Rattle.std.specs.Ordering.{int_eq}
+use Rattle.lt_model.specs.declared.cell.Address.{Address}
+use Rattle.lt_model.specs.declared.cell.CellType.{CellType}
+use Rattle.lt_model.specs.declared.cell.Content.{Content}
+use Rattle.lt_model.specs.declared.cell.Content.TheVariants as content
+use Rattle.lt_model.specs.declared.cell.Shape.{Shape}
+use Rattle.lt_model.specs.declared.cell.ShapeCell.{ShapeCell}
+use Rattle.lt_model.specs.declared.scalar.DataModel.{DataModel}
+use Rattle.lt_model.specs.declared.scalar.Scalar.{Scalar}
+use Rattle.lt_model.specs.declared.operator.Op.{Op}
+use Rattle.lt_model.specs.declared.operator.Op.TheVariants as O
+use Rattle.lt_model.specs.declared.operator.Ub.TheVariants as U
+use Rattle.lt_model.specs.Operators.{truth, value_of}
+use Rattle.lt_model.specs.Memory.{Memory, object_at, held_at, offset_of, load, store, copy_struct, checked_address, then_result, move_by, compare, subtract, not_null}
+use Rattle.lt_model.specs.State.{CellName, Footprint, Valued, clash, joined, meets, untouched}
+use Rattle.lt_ir.specs.Running.{parameter, place, Step, gives, defined, absurdity, asked, changed, ◌>>=◌, ◌>>◌}
+
+abbrev pub valued : {A : Type 0} → A → Footprint → Valued A
+valued a footprint = record { value = a; footprint = footprint }
+
+-- ---- the use of a value: there has to be one
+
+abbrev pub number_in : Content → Step ℤ
+number_in content.Unset = defined (Err U.NoValue)
+number_in (content.Number z) = gives z
+number_in (content.Address a) = absurdity
+
+abbrev pub address_in : Content → Step (Option Address)
+address_in content.Unset = defined (Err U.NoValue)
+address_in (content.Number z) = absurdity
+address_in (content.Address a) = gives a
+
+abbrev pub used : Content → Step Content
+used content.Unset = defined (Err U.NoValue)
+used c = gives c
+
+abbrev pub is_some_address : Option Address → Bool
+is_some_address None = false
+is_some_address (Some a) = true
+
+-- whether a scalar isn't 0 or null; the address of an ended object can't be tested
+abbrev pub truth_in : Content → Step Bool
+truth_in content.Unset = defined (Err U.NoValue)
+truth_in (content.Number z) = gives (not (int_eq z (pos 0)))
+truth_in (content.Address a) = asked (λ memory. checked_address memory a) >>= (λ _. gives (is_some_address a))
+
+abbrev pub of_truth : Bool → Content
+of_truth b = content.Number (truth b)
+
+-- ---- footprints
+
+-- two unsequenced parts
+abbrev pub apart : Footprint → Footprint → Step Footprint
+apart p q = if clash p q then defined (Err U.Unsequenced) else gives (joined p q)
+
+abbrev pub cell_at : Option Address → ℕ → List CellName
+cell_at None offset = []
+cell_at (Some a) offset = record { block = a.block; offset = a.offset + offset } ∷ []
+
+-- the cells of an object that lies there
+abbrev pub cells_there : List ShapeCell → Option Address → List CellName
+cells_there [] place = []
+cells_there (c ∷ cs) place = cell_at place c.offset ++ cells_there cs place
+
+abbrev pub reads : List CellName → Footprint
+reads cells = record { reads = cells; settled = []; pending = [] }
+
+abbrev pub writes : List CellName → Footprint
+writes cells = record { reads = []; settled = []; pending = cells }
+
+-- whether an access of this type meets a cell there
+abbrev pub is_met : Memory → Option Address → CellType → Bool
+is_met memory place ty = elim (then_result (object_at memory place) (λ block. held_at block.cells (offset_of place) ty)) [ Ok held ↦ true | Err kind ↦ false ]
+
+-- the cell that a store would write, if there is one
+abbrev pub target : CellType → Option Address → Memory → List CellName
+target ty place memory = if is_met memory place ty then cell_at place 0 else []
+
+-- The target of an assignment, `++` or `--` clashes with the pending writes of its operands.
+abbrev pub free_target : List CellName → Footprint → Step (Unit {0})
+free_target cells operands = if meets cells operands.pending then defined (Err U.Unsequenced) else gives tt
+
+-- ---- what is done to memory, with the footprint of it
+
+-- a scalar is read; the footprint before is that of its place
+abbrev pub loaded : DataModel → CellType → Valued (Option Address) → Step (Valued Content)
+loaded model ty p = asked (λ memory. load model memory p.value ty) >>= (λ c. gives (valued c (joined p.footprint (reads (cell_at p.value 0)))))
+
+-- A scalar is stored: the clash of its target comes before the store's own undefined behaviour. The footprint is that of the operands.
+abbrev pub stored : DataModel → CellType → Option Address → Content → Footprint → Step Footprint
+stored model ty place c operands at =
+    (free_target cells operands >> (changed (λ memory. store model memory place ty c) >> gives (joined operands (writes cells)))) at
+  where
+    cells : List CellName
+    cells = target ty place at.memory
+
+-- a struct is copied
+abbrev pub copied : DataModel → Shape → Option Address → Option Address → Footprint → Step Footprint
+copied model shape place from operands =
+    free_target (cells_there shape.cells place) operands
+    >> (changed (λ memory. copy_struct model memory place from shape) >> gives (joined operands (writes (cells_there shape.cells place))))
+
+-- the cells of a struct are read that lies there
+abbrev pub with_reads : Shape → Valued Content → Step Footprint
+with_reads shape x = address_in x.value >>= (λ from. gives (joined x.footprint (reads (cells_there shape.cells from))))
+
+-- ---- operators
+
+abbrev pub signed_count : Op → ℤ → ℤ
+signed_count O.Sub z = negsuc 0 *ℤ z
+signed_count op z = z
+
+-- a pointer moved by a number of elements, C11 6.5.6
+abbrev pub moved : Op → ℕ → Content → Content → Step (Option Address)
+moved op size pointer count = do
+  p ← address_in pointer
+  n ← number_in count
+  asked (λ memory. move_by memory p (signed_count op n) size)
+
+-- the address of a member: null has none
+abbrev pub member_at : ℕ → Option Address → Step (Option Address)
+member_at offset place = asked (λ memory. then_result (not_null place) (λ _. move_by memory place (pos 1) offset))
+
+abbrev pub applied : DataModel → Op → Scalar → Content → Content → Step ℤ
+applied model op s left right = do
+  a ← number_in left
+  b ← number_in right
+  defined (value_of model op s a b)
+
+abbrev pub counted : ℕ → Content → Content → Step ℤ
+counted size left right = do
+  a ← address_in left
+  b ← address_in right
+  asked (λ memory. subtract memory a b size)
+
+abbrev pub compared : Op → Content → Content → Step Bool
+compared op left right = do
+  a ← address_in left
+  b ← address_in right
+  asked (λ memory. compare memory op a b)
+
+-- ---- the values of parameters, C11 6.5.2.2
+
+-- A parameter is a scalar: its one cell gets the value.
+abbrev pub store_one : DataModel → ℕ → List ShapeCell → Content → Step (Unit {0})
+store_one model k [] c = absurdity
+store_one model k (cell ∷ cells) c = do
+  it ← used c
+  p ← place (parameter k)
+  stored model cell.ty p it untouched
+  gives tt
+
+-- the values of arguments go to the parameters, from one on
+abbrev pub store_parameters : DataModel → ℕ → List Shape → List Content → Step (Unit {0})
+store_parameters model k (shape ∷ shapes) (c ∷ cs) = store_one model k shape.cells c >> store_parameters model (suc k) shapes cs
+store_parameters model k shapes cs = gives tt

@@ -1,0 +1,104 @@
+-- How a run begins: the objects that are there from the start, the named objects of its input, the parameters of the entry, and what the input
+-- sets in their cells.
+use Rattle.std.specs.Prelude.{ℕ, suc, ◌==◌, List, [], ◌∷◌, ◌++◌, true, Option, Some, None, if◌then◌else◌, slice_get, slice_set}
+use Rattle.std.specs.Str.{bytes_eq}
+use Rattle.lt_model.specs.declared.cell.Address.{Address}
+use Rattle.lt_model.specs.declared.cell.Content.{Content}
+use Rattle.lt_model.specs.declared.cell.Content.TheVariants as content
+use Rattle.lt_model.specs.declared.cell.Shape.{Shape}
+use Rattle.lt_model.specs.declared.cell.StoredCell.{StoredCell}
+use Rattle.lt_model.specs.declared.input.Place.{Place}
+use Rattle.lt_model.specs.declared.input.CellSet.{CellSet}
+use Rattle.lt_model.specs.declared.input.CellSet.TheVariants as cellset
+use Rattle.lt_model.specs.declared.input.StubSet.{StubSet}
+use Rattle.lt_model.specs.declared.input.BlockIn.{BlockIn}
+use Rattle.lt_model.specs.declared.input.Input.{Input}
+use Rattle.lt_model.specs.Memory.{Memory, Block, new_block}
+use Rattle.lt_ir.specs.Running.{parameter, Bound, Left, At, Gives, Step, gives, ◌>>=◌, ◌>>◌, Initial, start_statics, placed, begins, block_among}
+
+-- a name of the input's files, and the block that it names
+pub record Root : Type 0 where
+  pub name : List ℕ
+  pub block : ℕ
+
+abbrev pub root_among : List Root → List ℕ → Option ℕ
+root_among [] name = None
+root_among (root ∷ roots) name = if bytes_eq root.name name then Some root.block else root_among roots name
+
+-- the address that a place of the input's files names
+abbrev pub address_named : List Root → Place → Option Address
+address_named roots p = elim (root_among roots p.root) [ None ↦ None | Some block ↦ Some (record { block = block; offset = p.offset }) ]
+
+abbrev pub point_named : List Root → Option Place → Option Address
+point_named roots None = None
+point_named roots (Some p) = address_named roots p
+
+-- ---- cells that are set
+
+abbrev pub set_in : ℕ → Content → List StoredCell → List StoredCell
+set_in offset c [] = []
+set_in offset c (it ∷ cells) = if it.offset == offset then record it { holds = c } ∷ cells else it ∷ set_in offset c cells
+
+abbrev pub set_block : Memory → ℕ → ℕ → Content → Option Block → Memory
+set_block memory block offset c None = memory
+set_block memory block offset c (Some it) = slice_set memory block (record it { cells = set_in offset c it.cells })
+
+-- the cell at an address, which may be one that the program can't write
+abbrev pub set_at : Option Address → Content → Memory → Memory
+set_at None c memory = memory
+set_at (Some a) c memory = set_block memory a.block a.offset c (slice_get memory a.block)
+
+abbrev pub set_one : List Root → CellSet → Memory → Memory
+set_one roots (cellset.Number p z) memory = set_at (address_named roots p) (content.Number z) memory
+set_one roots (cellset.Point p target) memory = set_at (address_named roots p) (content.Address (point_named roots target)) memory
+
+abbrev pub set_all : List Root → List CellSet → Memory → Memory
+set_all roots [] memory = memory
+set_all roots (it ∷ its) memory = set_all roots its (set_one roots it memory)
+
+abbrev pub sets : List Root → List CellSet → Step (Unit {0})
+sets roots its at = Gives tt (record at { memory = set_all roots its at.memory })
+
+-- ---- named objects and parameters
+
+-- the named objects of the input, which are zeroed and can be written
+abbrev pub start_blocks : List BlockIn → Step (List Root)
+start_blocks [] = gives []
+start_blocks (it ∷ its) = do
+  block ← placed (new_block it.shape true true)
+  roots ← start_blocks its
+  gives (record { name = it.name; block = block } ∷ roots)
+
+-- the entry's parameters, which are zeroed
+abbrev pub start_parameters : ℕ → List Shape → Step (Unit {0})
+start_parameters k [] = gives tt
+start_parameters k (shape ∷ shapes) = begins (parameter k) shape true >> start_parameters (suc k) shapes
+
+abbrev pub named : List ℕ → Option ℕ → List Root → List Root
+named name None roots = roots
+named name (Some block) roots = record { name = name; block = block } ∷ roots
+
+-- the names of the parameters, of the named objects, and of the objects that are there from the start, in this order
+abbrev pub parameter_roots : List Bound → ℕ → List (List ℕ) → List Root → List Root
+parameter_roots scope k [] roots = roots
+parameter_roots scope k (name ∷ names) roots = named name (block_among scope (parameter k)) (parameter_roots scope (suc k) names roots)
+
+abbrev pub static_roots : ℕ → List Initial → List Root
+static_roots k [] = []
+static_roots k (it ∷ its) = record { name = it.name; block = k } ∷ static_roots (suc k) its
+
+abbrev pub lefts_of : List StubSet → List Left
+lefts_of [] = []
+lefts_of (it ∷ its) = record { stub = it.name; values = it.values } ∷ lefts_of its
+
+-- where a run stands before anything is there
+abbrev pub nowhere : Input → ℕ → At
+nowhere input ticks = record { scope = []; memory = []; ticks = ticks; depth = 1; stubs = lefts_of input.stubs; marks = [] }
+
+-- all that is there when the entry's body begins
+abbrev pub started : List Initial → List (List ℕ) → List Shape → Input → Step (Unit {0})
+started statics names shapes input = do
+  start_statics 0 statics
+  roots ← start_blocks input.blocks
+  start_parameters 0 shapes
+  λ at. sets (parameter_roots at.scope 0 names (roots ++ static_roots 0 statics)) input.cells at
