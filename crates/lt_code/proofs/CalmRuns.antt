@@ -1,0 +1,154 @@
+-- What entering a function and starting a run leave as it is: the scope behind the parameters, and no more ticks.
+use Rattle.std.proofs.Common.{◌≡◌, ℕ, suc, ◌+◌, ◌≤◌, List, [], ◌∷◌, length, Bool, true, false, refl, ap, ◌∙◌, arith}
+use Rattle.std.specs.Prelude.{if◌then◌else◌, nat_eq, nat_le, ◌++◌}
+use Rattle.lt_model.specs.declared.cell.Content.{Content}
+use Rattle.lt_model.specs.declared.cell.Shape.{Shape}
+use Rattle.lt_model.specs.declared.cell.ShapeCell.{ShapeCell}
+use Rattle.lt_model.specs.declared.scalar.DataModel.{DataModel}
+use Rattle.lt_model.specs.declared.input.BlockIn.{BlockIn}
+use Rattle.lt_model.specs.declared.input.Input.{Input}
+use Rattle.lt_model.specs.declared.run.End.{End as RunEnd}
+use Rattle.lt_model.specs.Memory.{Block, new_block, cells_alive, most_cells}
+use Rattle.lt_model.specs.State.{untouched}
+use Rattle.lt_tree.specs.Typing.Programs.{Program}
+use Rattle.lt_ir.specs.Running.{Variable, parameter, static, Bound, At, Answer, Gives, Ends, Step, ◌>>=◌, ◌>>◌, gives, place, begins, without, statics_of, is_static, begin_parameters, bound_to, Initial, placed, block_of_initial, start_statics}
+use Rattle.lt_ir.specs.Evaluation.{used, stored, store_one, store_parameters}
+use Rattle.lt_ir.specs.Starting.{Root, started, start_blocks, start_parameters, parameter_roots, static_roots, sets}
+use Rattle.lt_code.specs.Meaning.Expressions.{shape}
+use Rattle.lt_code.specs.Meaning.Statements.{type_of_object}
+use Rattle.lt_code.specs.Meaning.Runs.{shapes_of}
+use Rattle.lt_ir.specs.Graph.{are_static}
+use Rattle.lt_code.proofs.Finishing.{Calm, later_same}
+use Rattle.lt_code.proofs.CalmObjects.{Holds, calm_bind, calm_used, calm_place, calm_stored, begins_holds, Began}
+
+-- ---- steps one behind the other
+
+pub holds_bind : {A B : Type 0} (P : A → At → Type 0) (Q : B → At → Type 0) (m : Step A) (f : A → Step B) (at : At) → Holds P (m at) → ((a : A) (at1 : At) → P a at1 → Holds Q (f a at1)) → Holds Q ((m >>= f) at)
+holds_bind P Q m f at h hf = by_answer (m at) h
+  where
+    by_answer : (a : Answer _) → Holds P a → Holds Q (elim (a) [ Gives x at1 ↦ f x at1 | Ends end at1 ↦ Ends end at1 ])
+    by_answer (Gives x at1) h = hf x at1 h
+    by_answer (Ends end at1) h = tt
+
+pub bind_assoc : {A B C : Type 0} (m : Step A) (f : A → Step B) (g : B → Step C) (at : At) → ((m >>= f) >>= g) at ≡ (m >>= (λ a. f a >>= g)) at
+bind_assoc {A} {B} {C} m f g at = by_answer (m at)
+  where
+    by_answer : (a : Answer A) → elim (elim (a) as (λ q. Answer B) [ Gives x at1 ↦ f x at1 | Ends end at1 ↦ Ends end at1 ]) as (λ q. Answer C) [ Gives y at2 ↦ g y at2 | Ends end at2 ↦ Ends end at2 ] ≡ elim (a) as (λ q. Answer C) [ Gives x at1 ↦ (f x >>= g) at1 | Ends end at1 ↦ Ends end at1 ]
+    by_answer (Gives x at1) = refl
+    by_answer (Ends end at1) = refl
+
+pub bind_same : {A B : Type 0} (m : Step A) (f g : A → Step B) → ((a : A) (at : At) → f a at ≡ g a at) → (at : At) → (m >>= f) at ≡ (m >>= g) at
+bind_same {A} {B} m f g h at = by_answer (m at)
+  where
+    by_answer : (a : Answer A) → elim (a) as (λ q. Answer B) [ Gives x at1 ↦ f x at1 | Ends end at1 ↦ Ends end at1 ] ≡ elim (a) as (λ q. Answer B) [ Gives x at1 ↦ g x at1 | Ends end at1 ↦ Ends end at1 ]
+    by_answer (Gives x at1) = h x at1
+    by_answer (Ends end at1) = refl
+
+-- ---- the scope of a body
+
+-- parameters in scope, from one on, before others
+abbrev pub begun : ℕ → List ℕ → List Bound → List Bound
+begun k [] scope = scope
+begun k (b ∷ bs) scope = begun (suc k) bs (record { variable = parameter k; block = b } ∷ scope)
+
+-- parameters that leave scope
+abbrev pub dropped : ℕ → List ℕ → List Bound → List Bound
+dropped k [] scope = scope
+dropped k (p ∷ ps) scope = without (dropped (suc k) ps scope) (parameter k)
+
+same : (k : ℕ) → nat_eq k k ≡ true
+same k = grind arith
+
+pub dropped_begun : (k : ℕ) (bs ps : List ℕ) (scope : List Bound) → length bs ≡ length ps → dropped k ps (begun k bs scope) ≡ scope
+dropped_begun k [] [] scope e = refl
+dropped_begun k [] (p ∷ ps) scope e = absurd (omega arith)
+dropped_begun k (b ∷ bs) [] scope e = absurd (omega arith)
+dropped_begun k (b ∷ bs) (p ∷ ps) scope e =
+    let bound : Bound = record { variable = parameter k; block = b } in
+    ap (λ l. without l (parameter k)) (dropped_begun (suc k) bs ps (bound ∷ scope) (omega arith)) ∙ ap (λ t. if t then scope else bound ∷ without scope (parameter k)) (same k)
+
+pub statics_are_static : (scope : List Bound) → are_static (statics_of scope) ≡ true
+statics_are_static [] = refl
+statics_are_static (bound ∷ scope) = by_kind (is_static bound.variable) refl (statics_are_static scope)
+  where
+    by_kind : (b : Bool) → is_static bound.variable ≡ b → are_static (statics_of scope) ≡ true → are_static (if b then bound ∷ statics_of scope else statics_of scope) ≡ true
+    by_kind true e h = ap (λ t. if t then are_static (statics_of scope) else false) e ∙ h
+    by_kind false e h = h
+
+-- the parameters have begun
+abbrev pub Begun : ℕ → List ℕ → At → Unit {0} → At → Type 0
+Begun k ps at u at1 = (bs : List ℕ) × (length bs ≡ length ps) × (at1.scope ≡ begun k bs at.scope) × (at1.ticks ≤ at.ticks) × (at1.depth ≡ at.depth)
+
+pub begin_holds : (program : Program) (k : ℕ) (ps : List ℕ) (at : At) → Holds (Begun k ps at) (begin_parameters k (shapes_of program ps) at)
+begin_holds program k [] at = ([], refl, refl, omega arith, refl)
+begin_holds program k (p ∷ ps) at =
+    holds_bind (Began at (parameter k)) (Begun k (p ∷ ps) at) (begins (parameter k) (shape program (type_of_object program p)) false) (λ u. begin_parameters (suc k) (shapes_of program ps)) at (begins_holds _ _ _ at) (λ u at1 began. more at1 began.0 began.1 began.2 began.3 (begin_parameters (suc k) (shapes_of program ps) at1) (begin_holds program (suc k) ps at1))
+  where
+    more : (at1 : At) (b : ℕ) → at1.ticks ≤ at.ticks → at1.scope ≡ record { variable = parameter k; block = b } ∷ at.scope → at1.depth ≡ at.depth → (a : Answer (Unit {0})) → Holds (Begun (suc k) ps at1) a → Holds (Begun k (p ∷ ps) at) a
+    more at1 b t e d (Gives u at2) h = (b ∷ h.0, ap suc h.1, h.2 ∙ ap (begun (suc k) h.0) e, omega (arith, h.3), h.4 ∙ d)
+    more at1 b t e d (Ends end at2) h = tt
+
+-- ---- the values of parameters
+
+calm_one : (model : DataModel) (k : ℕ) (cells : List ShapeCell) (c : Content) → Calm (store_one model k cells c)
+calm_one model k [] c at = tt
+calm_one model k (cell ∷ cells) c at =
+    calm_bind (used c) (λ it. place (parameter k) >>= (λ a. stored model cell.ty a it untouched >> gives (tt {0}))) (calm_used c) (λ it.
+    calm_bind (place (parameter k)) (λ a. stored model cell.ty a it untouched >> gives (tt {0})) (calm_place (parameter k)) (λ a.
+    calm_bind (stored model cell.ty a it untouched) (λ u. gives (tt {0})) (calm_stored model cell.ty a it untouched) (λ u at1. later_same at1))) at
+
+pub calm_parameters : (model : DataModel) (k : ℕ) (shapes : List Shape) (xs : List Content) → Calm (store_parameters model k shapes xs)
+calm_parameters model k [] xs at = later_same at
+calm_parameters model k (shape ∷ shapes) [] at = later_same at
+calm_parameters model k (shape ∷ shapes) (c ∷ cs) at =
+    calm_bind (store_one model k shape.cells c) (λ u. store_parameters model (suc k) shapes cs) (calm_one model k shape.cells c) (λ u. calm_parameters model (suc k) shapes cs) at
+
+-- ---- a run that starts
+
+abbrev pub Slow : {A : Type 0} → Step A → Type 0
+Slow m = (at : At) → Holds (λ a at1. at1.ticks ≤ at.ticks) (m at)
+
+slow_bind : {A B : Type 0} (m : Step A) (f : A → Step B) → Slow m → ((a : A) → Slow (f a)) → Slow (m >>= f)
+slow_bind {A} {B} m f hm hf at = holds_bind (λ a at1. at1.ticks ≤ at.ticks) (λ b at2. at2.ticks ≤ at.ticks) m f at (hm at) (λ a at1 le. fewer at1 le (f a at1) (hf a at1))
+  where
+    fewer : (at1 : At) → at1.ticks ≤ at.ticks → (a : Answer B) → Holds (λ a at2. at2.ticks ≤ at1.ticks) a → Holds (λ a at2. at2.ticks ≤ at.ticks) a
+    fewer at1 le (Gives b at2) h = omega arith
+    fewer at1 le (Ends end at2) h = tt
+
+slow_placed : (block : Block) → Slow (placed block)
+slow_placed block at = by_room (nat_le (cells_alive at.memory + length block.cells) most_cells)
+  where
+    by_room : (b : Bool) → Holds (λ a at1. at1.ticks ≤ at.ticks) (if b then Gives (length at.memory) (record at { memory = at.memory ++ block ∷ [] }) else Ends RunEnd.Cells at)
+    by_room true = omega arith
+    by_room false = tt
+
+slow_bound : (v : Variable) (b : ℕ) → Slow (bound_to v b)
+slow_bound v b at = omega arith
+
+slow_statics : (k : ℕ) (its : List Initial) → Slow (start_statics k its)
+slow_statics k [] at = omega arith
+slow_statics k (it ∷ its) at =
+    slow_bind (placed (block_of_initial it) >>= bound_to (static k)) (λ u. start_statics (suc k) its) (slow_bind (placed (block_of_initial it)) (bound_to (static k)) (slow_placed (block_of_initial it)) (slow_bound (static k))) (λ u. slow_statics (suc k) its) at
+
+slow_blocks : (its : List BlockIn) → Slow (start_blocks its)
+slow_blocks [] at = omega arith
+slow_blocks (it ∷ its) at =
+    slow_bind (placed (new_block it.shape true true)) (λ b. start_blocks its >>= (λ roots. gives (record { name = it.name; block = b } ∷ roots))) (slow_placed (new_block it.shape true true)) (λ b. slow_bind (start_blocks its) (λ roots. gives (record { name = it.name; block = b } ∷ roots)) (slow_blocks its) (λ roots at. omega arith)) at
+
+slow_begins : (v : Variable) (sh : Shape) (z : Bool) → Slow (begins v sh z)
+slow_begins v sh z at = only (begins v sh z at) (begins_holds v sh z at)
+  where
+    only : (a : Answer (Unit {0})) → Holds (Began at v) a → Holds (λ u at1. at1.ticks ≤ at.ticks) a
+    only (Gives u at1) h = h.1
+    only (Ends end at1) h = tt
+
+slow_parameters : (k : ℕ) (shapes : List Shape) → Slow (start_parameters k shapes)
+slow_parameters k [] at = omega arith
+slow_parameters k (sh ∷ shs) at = slow_bind (begins (parameter k) sh true) (λ u. start_parameters (suc k) shs) (slow_begins (parameter k) sh true) (λ u. slow_parameters (suc k) shs) at
+
+pub slow_started : (statics : List Initial) (names : List (List ℕ)) (shapes : List Shape) (input : Input) → Slow (started statics names shapes input)
+slow_started statics names shapes input =
+    let last : List Root → Step (Unit {0}) = λ roots at. sets (parameter_roots at.scope 0 names (roots ++ static_roots 0 statics)) input.cells at in
+    slow_bind (start_statics 0 statics) (λ u. start_blocks input.blocks >>= (λ roots. start_parameters 0 shapes >> last roots)) (slow_statics 0 statics) (λ u.
+    slow_bind (start_blocks input.blocks) (λ roots. start_parameters 0 shapes >> last roots) (slow_blocks input.blocks) (λ roots.
+    slow_bind (start_parameters 0 shapes) (λ u. last roots) (slow_parameters 0 shapes) (λ u at. omega arith)))

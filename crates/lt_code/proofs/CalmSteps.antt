@@ -1,0 +1,180 @@
+-- Each primitive gives no ticks back, and begins and ends nothing.
+use Rattle.std.proofs.Common.{ℕ, zero, suc, ◌≤◌, ℤ, pos, List, ◌∷◌, Option, Some, None, Result, Ok, Err, Bool, true, false, if◌then◌else◌, refl, arith}
+use Rattle.lt_model.specs.declared.cell.Address.{Address}
+use Rattle.lt_model.specs.declared.cell.CellType.{CellType}
+use Rattle.lt_model.specs.declared.cell.Content.{Content}
+use Rattle.lt_model.specs.declared.cell.Content.TheVariants as content
+use Rattle.lt_model.specs.declared.cell.Shape.{Shape}
+use Rattle.lt_model.specs.declared.scalar.DataModel.{DataModel}
+use Rattle.lt_model.specs.declared.scalar.Scalar.{Scalar}
+use Rattle.lt_model.specs.declared.operator.Op.{Op}
+use Rattle.lt_model.specs.declared.operator.Ub.{Ub}
+use Rattle.lt_model.specs.declared.operator.Ub.TheVariants.{Unsequenced}
+use Rattle.lt_model.specs.declared.run.End.{End}
+use Rattle.lt_model.specs.declared.run.End.TheVariants.{Undefined}
+use Rattle.lt_model.specs.Operators.{value_of}
+use Rattle.lt_model.specs.Memory.{Memory, load, store, copy_struct, checked_address, then_result, move_by, compare, subtract, not_null}
+use Rattle.lt_model.specs.State.{CellName, Footprint, Valued, clash, joined, meets}
+use Rattle.lt_ir.specs.Running.{Variable, Left, At, Answer, Gives, Ends, Step, gives, over, defined, absurdity, asked, changed, ◌>>=◌, ◌>>◌, spent, tick, living_block, with_block, place, took, next_value, stub_value}
+use Rattle.lt_ir.specs.Evaluation.{number_in, address_in, used, is_some_address, truth_in, apart, cells_there, writes, target, free_target, loaded, stored, copied, with_reads, signed_count, moved, member_at, applied, counted, compared}
+use Rattle.lt_ir.specs.Graph.{How, to_integer, to_truth, to_pointer, to_void, as_it_is, Register, register_at, had, content_at, contents_from, convert_as}
+use Rattle.lt_code.proofs.Finishing.{Later, Keeps, Calm, later_same, later_still}
+
+pub keeps_still : {A : Type 0} (at at1 : At) (m : Answer A) → Later at at1 → Keeps at1 m → Keeps at m
+keeps_still at at1 (Gives a at2) l h = later_still at at1 at2 l h
+keeps_still at at1 (Ends end at2) l h = tt
+
+keeps-bind : {A B : Type 0} (at : At) (m : Answer A) (go : A → Step B) → Keeps at m → ((a : A) → Calm (go a)) → Keeps at (elim (m) [ Gives a at1 ↦ go a at1 | Ends end at1 ↦ Ends end at1 ])
+keeps-bind at (Gives a at1) go l h = keeps_still at at1 (go a at1) l (h a at1)
+keeps-bind at (Ends end at1) go l h = tt
+
+pub calm-bind : {A B : Type 0} (m : Step A) (go : A → Step B) → Calm m → ((a : A) → Calm (go a)) → Calm (m >>= go)
+calm-bind m go h hs at = keeps-bind at (m at) go (h at) hs
+
+pub calm-then : {A B : Type 0} (m : Step A) (go : Step B) → Calm m → Calm go → Calm (m >> go)
+calm-then m go h hs at = keeps-bind at (m at) (λ _. go) (h at) (λ _. hs)
+
+pub calm-gives : {A : Type 0} (a : A) → Calm (gives a)
+calm-gives a at = later_same at
+
+pub calm-over : (A : Type 0) (end : End) → Calm (over {A = A} end)
+calm-over A end at = tt
+
+pub calm-absurdity : (A : Type 0) → Calm (absurdity {A = A})
+calm-absurdity A at = tt
+
+pub calm-defined : {A : Type 0} (r : Result A Ub) → Calm (defined r)
+calm-defined (Ok a) at = later_same at
+calm-defined (Err kind) at = tt
+
+pub calm-asked : {A : Type 0} (question : Memory → Result A Ub) → Calm (asked question)
+calm-asked question at = calm-defined (question at.memory) at
+
+keeps-changed : (at : At) (r : Result Memory Ub) → Keeps {A = Unit {0}} at (elim (r) [ Ok memory ↦ Gives tt (record at { memory = memory }) | Err kind ↦ Ends (Undefined kind) at ])
+keeps-changed at (Ok memory) = record { ticks = omega arith; scope = refl; depth = refl }
+keeps-changed at (Err kind) = tt
+
+pub calm-changed : (change : Memory → Result Memory Ub) → Calm (changed change)
+calm-changed change at = keeps-changed at (change at.memory)
+
+pub calm-if : {A : Type 0} (b : Bool) (m go : Step A) → Calm m → Calm go → Calm (λ at. (if b then m else go) at)
+calm-if true m go h i at = h at
+calm-if false m go h i at = i at
+
+keeps-spent : (t : ℕ) (at : At) → t ≤ at.ticks → Keeps at (spent t at)
+keeps-spent zero at le = tt
+keeps-spent (suc t) at le = record { ticks = omega arith; scope = refl; depth = refl }
+
+pub calm-tick : Calm tick
+calm-tick at = keeps-spent at.ticks at (omega arith)
+
+-- ---- variables
+
+keeps-with_block : {A : Type 0} (at : At) (o : Option ℕ) (go : ℕ → Step A) → ((block : ℕ) → Calm (go block)) → Keeps {A = A} at (elim (o) [ None ↦ absurdity at | Some block ↦ go block at ])
+keeps-with_block at None go h = tt
+keeps-with_block at (Some block) go h = h block at
+
+pub calm-with_block : {A : Type 0} (v : Variable) (go : ℕ → Step A) → ((block : ℕ) → Calm (go block)) → Calm (with_block v go)
+calm-with_block v go h at = keeps-with_block at (living_block v at) go h
+
+pub calm-place : (v : Variable) → Calm (place v)
+calm-place v at = calm-with_block v (λ block. gives (Some (record { block = block; offset = 0 }))) (λ block at1. later_same at1) at
+
+keeps-took : (name : List ℕ) (at : At) (o : Option (ℤ × List Left)) → Keeps at (took name at o)
+keeps-took name at None = tt
+keeps-took name at (Some (z, lefts)) = record { ticks = omega arith; scope = refl; depth = refl }
+
+pub calm-stub_value : (name : List ℕ) → Calm (stub_value name)
+calm-stub_value name at = keeps-took name at (next_value name at.stubs)
+
+-- ---- contents
+
+pub calm-used : (c : Content) → Calm (used c)
+calm-used content.Unset at = tt
+calm-used (content.Number z) at = later_same at
+calm-used (content.Address a) at = later_same at
+
+pub calm-number_in : (c : Content) → Calm (number_in c)
+calm-number_in content.Unset at = tt
+calm-number_in (content.Number z) at = later_same at
+calm-number_in (content.Address a) at = tt
+
+pub calm-address_in : (c : Content) → Calm (address_in c)
+calm-address_in content.Unset at = tt
+calm-address_in (content.Number z) at = tt
+calm-address_in (content.Address a) at = later_same at
+
+pub calm-truth_in : (c : Content) → Calm (truth_in c)
+calm-truth_in content.Unset at = tt
+calm-truth_in (content.Number z) at = later_same at
+calm-truth_in (content.Address a) at = calm-bind (asked (λ memory. checked_address memory a)) (λ _. gives (is_some_address a)) (calm-asked (λ memory. checked_address memory a)) (λ _ at1. later_same at1) at
+
+pub calm-had : (o : Option Content) → Calm (had o)
+calm-had None at = tt
+calm-had (Some c) at = later_same at
+
+pub calm-content_at : (rs : List Register) (r : ℕ) → Calm (content_at rs r)
+calm-content_at rs r at = calm-had (register_at rs r).content at
+
+pub calm-contents_from : (rs : List Register) (n r : ℕ) → Calm (contents_from rs r n)
+calm-contents_from rs zero r at = later_same at
+calm-contents_from rs (suc n) r at =
+    calm-bind (content_at rs r) (λ c. contents_from rs (suc r) n >>= (λ cs. gives (c ∷ cs))) (calm-content_at rs r) (λ c. calm-bind (contents_from rs (suc r) n) (λ cs. gives (c ∷ cs)) (calm-contents_from rs n (suc r)) (λ cs at1. later_same at1)) at
+
+-- ---- footprints
+
+keeps-refused : {A : Type 0} (at : At) (b : Bool) (r : Result A Ub) (a : A) → Keeps at ((if b then defined r else gives a) at)
+keeps-refused at true r a = calm-defined r at
+keeps-refused at false r a = later_same at
+
+pub calm-apart : (p q : Footprint) → Calm (apart p q)
+calm-apart p q at = keeps-refused at (clash p q) (Err Unsequenced) (joined p q)
+
+pub calm-free_target : (cells : List CellName) (operands : Footprint) → Calm (free_target cells operands)
+calm-free_target cells operands at = keeps-refused at (meets cells operands.pending) (Err Unsequenced) tt
+
+-- ---- memory
+
+pub calm-loaded : (model : DataModel) (ty : CellType) (p : Valued (Option Address)) → Calm (loaded model ty p)
+calm-loaded model ty p at = calm-bind (asked (λ memory. load model memory p.value ty)) _ (calm-asked (λ memory. load model memory p.value ty)) (λ c at1. later_same at1) at
+
+pub calm-stored : (model : DataModel) (ty : CellType) (place : Option Address) (c : Content) (operands : Footprint) → Calm (stored model ty place c operands)
+calm-stored model ty place c operands at =
+    let cells = target ty place at.memory in
+    calm-bind (free_target cells operands) (λ _. changed (λ memory. store model memory place ty c) >>= (λ _. gives (joined operands (writes cells)))) (calm-free_target cells operands) (λ _. calm-bind (changed (λ memory. store model memory place ty c)) (λ _. gives (joined operands (writes cells))) (calm-changed (λ memory. store model memory place ty c)) (λ _ at1. later_same at1)) at
+
+pub calm-copied : (model : DataModel) (shape : Shape) (place from : Option Address) (operands : Footprint) → Calm (copied model shape place from operands)
+calm-copied model shape place from operands at =
+    let cells = cells_there shape.cells place in
+    calm-bind (free_target cells operands) (λ _. changed (λ memory. copy_struct model memory place from shape) >>= (λ _. gives (joined operands (writes cells)))) (calm-free_target cells operands) (λ _. calm-bind (changed (λ memory. copy_struct model memory place from shape)) (λ _. gives (joined operands (writes cells))) (calm-changed (λ memory. copy_struct model memory place from shape)) (λ _ at1. later_same at1)) at
+
+pub calm-with_reads : (shape : Shape) (x : Valued Content) → Calm (with_reads shape x)
+calm-with_reads shape x at = calm-bind (address_in x.value) _ (calm-address_in x.value) (λ a at1. later_same at1) at
+
+-- ---- operators
+
+pub calm-moved : (op : Op) (size : ℕ) (p q : Content) → Calm (moved op size p q)
+calm-moved op size p q at =
+    calm-bind (address_in p) _ (calm-address_in p) (λ a. calm-bind (number_in q) _ (calm-number_in q) (λ z. calm-asked (λ memory. move_by memory a (signed_count op z) size))) at
+
+pub calm-member_at : (offset : ℕ) (place : Option Address) → Calm (member_at offset place)
+calm-member_at offset place at = calm-asked (λ memory. then_result (not_null place) (λ _. move_by memory place (pos 1) offset)) at
+
+pub calm-applied : (model : DataModel) (op : Op) (s : Scalar) (p q : Content) → Calm (applied model op s p q)
+calm-applied model op s p q at =
+    calm-bind (number_in p) _ (calm-number_in p) (λ a. calm-bind (number_in q) _ (calm-number_in q) (λ b. calm-defined (value_of model op s a b))) at
+
+pub calm-counted : (size : ℕ) (p q : Content) → Calm (counted size p q)
+calm-counted size p q at =
+    calm-bind (address_in p) _ (calm-address_in p) (λ a. calm-bind (address_in q) _ (calm-address_in q) (λ b. calm-asked (λ memory. subtract memory a b size))) at
+
+pub calm-compared : (op : Op) (p q : Content) → Calm (compared op p q)
+calm-compared op p q at =
+    calm-bind (address_in p) _ (calm-address_in p) (λ a. calm-bind (address_in q) _ (calm-address_in q) (λ b. calm-asked (λ memory. compare memory op a b))) at
+
+pub calm-convert_as : (model : DataModel) (how : How) (c : Content) → Calm (convert_as model how c)
+calm-convert_as model (to_integer s) c at = calm-bind (number_in c) _ (calm-number_in c) (λ z at1. later_same at1) at
+calm-convert_as model to_truth c at = calm-bind (truth_in c) _ (calm-truth_in c) (λ b at1. later_same at1) at
+calm-convert_as model to_pointer c at = calm-bind (address_in c) _ (calm-address_in c) (λ a at1. later_same at1) at
+calm-convert_as model to_void c at = later_same at
+calm-convert_as model as_it_is c at = later_same at

@@ -1,0 +1,84 @@
+-- Two answers that say the same: where nothing changes but reads are recorded. Over answers alone, for the lemmas on pure expressions.
+use Rattle.std.proofs.Common.{◌≡◌, List, [], Bool, false, refl, sym, ap, ◌∙◌, subst}
+use Rattle.std.specs.Prelude.{◌++◌, if◌then◌else◌, Err}
+use Rattle.lt_model.specs.declared.cell.Content.{Content}
+use Rattle.lt_model.specs.declared.operator.Ub.TheVariants as U
+use Rattle.lt_model.specs.State.{CellName, Footprint, Valued, clash, joined, settle, untouched}
+use Rattle.lt_ir.specs.Running.{At, Answer, Gives, Ends, Step, ◌>>=◌, gives, defined, quietly}
+use Rattle.lt_ir.specs.Evaluation.{apart}
+
+-- an expression that wrote nothing
+pub record Quiet (p : Footprint) : Type 0 where
+  pub settled : p.settled ≡ []
+  pub pending : p.pending ≡ []
+
+pub quiet_untouched : Quiet untouched
+quiet_untouched = record { settled = refl; pending = refl }
+
+pub quiet_joined : (p q : Footprint) → Quiet p → Quiet q → Quiet (joined p q)
+quiet_joined p q a b = record { settled = both p.settled q.settled a.settled b.settled; pending = both p.pending q.pending a.pending b.pending }
+  where
+    both : (xs ys : List CellName) → xs ≡ [] → ys ≡ [] → xs ++ ys ≡ []
+    both xs ys e f = subst (λ l. l ++ ys ≡ []) (sym e) f
+
+pub quiet_settled : (p : Footprint) → Quiet p → Quiet (settle p)
+quiet_settled p a = record { settled = subst (λ l. l ++ p.pending ≡ []) (sym a.settled) a.pending; pending = refl }
+
+-- two such expressions don't clash
+pub apart_quiet : (p q : Footprint) → Quiet p → Quiet q → (at : At) → apart p q at ≡ Gives (joined p q) at
+apart_quiet p q a b at = ap (λ c. by_clash c) (lists p.reads q.reads p.settled p.pending q.settled q.pending a.settled a.pending b.settled b.pending)
+  where
+    by_clash : Bool → Answer Footprint
+    by_clash c = (if c then defined (Err U.Unsequenced) else gives (joined p q)) at
+
+    lists : (r r' s1 p1 s2 p2 : List CellName) → s1 ≡ [] → p1 ≡ [] → s2 ≡ [] → p2 ≡ [] → clash (record { reads = r; settled = s1; pending = p1 }) (record { reads = r'; settled = s2; pending = p2 }) ≡ false
+    lists r r' s1 p1 s2 p2 e1 e2 e3 e4 = rw (e1, e2, e3, e4) refl
+
+-- an answer in the state where it began
+abbrev pub Stays : {A : Type 0} → At → Answer A → Type 0
+Stays at (Gives a at1) = at1 ≡ at
+Stays at (Ends end at1) = Unit {0}
+
+-- Both give the same, in the state where they began, and nothing was written; or both end the run.
+abbrev pub Same : {A B : Type 0} → (B → A) → At → Answer A → Answer (Valued B) → Type 0
+Same f at (Gives a at1) (Gives x at2) = (a ≡ f x.value) × (at1 ≡ at) × (at2 ≡ at) × Quiet x.footprint
+Same f at (Gives a at1) (Ends end at2) = ⊥
+Same f at (Ends end at1) (Gives x at2) = ⊥
+Same f at (Ends end at1) (Ends end' at2) = Unit {0}
+
+pub same_stays : {A B : Type 0} (f : B → A) (at : At) (m : Answer A) (n : Answer (Valued B)) → Same f at m n → Stays at m
+same_stays f at (Gives a at1) (Gives x at2) h = h.1
+same_stays f at (Gives a at1) (Ends end at2) h = absurd h
+same_stays f at (Ends end at1) n h = tt
+
+-- both go on
+pub same_bind : {A B C D : Type 0} (f' : B → A) (f : D → C) (at : At) (m : Answer A) (n : Answer (Valued B)) (g : A → Step C) (h : Valued B → Step (Valued D)) → Same f' at m n → ((x : Valued B) → Quiet x.footprint → Same f at (g (f' x.value) at) (h x at)) → Same f at (elim (m) [ Gives a at1 ↦ g a at1 | Ends end at1 ↦ Ends end at1 ]) (elim (n) [ Gives x at1 ↦ h x at1 | Ends end at1 ↦ Ends end at1 ])
+same_bind f' f at (Gives a at1) (Gives x at2) g h e k =
+    subst (λ t. Same f at (g a at1) (h x t)) (sym e.2) (subst (λ t. Same f at (g a t) (h x at)) (sym e.1) (subst (λ c. Same f at (g c at) (h x at)) (sym e.0) (k x e.3)))
+same_bind f' f at (Gives a at1) (Ends end at2) g h e k = absurd e
+same_bind f' f at (Ends end at1) (Gives x at2) g h e k = absurd e
+same_bind f' f at (Ends end at1) (Ends end' at2) g h e k = tt
+
+-- only the tree goes on
+pub same_into : {A B D : Type 0} (f' : B → A) (f : D → A) (at : At) (m : Answer A) (n : Answer (Valued B)) (h : Valued B → Step (Valued D)) → Same f' at m n → ((x : Valued B) → Quiet x.footprint → Same f at (Gives (f' x.value) at) (h x at)) → Same f at m (elim (n) [ Gives x at1 ↦ h x at1 | Ends end at1 ↦ Ends end at1 ])
+same_into f' f at (Gives a at1) (Gives x at2) h e k =
+    subst (λ t. Same f at (Gives a at1) (h x t)) (sym e.2) (subst (λ t. Same f at (Gives a t) (h x at)) (sym e.1) (subst (λ c. Same f at (Gives c at) (h x at)) (sym e.0) (k x e.3)))
+same_into f' f at (Gives a at1) (Ends end at2) h e k = absurd e
+same_into f' f at (Ends end at1) (Gives x at2) h e k = absurd e
+same_into f' f at (Ends end at1) (Ends end' at2) h e k = tt
+
+-- both do the same first
+pub same_step : {A C D : Type 0} (f : D → C) (at : At) (m : Answer A) (g : A → Step C) (h : A → Step (Valued D)) → Stays at m → ((a : A) → Same f at (g a at) (h a at)) → Same f at (elim (m) [ Gives a at1 ↦ g a at1 | Ends end at1 ↦ Ends end at1 ]) (elim (m) [ Gives a at1 ↦ h a at1 | Ends end at1 ↦ Ends end at1 ])
+same_step f at (Gives a at1) g h e k = subst (λ t. Same f at (g a t) (h a t)) (sym e) (k a)
+same_step f at (Ends end at1) g h e k = tt
+
+-- the tree asks whether two parts clash
+pub same_apart : {C D : Type 0} (f : D → C) (at : At) (m : Answer C) (p q : Footprint) (h : Footprint → Step (Valued D)) → Quiet p → Quiet q → Same f at m (h (joined p q) at) → Same f at m ((apart p q >>= h) at)
+same_apart f at m p q h a b k = subst (λ n. Same f at m (elim (n) [ Gives x at1 ↦ h x at1 | Ends end at1 ↦ Ends end at1 ])) (sym (apart_quiet p q a b at)) k
+
+-- what both give, to which something is done
+pub same_quietly : {A : Type 0} (at : At) (m : Answer Content) (n : Answer (Valued Content)) (step : Content → Step A) → Same (λ c. c) at m n → quietly (λ _. elim (m) [ Gives a at1 ↦ step a at1 | Ends end at1 ↦ Ends end at1 ]) at ≡ quietly (λ _. elim (n) [ Gives x at1 ↦ step x.value at1 | Ends end at1 ↦ Ends end at1 ]) at
+same_quietly at (Gives a at1) (Gives x at2) step e = ap (λ t. quietly (step a) t) (e.1 ∙ sym e.2) ∙ ap (λ c. quietly (step c) at2) e.0
+same_quietly at (Gives a at1) (Ends end at2) step e = absurd e
+same_quietly at (Ends end at1) (Gives x at2) step e = absurd e
+same_quietly at (Ends end at1) (Ends end' at2) step e = refl

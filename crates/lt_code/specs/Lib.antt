@@ -1,0 +1,9 @@
+pub use Rattle.lt_ir.specs.Running
+pub use Rattle.lt_ir.specs.Evaluation
+pub use Rattle.lt_ir.specs.Starting
+pub use Rattle.lt_ir.specs.Graph
+pub mod Meaning
+pub mod Code
+pub mod Predicates
+pub mod Samples
+pub mod Laws
