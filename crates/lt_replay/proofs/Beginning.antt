@@ -8,9 +8,9 @@ use Rattle.std.proofs.lemmas.List.Elements.{All-head, All-tail, All-weaker}
 use Rattle.lt_model.specs.Memory.{Memory}
 use Rattle.lt_model.specs.State.{At, Bound, Answer}
 use Rattle.lt_model.specs.declared.cell.Content.TheVariants as content
-use Rattle.lt_tree.specs.SmallTree.{Label, Program, labels_in, names_in}
+use Rattle.lt_tree.specs.SmallTree.{Label, Program, id_of, labels_in, names_in}
 use Rattle.lt_tree.specs.SmallMeaning as M
-use Rattle.lt_tree.specs.SmallMeaning.{object_of, with_params, with_locals, run, has_true, over}
+use Rattle.lt_tree.specs.SmallMeaning.{object_of, with_params, with_locals, run, over}
 use Rattle.lt_replay.specs.declared.code.Code.{Code}
 use Rattle.lt_replay.specs.Code.{steps_in}
 use Rattle.lt_replay.specs.Form.{variables, ids_in}
@@ -74,12 +74,12 @@ at_end : (front : List ℕ) (x : ℕ) (back : List ℕ) → slice_get (front ++ 
 at_end [] x back = refl
 at_end (y ∷ front) x back = at_end front x back
 
-pub stand_all : (front : List ℕ) (labels : List Label) → Stand (front ++ map (λ (label : Label). label.id) labels) (length front) labels
+pub stand_all : (front : List ℕ) (labels : List Label) → Stand (front ++ map id_of labels) (length front) labels
 stand_all front [] = tt
 stand_all front (label ∷ labels) =
-    let ids = map (λ (l : Label). l.id) labels in
-    let whole : (front ++ label.id ∷ []) ++ ids ≡ front ++ label.id ∷ ids = append_assoc front (label.id ∷ []) ids in
-    (at_end front label.id ids, subst (λ xs. Stand xs (suc (length front)) labels) whole (subst (λ k. Stand ((front ++ label.id ∷ []) ++ ids) k labels) (one_more front label.id) (stand_all (front ++ label.id ∷ []) labels)))
+    let ids = map id_of labels in
+    let whole : (front ++ id_of label ∷ []) ++ ids ≡ front ++ id_of label ∷ ids = append_assoc front (id_of label ∷ []) ids in
+    (at_end front (id_of label) ids, subst (λ xs. Stand xs (suc (length front)) labels) whole (subst (λ k. Stand ((front ++ id_of label ∷ []) ++ ids) k labels) (one_more front (id_of label)) (stand_all (front ++ id_of label ∷ []) labels)))
 
 none_hit : (n p : ℕ) → get_or (replicate n false) p false ≡ false
 none_hit zero p = refl
@@ -122,7 +122,7 @@ run_is f code values ticks after is_code runs =
     let ids = ids_in f in
     let scope = scope_of f in
     let first : ℕ → ℕ → ℕ → State = λ params locals labels. record { variables = first_values params locals values; ticks = ticks; hits = replicate labels false } in
-    let labels : code.labels ≡ length ids = is_code.labels ∙ sym (length-map (labels_in f.items) (λ (label : Label). label.id)) in
+    let labels : code.labels ≡ length ids = is_code.labels ∙ sym (length-map (labels_in f.items) id_of) in
     let at : At = with_locals f.locals (with_params f.params values (start ticks)) in
     let known = known_all scope (names_in f.items) (All-weaker (Contains (variables f)) (λ name. IsSome (object_of scope name)) (λ name has. bound_finds (variables f) [] 0 name has) (names_in f.items) is_code.names.known) in
     let same = items_same ids scope is_code.ids.differ f.items 0 at (first (length f.params) (length f.locals) (length ids)) (stand_all [] (labels_in f.items)) known (begins f values ticks) in

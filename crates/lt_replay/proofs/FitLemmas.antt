@@ -1,18 +1,14 @@
--- A function fits where each name that it uses is known.
-use Rattle.std.proofs.Common.{◌≡◌, ℕ, Bool, true, false, List, [], ◌∷◌, ◌++◌, Err, refl, sym, ap, ◌∙◌}
+-- The body of a function fits where each name that it uses is known.
+use Rattle.std.proofs.Common.{◌≡◌, ℕ, Bool, true, false, List, [], ◌∷◌, ◌++◌, Some, None, Err, refl, sym, ap, ◌∙◌}
 use Rattle.std.specs.Prelude.{◌&&◌, All, Contains}
-use Rattle.std.specs.List.{flat_map}
 use Rattle.std.proofs.lemmas.List.Elements.{All-head, All-tail, All-cons, All-nil, All-weaker}
-use Rattle.lt_tree.specs.SmallTree.{Tree, Named, Number, Minus, Not, Binary as binary, Label, Test, Statement, Compound, Assigns, If as if_only, IfElse, While as while_loop, Return as return_of, Items, no_items, a_statement, a_mark, Program, names_in_tree, names_in_test, names_in_statement, names_in}
+use Rattle.lt_tree.specs.declared.expression.UnaryOp.TheVariants as prefix
 use Rattle.lt_tree.specs.declared.stop.Stop.{Stop}
 use Rattle.lt_tree.specs.declared.stop.Stop.TheVariants.{NotOfForm, NoMemory}
-use Rattle.lt_replay.specs.Form.{variables, NamesFit, IdsFit}
 use Rattle.lt_tree.specs.Tree as t
-use Rattle.lt_tree.specs.SmallTree.{small_items}
-use Rattle.lt_replay.specs.Resolving as pure
-use Rattle.lt_replay.specs.Resolving.{Gives, IsResolved}
-use Rattle.lt_replay.proofs.FormFits.{fits, fits_labels, fits_test, fits_statement, fits_items}
-use Rattle.lt_replay.proofs.SmallFits.{body_fits, items_pass}
+use Rattle.lt_tree.specs.SmallTree.{IsSmallExpression, a_name, a_constant, a_minus, a_negation, an_operation, AreSmallMarks, marks_end, marks_more, IsSmallTest, plain, behind_marks, IsSmallStatement, a_block, an_assignment, an_if, an_if_else, a_while, a_return, AreSmallItems, items_end, items_statement, items_label, IsSmallBody, body_items, body_local, Program, predicate_of, labels_of, names_in_expression, names_in_labels, names_in_test, names_evaluated, names_in_statement, names_in}
+use Rattle.lt_replay.specs.Form.{variables, NamesFit, IdsFit}
+use Rattle.lt_replay.specs.Resolving.{fits, fits_mark, fits_marks, fits_test, fits_evaluated, fits_statement, fits_items, Gives, IsResolved}
 use Rattle.lt_replay.specs.Numbers.{Numbers, has_name, AreNumbered}
 use Rattle.lt_replay.proofs.NameLemmas.{found_declared, declared_found}
 
@@ -50,105 +46,130 @@ each_all has [] each = All-nil (λ name. has name ≡ true)
 each_all has (name ∷ names) each = All-cons (λ x. has x ≡ true) name names each.0 (each_all has names each.1)
 
 module _ (has : List ℕ → Bool) where
-  tree_names : (e : Tree) → fits has e ≡ true → Each has (names_in_tree e)
-  tree_names (Named name) fit = (fit, tt)
-  tree_names (Number z) fit = tt
-  tree_names (Minus e) fit = tree_names e fit
-  tree_names (Not e) fit = tree_names e fit
-  tree_names (binary op left right) fit =
+  -- ---- what fits uses only names that pass
+
+  expression_names : (e : t.Expression) → fits has e ≡ true → Each has (names_in_expression e)
+  expression_names (t.Name name) fit = (fit, tt)
+  expression_names (t.Unary prefix.Minus e) fit = expression_names e fit
+  expression_names (t.Unary prefix.Not e) fit = expression_names e fit
+  expression_names (t.Binary op left right) fit =
       let both = and_parts (fits has left) (fits has right) fit in
-      each_append has (names_in_tree left) (names_in_tree right) (tree_names left both.0) (tree_names right both.1)
+      each_append has (names_in_expression left) (names_in_expression right) (expression_names left both.0) (expression_names right both.1)
+  expression_names e fit = tt
 
-  label_names : (labels : List Label) → fits_labels has labels ≡ true → Each has (flat_map (λ (label : Label). names_in_tree label.predicate) labels)
-  label_names [] fit = tt
-  label_names (label ∷ labels) fit =
-      let both = and_parts (fits has label.predicate) (fits_labels has labels) fit in
-      each_append has (names_in_tree label.predicate) (flat_map (λ (l : Label). names_in_tree l.predicate) labels) (tree_names label.predicate both.0) (label_names labels both.1)
+  mark_names : (m : t.Mark) → fits_mark has m ≡ true → Each has (names_in_expression (predicate_of m))
+  mark_names (t.mark predicate id tag t.no_bindings) fit = expression_names predicate fit
+  mark_names (t.mark predicate id tag (t.a_binding name value rest)) fit = cc
 
-  test_names : (test : Test) → fits_test has test ≡ true → Each has (names_in_test test)
-  test_names test fit =
-      let both = and_parts (fits_labels has test.labels) (fits has test.value) fit in
-      each_append has (flat_map (λ (l : Label). names_in_tree l.predicate) test.labels) (names_in_tree test.value) (label_names test.labels both.0) (tree_names test.value both.1)
+  marks_names : (marks : t.Marks) → fits_marks has marks ≡ true → Each has (names_in_labels (labels_of marks))
+  marks_names t.no_marks fit = tt
+  marks_names (t.a_mark first rest) fit =
+      let both = and_parts (fits_mark has first) (fits_marks has rest) fit in
+      each_append has (names_in_expression (predicate_of first)) (names_in_labels (labels_of rest)) (mark_names first both.0) (marks_names rest both.1)
+
+  test_names : (e : t.Expression) → fits_test has e ≡ true → Each has (names_in_test e)
+  test_names (t.Marked marks value) fit =
+      let both = and_parts (fits_marks has marks) (fits has value) fit in
+      each_append has (names_in_labels (labels_of marks)) (names_in_expression value) (marks_names marks both.0) (expression_names value both.1)
+  test_names e fit = expression_names e fit
+
+  evaluated_names : (e : t.Expression) → fits_evaluated has e ≡ true → Each has (names_evaluated e)
+  evaluated_names (t.Assign None (t.Name target) value) fit = let both = and_parts (has target) (fits has value) fit in (both.0, expression_names value both.1)
+  evaluated_names e fit = tt
 
   mutual
-    statement_names : (s : Statement) → fits_statement has s ≡ true → Each has (names_in_statement s)
-    statement_names (Compound items) fit = item_names items fit
-    statement_names (Assigns target e) fit = let both = and_parts (has target) (fits has e) fit in (both.0, tree_names e both.1)
-    statement_names (if_only test body) fit =
+    statement_names : (s : t.Statement) → fits_statement has s ≡ true → Each has (names_in_statement s)
+    statement_names (t.Compound items) fit = item_names items fit
+    statement_names (t.Evaluates e) fit = evaluated_names e fit
+    statement_names (t.If test body) fit =
         let both = and_parts (fits_test has test) (fits_statement has body) fit in
         each_append has (names_in_test test) (names_in_statement body) (test_names test both.0) (statement_names body both.1)
-    statement_names (IfElse test body other) fit =
+    statement_names (t.IfElse test body other) fit =
         let first = and_parts (fits_test has test) (fits_statement has body && fits_statement has other) fit in
         let both = and_parts (fits_statement has body) (fits_statement has other) first.1 in
         each_append has (names_in_test test ++ names_in_statement body) (names_in_statement other) (each_append has (names_in_test test) (names_in_statement body) (test_names test first.0) (statement_names body both.0)) (statement_names other both.1)
-    statement_names (while_loop test body) fit =
+    statement_names (t.While test body) fit =
         let both = and_parts (fits_test has test) (fits_statement has body) fit in
         each_append has (names_in_test test) (names_in_statement body) (test_names test both.0) (statement_names body both.1)
-    statement_names (return_of e) fit = tree_names e fit
+    statement_names (t.Return (Some e)) fit = expression_names e fit
+    statement_names s fit = tt
 
-    item_names : (items : Items) → fits_items has items ≡ true → Each has (names_in items)
-    item_names no_items fit = tt
-    item_names (a_statement first rest) fit =
+    item_names : (items : t.Items) → fits_items has items ≡ true → Each has (names_in items)
+    item_names t.no_items fit = tt
+    item_names (t.a_declaration first rest) fit = item_names rest fit
+    item_names (t.a_statement first rest) fit =
         let both = and_parts (fits_statement has first) (fits_items has rest) fit in
         each_append has (names_in_statement first) (names_in rest) (statement_names first both.0) (item_names rest both.1)
-    item_names (a_mark label rest) fit =
-        let both = and_parts (fits has label.predicate) (fits_items has rest) fit in
-        each_append has (names_in_tree label.predicate) (names_in rest) (tree_names label.predicate both.0) (item_names rest both.1)
+    item_names (t.a_label first rest) fit =
+        let both = and_parts (fits_mark has first) (fits_items has rest) fit in
+        each_append has (names_in_expression (predicate_of first)) (names_in rest) (mark_names first both.0) (item_names rest both.1)
 
-  tree_fits : (e : Tree) → Each has (names_in_tree e) → fits has e ≡ true
-  tree_fits (Named name) each = each.0
-  tree_fits (Number z) each = refl
-  tree_fits (Minus e) each = tree_fits e each
-  tree_fits (Not e) each = tree_fits e each
-  tree_fits (binary op left right) each =
-      and_both (tree_fits left (each_front has (names_in_tree left) (names_in_tree right) each)) (tree_fits right (each_back has (names_in_tree left) (names_in_tree right) each))
+  -- ---- what is small fits where its names pass
 
-  labels_fit : (labels : List Label) → Each has (flat_map (λ (label : Label). names_in_tree label.predicate) labels) → fits_labels has labels ≡ true
-  labels_fit [] each = refl
-  labels_fit (label ∷ labels) each =
-      let rest = flat_map (λ (l : Label). names_in_tree l.predicate) labels in
-      and_both (tree_fits label.predicate (each_front has (names_in_tree label.predicate) rest each)) (labels_fit labels (each_back has (names_in_tree label.predicate) rest each))
+  expression_fits : {e : t.Expression} → IsSmallExpression e → Each has (names_in_expression e) → fits has e ≡ true
+  expression_fits a_name each = each.0
+  expression_fits a_constant each = refl
+  expression_fits (a_minus e) each = expression_fits e each
+  expression_fits (a_negation e) each = expression_fits e each
+  expression_fits (an_operation {left = left} {right = right} l r) each =
+      and_both (expression_fits l (each_front has (names_in_expression left) (names_in_expression right) each)) (expression_fits r (each_back has (names_in_expression left) (names_in_expression right) each))
 
-  test_fits : (test : Test) → Each has (names_in_test test) → fits_test has test ≡ true
-  test_fits test each =
-      let front = flat_map (λ (l : Label). names_in_tree l.predicate) test.labels in
-      and_both (labels_fit test.labels (each_front has front (names_in_tree test.value) each)) (tree_fits test.value (each_back has front (names_in_tree test.value) each))
+  marks_fit : {marks : t.Marks} → AreSmallMarks marks → Each has (names_in_labels (labels_of marks)) → fits_marks has marks ≡ true
+  marks_fit marks_end each = refl
+  marks_fit (marks_more {e = e} {rest = rest} first more) each =
+      and_both (expression_fits first (each_front has (names_in_expression e) (names_in_labels (labels_of rest)) each)) (marks_fit more (each_back has (names_in_expression e) (names_in_labels (labels_of rest)) each))
+
+  -- an expression with no marks before it
+  plain_fits : {e : t.Expression} → IsSmallExpression e → Each has (names_in_test e) → fits_test has e ≡ true
+  plain_fits a_name each = each.0
+  plain_fits a_constant each = refl
+  plain_fits (a_minus e) each = expression_fits e each
+  plain_fits (a_negation e) each = expression_fits e each
+  plain_fits (an_operation {left = left} {right = right} l r) each =
+      and_both (expression_fits l (each_front has (names_in_expression left) (names_in_expression right) each)) (expression_fits r (each_back has (names_in_expression left) (names_in_expression right) each))
+
+  test_fits : {e : t.Expression} → IsSmallTest e → Each has (names_in_test e) → fits_test has e ≡ true
+  test_fits (plain e) each = plain_fits e each
+  test_fits (behind_marks {marks = marks} {e = e} m s) each =
+      and_both (marks_fit m (each_front has (names_in_labels (labels_of marks)) (names_in_expression e) each)) (expression_fits s (each_back has (names_in_labels (labels_of marks)) (names_in_expression e) each))
 
   mutual
-    statement_fits : (s : Statement) → Each has (names_in_statement s) → fits_statement has s ≡ true
-    statement_fits (Compound items) each = items_fit items each
-    statement_fits (Assigns target e) each = and_both each.0 (tree_fits e each.1)
-    statement_fits (if_only test body) each =
-        and_both (test_fits test (each_front has (names_in_test test) (names_in_statement body) each)) (statement_fits body (each_back has (names_in_test test) (names_in_statement body) each))
-    statement_fits (IfElse test body other) each =
+    statement_fits : {s : t.Statement} → IsSmallStatement s → Each has (names_in_statement s) → fits_statement has s ≡ true
+    statement_fits (a_block items) each = items_fit items each
+    statement_fits (an_assignment e) each = and_both each.0 (expression_fits e each.1)
+    statement_fits (an_if {test = test} {body = body} c s) each =
+        and_both (test_fits c (each_front has (names_in_test test) (names_in_statement body) each)) (statement_fits s (each_back has (names_in_test test) (names_in_statement body) each))
+    statement_fits (an_if_else {test = test} {body = body} {other = other} c s o) each =
         let front = each_front has (names_in_test test ++ names_in_statement body) (names_in_statement other) each in
-        and_both (test_fits test (each_front has (names_in_test test) (names_in_statement body) front)) (and_both (statement_fits body (each_back has (names_in_test test) (names_in_statement body) front))
-        (statement_fits other (each_back has (names_in_test test ++ names_in_statement body) (names_in_statement other) each)))
-    statement_fits (while_loop test body) each =
-        and_both (test_fits test (each_front has (names_in_test test) (names_in_statement body) each)) (statement_fits body (each_back has (names_in_test test) (names_in_statement body) each))
-    statement_fits (return_of e) each = tree_fits e each
+        and_both (test_fits c (each_front has (names_in_test test) (names_in_statement body) front)) (and_both (statement_fits s (each_back has (names_in_test test) (names_in_statement body) front))
+        (statement_fits o (each_back has (names_in_test test ++ names_in_statement body) (names_in_statement other) each)))
+    statement_fits (a_while {test = test} {body = body} c s) each =
+        and_both (test_fits c (each_front has (names_in_test test) (names_in_statement body) each)) (statement_fits s (each_back has (names_in_test test) (names_in_statement body) each))
+    statement_fits (a_return e) each = expression_fits e each
 
-    items_fit : (items : Items) → Each has (names_in items) → fits_items has items ≡ true
-    items_fit no_items each = refl
-    items_fit (a_statement first rest) each =
-        and_both (statement_fits first (each_front has (names_in_statement first) (names_in rest) each)) (items_fit rest (each_back has (names_in_statement first) (names_in rest) each))
-    items_fit (a_mark label rest) each =
-        and_both (tree_fits label.predicate (each_front has (names_in_tree label.predicate) (names_in rest) each)) (items_fit rest (each_back has (names_in_tree label.predicate) (names_in rest) each))
+    items_fit : {items : t.Items} → AreSmallItems items → Each has (names_in items) → fits_items has items ≡ true
+    items_fit items_end each = refl
+    items_fit (items_statement {s = s} {rest = rest} first more) each =
+        and_both (statement_fits first (each_front has (names_in_statement s) (names_in rest) each)) (items_fit more (each_back has (names_in_statement s) (names_in rest) each))
+    items_fit (items_label {e = e} {rest = rest} first more) each =
+        and_both (expression_fits first (each_front has (names_in_expression e) (names_in rest) each)) (items_fit more (each_back has (names_in_expression e) (names_in rest) each))
+
+  body_fits : {items : t.Items} → IsSmallBody items → Each has (names_in items) → fits_items has items ≡ true
+  body_fits (body_items items) each = items_fit items each
+  body_fits (body_local rest) each = body_fits rest each
 
 -- where the body of a function fits, its names are known
-pub known_names : (f : Program) (numbers : Numbers) (items : t.Items) → AreNumbered f numbers → small_items items ≡ f.items → pure.fits_items (has_name numbers) items ≡ true → All (Contains (variables f)) (names_in f.items)
-known_names f numbers items are same fit =
-    let fit_too : fits_items (has_name numbers) f.items ≡ true = sym (ap (fits_items (has_name numbers)) same) ∙ items_pass (has_name numbers) items fit in
-    All-weaker (λ name. has_name numbers name ≡ true) (Contains (variables f)) (λ name has. found_declared name are.scope has) (names_in f.items) (each_all (has_name numbers) (names_in f.items) (item_names (has_name numbers) f.items fit_too))
+pub known_names : (f : Program) (numbers : Numbers) → AreNumbered f numbers → fits_items (has_name numbers) f.items ≡ true → All (Contains (variables f)) (names_in f.items)
+known_names f numbers are fit =
+    All-weaker (λ name. has_name numbers name ≡ true) (Contains (variables f)) (λ name has. found_declared name are.scope has) (names_in f.items) (each_all (has_name numbers) (names_in f.items) (item_names (has_name numbers) f.items fit))
 
--- a function that doesn't fit lacks something
-lacks : (f : Program) (numbers : Numbers) → AreNumbered f numbers → fits_items (has_name numbers) f.items ≡ false → NamesFit f → IdsFit f → ⊥
-lacks f numbers are unfit names ids =
+-- a small function that doesn't fit lacks something
+lacks : (f : Program) (numbers : Numbers) → AreNumbered f numbers → fits_items (has_name numbers) f.items ≡ false → IsSmallBody f.items → NamesFit f → IdsFit f → ⊥
+lacks f numbers are unfit small names ids =
     let each = all_each (has_name numbers) (names_in f.items) (All-weaker (Contains (variables f)) (λ name. has_name numbers name ≡ true) (λ name has. declared_found name are.scope has) (names_in f.items) names.known) in
-    let clash : false ≡ true = sym unfit ∙ items_fit (has_name numbers) f.items each in
+    let clash : false ≡ true = sym unfit ∙ body_fits (has_name numbers) small each in
     cc
 
-pub stops : {X : Type 0} (Is : X → Type 0) (f : Program) (numbers : Numbers) (items : t.Items) (stop : Stop) → AreNumbered f numbers → small_items items ≡ f.items → Gives (pure.fits_items (has_name numbers) items) Is (Err stop) → IsResolved items f (Err stop)
-stops Is f numbers items NotOfForm are same given = λ small.
-    lacks f numbers are (sym (ap (fits_items (has_name numbers)) same) ∙ sym (body_fits (has_name numbers) small) ∙ given)
-stops Is f numbers items NoMemory are same given = tt
+pub stops : {X : Type 0} (Is : X → Type 0) (f : Program) (numbers : Numbers) (stop : Stop) → AreNumbered f numbers → Gives (fits_items (has_name numbers) f.items) Is (Err stop) → IsResolved f (Err stop)
+stops Is f numbers NotOfForm are given = lacks f numbers are given
+stops Is f numbers NoMemory are given = tt

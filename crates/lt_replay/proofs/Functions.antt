@@ -192,8 +192,8 @@ function_sound ts x e =
     let b5 = bind_some (items_within (length b4.0.1) (statement (length b4.0.1)) b4.0.1) (whole_function w b2.0.0 b4.0.0) x b4.2 in
     let end = whole_is w b2.0.0 b4.0.0 b5.0 x b5.2 in
     let items = items_sound (statement (length b4.0.1)) (statement_sound (length b4.0.1)) (length b4.0.1) b4.0.1 b5.0 b5.1 in
-    let body = locals_sound (length b3.0) b3.0 b4.0 b4.1 b5.0.0 (subst (λ (us : List Token). AreItems b4.0.1 b5.0.0 us) end.0 items) in
-    let params = subst (λ (us : List Token). AreParameters b1.0 b2.0.0 us) (expected f.BraceOpen b2.0.1 b3.0 b3.1) (parameters_sound b1.0 b2.0 b2.1) in
+    let body = locals_sound (length b3.0) b3.0 b4.0 b4.1 b5.0.0 (subst (λ (us : List Token). AreItems b4.0.1 b5.0.0 us) {x = b5.0.1} end.0 items) in
+    let params = subst (λ (us : List Token). AreParameters b1.0 b2.0.0 us) {x = b2.0.1} (expected f.BraceOpen b2.0.1 b3.0 b3.1) (parameters_sound b1.0 b2.0 b2.1) in
     let front : ts ≡ one f.Int ∷ token.Name w ∷ one f.ParenOpen ∷ b1.0 = declared_sound ts b0.0 b0.1 ∙ ap (λ (y : List Token). one f.Int ∷ token.Name w ∷ y) (expected f.ParenOpen b0.0.1 b1.0 b1.1) in
     let d = g.function {word = w} {ts = b1.0} {us = b3.0} {params = b2.0.0} {body = with_locals b4.0.0 b5.0.0} params body in
     of_parts ts (one f.Int ∷ token.Name w ∷ one f.ParenOpen ∷ b1.0) w b2.0.0 (with_locals b4.0.0 b5.0.0) x front d end.1

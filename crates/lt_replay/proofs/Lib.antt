@@ -7,8 +7,6 @@ pub mod Beginning
 pub mod ResolveLemmas
 pub mod NameLemmas
 pub mod IdLemmas
-pub mod FormFits
-pub mod SmallFits
 pub mod FitLemmas
 pub mod Written
 pub mod MarkLemmas

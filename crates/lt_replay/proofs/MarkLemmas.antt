@@ -6,12 +6,15 @@ use Rattle.lt_tree.specs.declared.mark.Binding.{Binding}
 use Rattle.lt_tree.specs.Tree as t
 use Rattle.lt_tree.specs.View.{expression_of, mark_of}
 use Rattle.lt_tree.specs.Records.{bindings_in}
-use Rattle.lt_tree.specs.SmallTree.{number_of, tree_of, label_of}
+use Rattle.lt_tree.specs.SmallTree.{number_of, id_of, tag_of}
 use Rattle.lt_tree.proofs.Rows.{mark_out}
 use Rattle.lt_replay.specs.Resolving.{fits_mark}
 
-pub label_is : (m : Mark) → label_of (mark_of m) ≡ record { predicate = tree_of (expression_of (views.out-Mark m).predicate); id = number_of (views.out-Mark m).id; tag = (views.out-Mark m).tag }
-label_is m = ap label_of (mark_out m)
+pub id_is : (m : Mark) → id_of (mark_of m) ≡ number_of (views.out-Mark m).id
+id_is m = ap id_of (mark_out m)
+
+pub tag_is : (m : Mark) → tag_of (mark_of m) ≡ (views.out-Mark m).tag
+tag_is m = ap tag_of (mark_out m)
 
 some_bound : (has : List ℕ → Bool) (e : t.Expression) (id tag : List ℕ) (bound : List Binding) → 0 < length bound → fits_mark has (t.mark e id tag (bindings_in bound)) ≡ false
 some_bound has e id tag [] some = absurd (omega (arith, some))

@@ -5,7 +5,7 @@ use Rattle.std.proofs.lemmas.Bool.{cases_eq, cases_lt}
 use Rattle.std.proofs.lemmas.List.{length-set, get_or-set_same, get_or-set_other}
 use Rattle.std.proofs.lemmas.Option.{slice_get_within, get_or_from_slice_get, slice_get-get_or}
 use Rattle.lt_model.specs.declared.run.End.{End}
-use Rattle.lt_tree.specs.SmallTree.{Label, Program}
+use Rattle.lt_tree.specs.SmallTree.{Label, Program, id_of, tag_of}
 use Rattle.lt_tree.specs.SmallMeaning.{run, covers, is_ended, has_true}
 use Rattle.lt_replay.specs.Form.{ids_in}
 use Rattle.lt_input.specs.Cases.{TestCase}
@@ -174,10 +174,10 @@ pub rows_by : (f : Program) (suite tests : List TestCase) (firsts : List (Option
     → All (λ (row : LabelRow). IsBy f suite row.id row.by) (rows_from n labels firsts (map (row_of_test f) tests))
 rows_by f suite tests firsts perm sorted are n [] stand = All-nil (λ (row : LabelRow). IsBy f suite row.id row.by)
 rows_by f suite tests firsts perm sorted are n (label ∷ labels) stand =
-    let first = are n label.id stand.0 in
+    let first = are n (id_of label) stand.0 in
     let rows = map (row_of_test f) tests in
-    All-cons (λ (row : LabelRow). IsBy f suite row.id row.by) _ _ (subst (λ o. IsBy f suite label.id (name_at o rows)) (sym first.1) (is_by f suite tests label.id first.0 perm sorted first.2)) (rows_by f suite tests firsts perm sorted are (suc n) labels stand.1)
+    All-cons (λ (row : LabelRow). IsBy f suite row.id row.by) _ _ (subst (λ o. IsBy f suite (id_of label) (name_at o rows)) (sym first.1) (is_by f suite tests (id_of label) first.0 perm sorted first.2)) (rows_by f suite tests firsts perm sorted are (suc n) labels stand.1)
 
-pub rows_are : (n : ℕ) (labels : List Label) (firsts : List (Option ℕ)) (rows : List TestRow) → ◌≡◌ {A = List (ℕ × List ℕ)} (map (λ (row : LabelRow). (row.id, row.tag)) (rows_from n labels firsts rows)) (map (λ (label : Label). (label.id, label.tag)) labels)
+pub rows_are : (n : ℕ) (labels : List Label) (firsts : List (Option ℕ)) (rows : List TestRow) → ◌≡◌ {A = List (ℕ × List ℕ)} (map (λ (row : LabelRow). (row.id, row.tag)) (rows_from n labels firsts rows)) (map (λ (label : Label). (id_of label, tag_of label)) labels)
 rows_are n [] firsts rows = refl
-rows_are n (label ∷ labels) firsts rows = ap (λ (rest : List (ℕ × List ℕ)). (label.id, label.tag) ∷ rest) (rows_are (suc n) labels firsts rows)
+rows_are n (label ∷ labels) firsts rows = ap (λ (rest : List (ℕ × List ℕ)). (id_of label, tag_of label) ∷ rest) (rows_are (suc n) labels firsts rows)

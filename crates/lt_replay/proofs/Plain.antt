@@ -4,7 +4,7 @@ use Rattle.std.specs.Prelude.{All, map}
 use Rattle.std.specs.List.Sorted.{IsPermutation}
 use Rattle.lt_model.specs.declared.run.End.{End}
 use Rattle.lt_model.specs.declared.run.End.TheVariants.{Returned, Stopped, Undefined, NoInput, Steps, Deep, Cells}
-use Rattle.lt_tree.specs.SmallTree.{Label, Program, labels_in}
+use Rattle.lt_tree.specs.SmallTree.{Label, Program, id_of, tag_of, labels_in}
 use Rattle.lt_input.specs.Cases.{TestCase}
 use Rattle.lt_replay.specs.Coverage.{IsTable, IsBy, row_of_test, most_ticks}
 use Rattle.lt_model.specs.Plain.{IsPlain}
@@ -37,12 +37,12 @@ tests_plain f cases rows same h =
 
 -- what a label and its row share
 abbrev pub label_key : Label → ℕ × List ℕ
-label_key label = (label.id, label.tag)
+label_key label = (id_of label, tag_of label)
 
 abbrev pub row_key : LabelRow → ℕ × List ℕ
 row_key row = (row.id, row.tag)
 
-keys_plain : (labels : List Label) → All (λ (label : Label). IsPlain label.tag) labels → All (λ (key : ℕ × List ℕ). IsPlain key.1) (map label_key labels)
+keys_plain : (labels : List Label) → All (λ (label : Label). IsPlain (tag_of label)) labels → All (λ (key : ℕ × List ℕ). IsPlain key.1) (map label_key labels)
 keys_plain labels h = All-map (λ (key : ℕ × List ℕ). IsPlain key.1) label_key labels h
 
 by_plain : (f : Program) (cases : List TestCase) (id : ℕ) (by : Option (List ℕ)) → All (λ (test : TestCase). IsPlain test.name) cases → IsBy f cases id by → IsPlainBy by
@@ -60,7 +60,7 @@ rows_plain f cases (row ∷ rows) h tags by =
     (rows_plain f cases rows h (All-tail (λ (key : ℕ × List ℕ). IsPlain key.1) (row_key row) (map row_key rows) tags) (All-tail (λ (row : LabelRow). IsBy f cases row.id row.by) row rows by))
 
 -- each name in the table is plain
-pub table_plain : {f : Program} {cases : List TestCase} {tests : List TestRow} {labels : List LabelRow} → All (λ (label : Label). IsPlain label.tag) (labels_in f.items) → All (λ (test : TestCase). IsPlain test.name) cases → IsTable f cases tests labels → IsPlainTable tests labels
+pub table_plain : {f : Program} {cases : List TestCase} {tests : List TestRow} {labels : List LabelRow} → All (λ (label : Label). IsPlain (tag_of label)) (labels_in f.items) → All (λ (test : TestCase). IsPlain test.name) cases → IsTable f cases tests labels → IsPlainTable tests labels
 table_plain {f = f} {cases = cases} {tests = tests} {labels = labels} tags names table =
     record {
       each_test = tests_plain f cases tests table.are_tests names;

@@ -11,7 +11,7 @@ use Rattle.lt_tree.specs.declared.expression.Expr.TheVariants as variant
 use Rattle.lt_tree.specs.Tree as t
 use Rattle.lt_tree.specs.View.{expression_of}
 use Rattle.lt_tree.specs.UnitView.{items_in}
-use Rattle.lt_tree.specs.SmallTree.{Label, Statement, Items, Test, If as if_only, IfElse, a_statement, a_mark, labels_in_statement}
+use Rattle.lt_tree.specs.SmallTree.{Label, id_of, labels_before, labels_in_statement}
 use Rattle.lt_replay.specs.declared.code.Command.{Command}
 use Rattle.lt_replay.specs.Code.{Check, Step, Steps, Block, If, Mark, end, then_steps, step_of, steps_in}
 use Rattle.lt_replay.specs.Resolving.{numbered_label, numbered_test, numbered_statement, numbered_items, ids_of}
@@ -30,22 +30,22 @@ before_push [] command rest = refl
 before_push (c ∷ commands) command rest = ap (then_steps (step_of c)) (before_push commands command rest)
 
 more_ids : (ids : List ℕ) (labels : List Label) → length (ids ++ ids_of labels) ≡ length ids + length labels
-more_ids ids labels = omega (arith, length-append ids (ids_of labels), length-map labels (λ (label : Label). label.id))
+more_ids ids labels = omega (arith, length-append ids (ids_of labels), length-map labels id_of)
 
-pub statement_goes : (find : List ℕ → ℕ) (commands : List Command) (command : Command) (ids new : List ℕ) (first : Statement) (rest : Items) → step_of command ≡ numbered_statement find (length ids) first → new ≡ ids ++ ids_of (labels_in_statement first)
-    → before (commands ++ command ∷ []) (numbered_items find (length new) rest) ≡ before commands (numbered_items find (length ids) (a_statement first rest))
+pub statement_goes : (find : List ℕ → ℕ) (commands : List Command) (command : Command) (ids new : List ℕ) (first : t.Statement) (rest : t.Items) → step_of command ≡ numbered_statement find (length ids) first → new ≡ ids ++ ids_of (labels_in_statement first)
+    → before (commands ++ command ∷ []) (numbered_items find (length new) rest) ≡ before commands (numbered_items find (length ids) (t.a_statement first rest))
 statement_goes find commands command ids new first rest is new_is =
     let count : length new ≡ length ids + length (labels_in_statement first) = ap length new_is ∙ more_ids ids (labels_in_statement first) in
     before_push commands command (numbered_items find (length new) rest) ∙ ap (λ (s : Step). before commands (then_steps s (numbered_items find (length new) rest))) is ∙ ap (λ n. before commands (then_steps (numbered_statement find (length ids) first) (numbered_items find n rest))) count
 
-pub mark_goes : (find : List ℕ → ℕ) (commands : List Command) (command : Command) (ids new : List ℕ) (label : Label) (rest : Items) → step_of command ≡ Mark (numbered_label find (length ids) label) → new ≡ ids ++ label.id ∷ []
-    → before (commands ++ command ∷ []) (numbered_items find (length new) rest) ≡ before commands (numbered_items find (length ids) (a_mark label rest))
+pub mark_goes : (find : List ℕ → ℕ) (commands : List Command) (command : Command) (ids new : List ℕ) (label : Label) (rest : t.Items) → step_of command ≡ Mark (numbered_label find (length ids) label) → new ≡ ids ++ id_of label ∷ []
+    → before (commands ++ command ∷ []) (numbered_items find (length new) rest) ≡ before commands (numbered_items find (length ids) (t.a_label label rest))
 mark_goes find commands command ids new label rest is new_is =
-    let count : length new ≡ suc (length ids) = ap length new_is ∙ omega (arith, length-append ids (label.id ∷ [])) in
+    let count : length new ≡ suc (length ids) = ap length new_is ∙ omega (arith, length-append ids (id_of label ∷ [])) in
     before_push commands command (numbered_items find (length new) rest) ∙ ap (λ (s : Step). before commands (then_steps s (numbered_items find (length new) rest))) is ∙ ap (λ n. before commands (then_steps (Mark (numbered_label find (length ids) label)) (numbered_items find n rest))) count
 
 pub ids_go : (ids : List ℕ) (xs ys : List Label) → (ids ++ ids_of xs) ++ ids_of ys ≡ ids ++ ids_of (xs ++ ys)
-ids_go ids xs ys = append_assoc ids (ids_of xs) (ids_of ys) ∙ ap (λ more. ids ++ more) (sym (map-append (λ (label : Label). label.id) xs ys))
+ids_go ids xs ys = append_assoc ids (ids_of xs) (ids_of ys) ∙ ap (λ more. ids ++ more) (sym (map-append id_of xs ys))
 
 pub next_item : (items : List Item) (i : ℕ) (x : Item) → i < length items → x ≡ get_or items i x → items_in (drop i items) ≡ items_in (x ∷ drop (i + 1) items)
 next_item items i x within is =
@@ -55,20 +55,20 @@ next_item items i x within is =
 pub both_true : {a b : Bool} → a ≡ true → b ≡ true → (a && b) ≡ true
 both_true {a} {b} p q = ap (λ x. x && b) p ∙ q
 
-pub if_is : (find : List ℕ → ℕ) (ids new : List ℕ) (test : Test) (body : Statement) (check : Check) (b o : Step) → check ≡ numbered_test find (length ids) test → new ≡ ids ++ ids_of test.labels → b ≡ numbered_statement find (length new) body → o ≡ Block end
-    → If check b o ≡ numbered_statement find (length ids) (if_only test body)
+pub if_is : (find : List ℕ → ℕ) (ids new : List ℕ) (test : t.Expression) (body : t.Statement) (check : Check) (b o : Step) → check ≡ numbered_test find (length ids) test → new ≡ ids ++ ids_of (labels_before test) → b ≡ numbered_statement find (length new) body → o ≡ Block end
+    → If check b o ≡ numbered_statement find (length ids) (t.If test body)
 if_is find ids new test body check b o check_is new_is b_is o_is =
-    let count : length new ≡ length ids + length test.labels = ap length new_is ∙ more_ids ids test.labels in
+    let count : length new ≡ length ids + length (labels_before test) = ap length new_is ∙ more_ids ids (labels_before test) in
     ap (λ (c : Check). If c b o) check_is ∙ ap (λ (x : Step). If (numbered_test find (length ids) test) x o) (b_is ∙ ap (λ n. numbered_statement find n body) count)
-    ∙ ap (λ (x : Step). If (numbered_test find (length ids) test) (numbered_statement find (length ids + length test.labels) body) x) o_is
+    ∙ ap (λ (x : Step). If (numbered_test find (length ids) test) (numbered_statement find (length ids + length (labels_before test)) body) x) o_is
 
-pub else_is : (find : List ℕ → ℕ) (ids new newer : List ℕ) (test : Test) (body other : Statement) (check : Check) (b o : Step) → check ≡ numbered_test find (length ids) test → new ≡ ids ++ ids_of test.labels → b ≡ numbered_statement find (length new) body → newer ≡ new ++ ids_of (labels_in_statement body) → o ≡ numbered_statement find (length newer) other
-    → If check b o ≡ numbered_statement find (length ids) (IfElse test body other)
+pub else_is : (find : List ℕ → ℕ) (ids new newer : List ℕ) (test : t.Expression) (body other : t.Statement) (check : Check) (b o : Step) → check ≡ numbered_test find (length ids) test → new ≡ ids ++ ids_of (labels_before test) → b ≡ numbered_statement find (length new) body → newer ≡ new ++ ids_of (labels_in_statement body) → o ≡ numbered_statement find (length newer) other
+    → If check b o ≡ numbered_statement find (length ids) (t.IfElse test body other)
 else_is find ids new newer test body other check b o check_is new_is b_is newer_is o_is =
-    let count : length new ≡ length ids + length test.labels = ap length new_is ∙ more_ids ids test.labels in
-    let counts : length newer ≡ length ids + length test.labels + length (labels_in_statement body) = ap length newer_is ∙ more_ids new (labels_in_statement body) ∙ ap (λ n. n + length (labels_in_statement body)) count in
+    let count : length new ≡ length ids + length (labels_before test) = ap length new_is ∙ more_ids ids (labels_before test) in
+    let counts : length newer ≡ length ids + length (labels_before test) + length (labels_in_statement body) = ap length newer_is ∙ more_ids new (labels_in_statement body) ∙ ap (λ n. n + length (labels_in_statement body)) count in
     ap (λ (c : Check). If c b o) check_is ∙ ap (λ (x : Step). If (numbered_test find (length ids) test) x o) (b_is ∙ ap (λ n. numbered_statement find n body) count)
-    ∙ ap (λ (x : Step). If (numbered_test find (length ids) test) (numbered_statement find (length ids + length test.labels) body) x) (o_is ∙ ap (λ n. numbered_statement find n other) counts)
+    ∙ ap (λ (x : Step). If (numbered_test find (length ids) test) (numbered_statement find (length ids + length (labels_before test)) body) x) (o_is ∙ ap (λ n. numbered_statement find n other) counts)
 
 -- a simple assignment
 pub assign_is : (e : Expr) (op : Option Op) (target value : Box Expr) → e ≡ variant.Assign op target value → op ≡ None → expression_of e ≡ t.Assign None (expression_of target.value) (expression_of value.value)

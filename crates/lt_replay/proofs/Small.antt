@@ -4,7 +4,7 @@ use Rattle.lt_tree.specs.declared.expression.UnaryOp.{UnaryOp}
 use Rattle.lt_tree.specs.Tree.{Expression, Marks, Statement, Items, Unit as UnitTree}
 use Rattle.lt_tree.specs.Tree as tree
 use Rattle.lt_tree.specs.SmallTree as small
-use Rattle.lt_tree.specs.SmallTree.{IsSmallExpression, AreSmallMarks, IsSmallTest, IsSmallStatement, AreSmallItems, IsSmallBody, IsSmallUnit, test_of}
+use Rattle.lt_tree.specs.SmallTree.{IsSmallExpression, AreSmallMarks, IsSmallTest, IsSmallStatement, AreSmallItems, IsSmallBody, IsSmallUnit, labels_before, program_of}
 use Rattle.lt_replay.specs.declared.read.token.Fixed.TheVariants as f
 use Rattle.lt_replay.specs.declared.read.token.Token.{Token}
 use Rattle.lt_replay.specs.declared.read.token.Token.TheVariants as token
@@ -66,9 +66,13 @@ pub small_unit : {text : List ℕ} {f : UnitTree} → IsParsed text f → IsSmal
 small_unit p = of_function p.derived
 
 -- a small expression has no marks in front
-pub no_labels : {e : Expression} → IsSmallExpression e → (test_of e).labels ≡ []
+pub no_labels : {e : Expression} → IsSmallExpression e → labels_before e ≡ []
 no_labels small.a_name = refl
 no_labels small.a_constant = refl
 no_labels (small.a_minus s) = refl
 no_labels (small.a_negation s) = refl
 no_labels (small.an_operation s s') = refl
+
+-- the body of a small unit's function
+pub small_body_of : (u : UnitTree) → IsSmallUnit u → IsSmallBody (program_of u).items
+small_body_of u (small.a_function word params body) = body

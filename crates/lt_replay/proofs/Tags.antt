@@ -7,7 +7,7 @@ use Rattle.lt_model.specs.Plain.{is_plain_byte, IsPlain}
 use Rattle.lt_replay.specs.Lexing.{is_tag_byte}
 use Rattle.std.proofs.Common.{◌≡◌, ℕ, Bool, true, false, List, [], ◌∷◌, ◌++◌, refl, sym, subst, arith}
 use Rattle.lt_tree.specs.Tree.{Expression, Marks, Mark, Statement, Items, Unit as UnitTree}
-use Rattle.lt_tree.specs.SmallTree.{Label, label_of, labels_of, test_of, small_statement, small_items, program_of, labels_in_statement, labels_in}
+use Rattle.lt_tree.specs.SmallTree.{Label, tag_of, labels_of, labels_before, program_of, labels_in_statement, labels_in}
 use Rattle.lt_replay.specs.declared.read.token.Token.{Token}
 use Rattle.lt_replay.specs.declared.read.token.Token.TheVariants as token
 use Rattle.lt_replay.specs.Lexing.{is_tag, IsToken, IsCut}
@@ -29,7 +29,7 @@ AreTagged (t ∷ ts) = IsTagged t × AreTagged ts
 -- the tag of each label is one
 abbrev pub HaveTags : List Label → Type 0
 HaveTags [] = Unit {0}
-HaveTags (label ∷ labels) = (is_tag label.tag ≡ true) × HaveTags labels
+HaveTags (label ∷ labels) = (is_tag (tag_of label) ≡ true) × HaveTags labels
 
 HaveTags-append : (xs ys : List Label) → HaveTags xs → HaveTags ys → HaveTags (xs ++ ys)
 HaveTags-append [] ys h k = k
@@ -63,7 +63,7 @@ mutual
 
 -- the label's tag, and what stands behind it
 pub record Marked (m : Mark) (rest : List Token) : Type 0 where
-  pub tag : is_tag (label_of m).tag ≡ true
+  pub tag : is_tag (tag_of m) ≡ true
   pub behind : AreTagged rest
 
 of_mark : {ts rest : List Token} {m : Mark} → IsMark ts m rest → AreTagged ts → Marked m rest
@@ -81,39 +81,39 @@ of_marks (g.marked m d) h =
     record { tags = (first.tag, more.tags); behind = more.behind }
 
 -- the labels of a test as one expression
-labels_tested : {ts rest : List Token} {marks : Marks} {e : Expression} → IsTest ts marks e rest → (test_of (tested marks e)).labels ≡ labels_of marks
+labels_tested : {ts rest : List Token} {marks : Marks} {e : Expression} → IsTest ts marks e rest → labels_before (tested marks e) ≡ labels_of marks
 labels_tested (g.value d) = no_labels (of_expression d)
 labels_tested (g.marked m d) = refl
 
-of_test : {ts rest : List Token} {marks : Marks} {e : Expression} → IsTest ts marks e rest → AreTagged ts → Tested (test_of (tested marks e)).labels rest
+of_test : {ts rest : List Token} {marks : Marks} {e : Expression} → IsTest ts marks e rest → AreTagged ts → Tested (labels_before (tested marks e)) rest
 of_test {rest = rest} d h = subst (λ (labels : List Label). Tested labels rest) (sym (labels_tested d)) (of_marks d h)
 
 mutual
-  of_statement : {ts rest : List Token} {s : Statement} → IsStatement ts s rest → AreTagged ts → Tested (labels_in_statement (small_statement s)) rest
+  of_statement : {ts rest : List Token} {s : Statement} → IsStatement ts s rest → AreTagged ts → Tested (labels_in_statement s) rest
   of_statement (g.compound items) h = of_items items h.1
   of_statement (g.assignment d) h = record { tags = tt; behind = (behind_expression d h.1.1).1 }
   of_statement (g.returns d) h = record { tags = tt; behind = (behind_expression d h.1).1 }
   of_statement (g.if_alone {body = body} t s n) h =
       let test_is = of_test t h.1.1 in
       let body_is = of_statement s test_is.behind.1 in
-      record { tags = HaveTags-append _ (labels_in_statement (small_statement body)) test_is.tags body_is.tags; behind = body_is.behind }
+      record { tags = HaveTags-append _ (labels_in_statement body) test_is.tags body_is.tags; behind = body_is.behind }
   of_statement (g.if_else {body = body} {other = other} t s o) h =
       let test_is = of_test t h.1.1 in
       let body_is = of_statement s test_is.behind.1 in
       let other_is = of_statement o body_is.behind.1 in
-      let tags = HaveTags-append _ (labels_in_statement (small_statement body)) test_is.tags body_is.tags in
-      record { tags = HaveTags-append _ (labels_in_statement (small_statement other)) tags other_is.tags; behind = other_is.behind }
+      let tags = HaveTags-append _ (labels_in_statement body) test_is.tags body_is.tags in
+      record { tags = HaveTags-append _ (labels_in_statement other) tags other_is.tags; behind = other_is.behind }
   of_statement (g.loop {body = body} t s) h =
       let test_is = of_test t h.1.1 in
       let body_is = of_statement s test_is.behind.1 in
-      record { tags = HaveTags-append _ (labels_in_statement (small_statement body)) test_is.tags body_is.tags; behind = body_is.behind }
+      record { tags = HaveTags-append _ (labels_in_statement body) test_is.tags body_is.tags; behind = body_is.behind }
 
-  of_items : {ts rest : List Token} {items : Items} → AreItems ts items rest → AreTagged ts → Tested (labels_in (small_items items)) rest
+  of_items : {ts rest : List Token} {items : Items} → AreItems ts items rest → AreTagged ts → Tested (labels_in items) rest
   of_items g.ended h = record { tags = tt; behind = h.1 }
   of_items (g.statement {s = s} {items = items} d more) h =
       let first = of_statement d h in
       let rest = of_items more first.behind in
-      record { tags = HaveTags-append (labels_in_statement (small_statement s)) (labels_in (small_items items)) first.tags rest.tags; behind = rest.behind }
+      record { tags = HaveTags-append (labels_in_statement s) (labels_in items) first.tags rest.tags; behind = rest.behind }
   of_items (g.label m more) h =
       let first = of_mark m h in
       let rest = of_items more first.behind.1 in
@@ -127,7 +127,7 @@ behind_parameters : {ts rest : List Token} {names : List (List ℕ)} → ArePara
 behind_parameters g.none h = h.1.1
 behind_parameters (g.names d) h = behind_names d h
 
-of_body : {ts : List Token} {body : Items} → IsBody ts body → AreTagged ts → HaveTags (labels_in (small_items body))
+of_body : {ts : List Token} {body : Items} → IsBody ts body → AreTagged ts → HaveTags (labels_in body)
 of_body (g.items d) h = (of_items d h).tags
 of_body (g.local d) h = of_body d h.1.1.1
 
@@ -149,10 +149,10 @@ bytes_plain : (bytes : List ℕ) → list_all is_tag_byte bytes ≡ true → IsP
 bytes_plain [] h = All-nil (λ b. IsTrue (is_plain_byte b))
 bytes_plain (b ∷ bytes) h = All-cons (λ b. IsTrue (is_plain_byte b)) b bytes (tag_byte b (both_left _ _ h)) (bytes_plain bytes (both_right _ _ h))
 
-labels_plain : (labels : List Label) → HaveTags labels → All (λ (label : Label). IsPlain label.tag) labels
-labels_plain [] h = All-nil (λ (label : Label). IsPlain label.tag)
-labels_plain (label ∷ labels) h = All-cons (λ (label : Label). IsPlain label.tag) label labels (bytes_plain label.tag (both_right _ _ h.0)) (labels_plain labels h.1)
+labels_plain : (labels : List Label) → HaveTags labels → All (λ (label : Label). IsPlain (tag_of label)) labels
+labels_plain [] h = All-nil (λ (label : Label). IsPlain (tag_of label))
+labels_plain (label ∷ labels) h = All-cons (λ (label : Label). IsPlain (tag_of label)) label labels (bytes_plain (tag_of label) (both_right _ _ h.0)) (labels_plain labels h.1)
 
 -- the tags of a small text's labels are plain
-pub plain_tags : {text : List ℕ} {f : UnitTree} → IsParsed text f → All (λ (label : Label). IsPlain label.tag) (labels_in (program_of f).items)
+pub plain_tags : {text : List ℕ} {f : UnitTree} → IsParsed text f → All (λ (label : Label). IsPlain (tag_of label)) (labels_in (program_of f).items)
 plain_tags p = labels_plain _ (of_function p.derived (tagged_tokens p.cut))

@@ -4,7 +4,7 @@ use Rattle.std.specs.List.Sorted.{IsPermutation, IsSortedByKey}
 use Rattle.std.specs.Ordering.{nat_cmp}
 use Rattle.std.specs.Cmp.Lexicographic.{slice_cmp}
 use Rattle.std.specs.declared.cmp.Ordering.TheVariants.{Greater}
-use Rattle.lt_tree.specs.SmallTree.{Label, Program, labels_in}
+use Rattle.lt_tree.specs.SmallTree.{Label, Program, id_of, tag_of, labels_in}
 use Rattle.lt_tree.specs.SmallMeaning.{run, covers}
 use Rattle.lt_input.specs.Cases.{TestCase}
 use Rattle.lt_cover.specs.declared.table.TestRow.{TestRow}
@@ -43,6 +43,6 @@ row_of_test f test = record { name = test.name; end = (run f test.values most_ti
 pub record IsTable (f : Program) (suite : List TestCase) (tests : List TestRow) (labels : List LabelRow) : Type 0 where
   pub are_tests : IsPermutation (map (row_of_test f) suite) tests
   pub by_name : IsSortedByKey (λ (row : TestRow). row.name) (slice_cmp nat_cmp) tests
-  pub are_labels : IsPermutation {X = ℕ × List ℕ} (map (λ (label : Label). (label.id, label.tag)) (labels_in f.items)) (map (λ (row : LabelRow). (row.id, row.tag)) labels)
+  pub are_labels : IsPermutation {X = ℕ × List ℕ} (map (λ (label : Label). (id_of label, tag_of label)) (labels_in f.items)) (map (λ (row : LabelRow). (row.id, row.tag)) labels)
   pub by_id : IsSortedByKey (λ (row : LabelRow). row.id) nat_cmp labels
   pub covered : All (λ (row : LabelRow). IsBy f suite row.id row.by) labels

@@ -1,6 +1,6 @@
 -- The conditions on the names and the labels of a small function.
 use Rattle.std.specs.Prelude.{◌≢◌, ℕ, ◌≤◌, List, ◌∷◌, ◌++◌, map, All, Contains, AllPairs}
-use Rattle.lt_tree.specs.SmallTree.{Label, Program, labels_in, names_in}
+use Rattle.lt_tree.specs.SmallTree.{Program, id_of, labels_in, names_in}
 
 -- the parameters and the local variables
 abbrev pub variables : Program → List (List ℕ)
@@ -12,7 +12,7 @@ pub record NamesFit (f : Program) : Type 0 where
   pub known : All (Contains (variables f)) (names_in f.items)
 
 abbrev pub ids_in : Program → List ℕ
-ids_in f = map (λ (label : Label). label.id) (labels_in f.items)
+ids_in f = map id_of (labels_in f.items)
 
 -- The numbers of the labels differ, and are from 1 to 1,000,000,000.
 pub record IdsFit (f : Program) : Type 0 where

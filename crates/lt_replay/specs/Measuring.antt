@@ -1,6 +1,6 @@
 -- The first of the tests, in their order, that covers each label.
 use Rattle.std.specs.Prelude.{◌≡◌, ℕ, suc, ◌<◌, List, [], ◌∷◌, length, Option, Some, None, option_map, slice_get, slice_set, slice_index_or}
-use Rattle.lt_tree.specs.SmallTree.{Label, Program}
+use Rattle.lt_tree.specs.SmallTree.{Label, Program, id_of, tag_of}
 use Rattle.lt_cover.specs.declared.table.TestRow.{TestRow}
 use Rattle.lt_cover.specs.declared.table.LabelRow.{LabelRow}
 use Rattle.lt_replay.specs.Form.{ids_in}
@@ -35,4 +35,4 @@ name_at _ rows = None
 -- the rows of labels with numbers from n
 abbrev pub rows_from : ℕ → List Label → List (Option ℕ) → List TestRow → List LabelRow
 rows_from n [] firsts rows = []
-rows_from n (label ∷ labels) firsts rows = record { id = label.id; tag = label.tag; by = name_at (slice_get firsts n) rows } ∷ rows_from (suc n) labels firsts rows
+rows_from n (label ∷ labels) firsts rows = record { id = id_of label; tag = tag_of label; by = name_at (slice_get firsts n) rows } ∷ rows_from (suc n) labels firsts rows

@@ -7,7 +7,7 @@ use Rattle.lt_model.specs.declared.run.End.TheVariants as E
 use Rattle.lt_model.specs.State.{Bound}
 use Rattle.lt_tree.specs.declared.expression.UnaryOp.TheVariants as prefix
 use Rattle.lt_tree.specs.Tree as t
-use Rattle.lt_tree.specs.SmallTree.{IsSmallBody, Tree, Named, Number, Minus as minus, Not as negation, Binary as binary, Label, Test, Statement, Compound, Assigns, If as if_only, IfElse, While as while_loop, Return as return_of, Items, no_items, a_statement, a_mark, Program, labels_in, labels_in_statement}
+use Rattle.lt_tree.specs.SmallTree.{IsSmallBody, Label, Program, number_of as number_written, predicate_of, id_of, labels_before, behind_labels, labels_in, labels_in_statement}
 use Rattle.lt_tree.specs.SmallMeaning.{object_of, run, has_true}
 use Rattle.lt_replay.specs.declared.code.Code.{Code}
 use Rattle.lt_tree.specs.declared.stop.Stop.{Stop}
@@ -34,42 +34,56 @@ abbrev pub place_in : List Bound → List ℕ → ℕ
 place_in scope name = number_of (object_of scope name)
 
 -- an expression with these numbers for its names
-abbrev pub numbered : (List ℕ → ℕ) → Tree → Formula
-numbered find (Named name) = Variable (find name)
-numbered find (Number z) = Constant z
-numbered find (minus e) = Minus (numbered find e)
-numbered find (negation e) = Not (numbered find e)
-numbered find (binary op left right) = Binary op (numbered find left) (numbered find right)
+abbrev pub numbered : (List ℕ → ℕ) → t.Expression → Formula
+numbered find (t.Name name) = Variable (find name)
+numbered find (t.Constant text) = Constant (pos (number_written text))
+numbered find (t.Unary prefix.Minus e) = Minus (numbered find e)
+numbered find (t.Unary prefix.Not e) = Not (numbered find e)
+numbered find (t.Binary op left right) = Binary op (numbered find left) (numbered find right)
+numbered find _ = Constant (pos 0)
 
 abbrev pub numbered_label : (List ℕ → ℕ) → ℕ → Label → Spot
-numbered_label find n label = record { predicate = numbered find label.predicate; label = n }
+numbered_label find n label = record { predicate = numbered find (predicate_of label); label = n }
 
 -- labels with numbers from n
 abbrev pub numbered_labels : (List ℕ → ℕ) → ℕ → List Label → List Spot
 numbered_labels find n [] = []
 numbered_labels find n (label ∷ labels) = numbered_label find n label ∷ numbered_labels find (suc n) labels
 
-abbrev pub numbered_test : (List ℕ → ℕ) → ℕ → Test → Check
-numbered_test find n test = record { spots = numbered_labels find n test.labels; value = numbered find test.value }
+-- a controlling expression
+abbrev pub numbered_test : (List ℕ → ℕ) → ℕ → t.Expression → Check
+numbered_test find n test = record { spots = numbered_labels find n (labels_before test); value = numbered find (behind_labels test) }
+
+abbrev pub numbered_assignment : (List ℕ → ℕ) → t.Expression → t.Expression → Step
+numbered_assignment find (t.Name target) e = Assign (find target) (numbered find e)
+numbered_assignment find _ e = Block end
+
+-- an expression as a statement
+abbrev pub numbered_evaluated : (List ℕ → ℕ) → t.Expression → Step
+numbered_evaluated find (t.Assign None target e) = numbered_assignment find target e
+numbered_evaluated find _ = Block end
 
 abbrev mutual
   -- a statement whose labels have numbers from n
-  pub numbered_statement : (List ℕ → ℕ) → ℕ → Statement → Step
-  numbered_statement find n (Compound items) = Block (numbered_items find n items)
-  numbered_statement find n (Assigns target e) = Assign (find target) (numbered find e)
-  numbered_statement find n (if_only test body) = If (numbered_test find n test) (numbered_statement find (n + length test.labels) body) (Block end)
-  numbered_statement find n (IfElse test body other) =
-      If (numbered_test find n test) (numbered_statement find (n + length test.labels) body) (numbered_statement find (n + length test.labels + length (labels_in_statement body)) other)
-  numbered_statement find n (while_loop test body) = While (numbered_test find n test) (numbered_statement find (n + length test.labels) body)
-  numbered_statement find n (return_of e) = Return (numbered find e)
+  pub numbered_statement : (List ℕ → ℕ) → ℕ → t.Statement → Step
+  numbered_statement find n (t.Compound items) = Block (numbered_items find n items)
+  numbered_statement find n (t.Evaluates e) = numbered_evaluated find e
+  numbered_statement find n (t.If test body) = If (numbered_test find n test) (numbered_statement find (n + length (labels_before test)) body) (Block end)
+  numbered_statement find n (t.IfElse test body other) =
+      If (numbered_test find n test) (numbered_statement find (n + length (labels_before test)) body) (numbered_statement find (n + length (labels_before test) + length (labels_in_statement body)) other)
+  numbered_statement find n (t.While test body) = While (numbered_test find n test) (numbered_statement find (n + length (labels_before test)) body)
+  numbered_statement find n (t.Return (Some e)) = Return (numbered find e)
+  numbered_statement find n _ = Block end
 
-  pub numbered_items : (List ℕ → ℕ) → ℕ → Items → Steps
-  numbered_items find n no_items = end
-  numbered_items find n (a_statement first rest) = then_steps (numbered_statement find n first) (numbered_items find (n + length (labels_in_statement first)) rest)
-  numbered_items find n (a_mark label rest) = then_steps (Mark (numbered_label find n label)) (numbered_items find (suc n) rest)
+  -- declarations leave no code
+  pub numbered_items : (List ℕ → ℕ) → ℕ → t.Items → Steps
+  numbered_items find n t.no_items = end
+  numbered_items find n (t.a_declaration first rest) = numbered_items find n rest
+  numbered_items find n (t.a_statement first rest) = then_steps (numbered_statement find n first) (numbered_items find (n + length (labels_in_statement first)) rest)
+  numbered_items find n (t.a_label first rest) = then_steps (Mark (numbered_label find n first)) (numbered_items find (suc n) rest)
 
 abbrev pub ids_of : List Label → List ℕ
-ids_of labels = map (λ (label : Label). label.id) labels
+ids_of labels = map id_of labels
 
 -- whether an expression is a small one of which each name passes
 abbrev pub fits : (List ℕ → Bool) → t.Expression → Bool
@@ -134,10 +148,10 @@ pub record IsCodeOf (f : Program) (code : Code) : Type 0 where
   pub items : steps_in code.items.items ≡ numbered_items (place_in (scope_of f)) 0 f.items
 
 -- The code of a function, or what the function lacks if its body is a small one.
-abbrev pub IsResolved : t.Items → Program → Result Code Stop → Type 0
-IsResolved body f (Ok code) = IsCodeOf f code
-IsResolved body f (Err NotOfForm) = IsSmallBody body → NamesFit f → IdsFit f → ⊥
-IsResolved body f (Err NoMemory) = Unit {0}
+abbrev pub IsResolved : Program → Result Code Stop → Type 0
+IsResolved f (Ok code) = IsCodeOf f code
+IsResolved f (Err NotOfForm) = IsSmallBody f.items → NamesFit f → IdsFit f → ⊥
+IsResolved f (Err NoMemory) = Unit {0}
 
 -- the parameters have the values that they are given, and 0 where none is left
 abbrev pub given : ℕ → List ℤ → List (Option ℤ)

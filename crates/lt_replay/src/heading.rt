@@ -37,8 +37,7 @@ pub fn heading(alloc: Global, unit: &Unit) -> Result<Function<'_>, Stop>
 
 // A definition with its names.
 fn function_of(alloc: Global, definition: &FunctionDefinition) -> Result<Function<'_>, AllocError>
-    ensures is { IfOk result (λ f. function_of f ≡ program_of (external_of (defined definition.now) ∷ [])) }
-    ensures items { IfOk result (λ f. f.items.now ≡ definition.now.body.items) }
+    ensures { IfOk result (λ f. function_of f ≡ program_of (external_of (defined definition.now) ∷ [])) }
 {
     let items = definition.body.as_slice();
     Ok(Function {

@@ -1,4 +1,5 @@
-// Reads functions of the small language, replays a suite on one and tables its coverage; `specs/First.antt` says what that is.
+// Reads functions of the small language and suites of them, replays a suite and writes its coverage text; `specs/First.antt` says
+// what that is.
 #![tactic(auto)]
 
 mod code;
@@ -13,10 +14,7 @@ mod replay;
 mod resolving;
 mod running;
 
+pub use lt_cover::{Coverage, LabelRow, TestRow, write_cover};
+pub use lt_input::{Test, a_text_says_one_suite, names_of_tests_are_plain, suite_of};
 pub use parsing::{one_cut, one_function, parse, tags_are_plain, trees_are_small};
 pub use replay::{FirstStop, first};
-
-#[cfg(test)]
-mod parsing_tests;
-#[cfg(test)]
-mod replay_tests;

@@ -5,7 +5,7 @@ ghost use Rattle.std.specs.Cmp.Lexicographic.{slice_cmp};
 ghost use Rattle.lt_model.specs.declared.run.End.{End};
 ghost use Rattle.lt_tree.specs.View.{expression_of, mark_of};
 ghost use Rattle.lt_tree.specs.UnitView.{statement_of, items_in};
-ghost use Rattle.lt_tree.specs.SmallTree.{Label, Program, label_of, test_of, small_statement, small_items, labels_in, labels_in_statement};
+ghost use Rattle.lt_tree.specs.SmallTree.{Program, id_of, tag_of, labels_before, labels_in, labels_in_statement};
 ghost use Rattle.lt_replay.specs.Heading.{function_of};
 ghost use Rattle.lt_tree.specs.SmallMeaning.{is_ended};
 ghost use Rattle.lt_input.specs.Cases.{TestCase, case_of, cases_of};
@@ -107,7 +107,7 @@ fn run_tests(alloc: Global, code: &Code, tests: &[Test]) -> Result<Runs, AllocEr
 
 // Adds the labels of a controlling expression.
 fn collect_guard<'a>(test: &'a Expr, labels: &mut Vec<&'a Mark>) -> Result<(), AllocError>
-    ensures { OnOk result (map (λ m. label_of (mark_of m.now)) labels.new.items ≡ map (λ m. label_of (mark_of m.now)) labels.old.items ++ (test_of (expression_of test.now)).labels) }
+    ensures { OnOk result (map (λ m. mark_of m.now) labels.new.items ≡ map (λ m. mark_of m.now) labels.old.items ++ labels_before (expression_of test.now)) }
 {
     let (marks, _) = unmarked(test);
     'marks: for mark in marks {
@@ -119,7 +119,7 @@ fn collect_guard<'a>(test: &'a Expr, labels: &mut Vec<&'a Mark>) -> Result<(), A
 // Adds the labels of a statement.
 #[cycle(collecting)]
 fn collect_statement<'a>(statement: &'a Stmt, labels: &mut Vec<&'a Mark>) -> Result<(), AllocError>
-    ensures { OnOk result (map (λ m. label_of (mark_of m.now)) labels.new.items ≡ map (λ m. label_of (mark_of m.now)) labels.old.items ++ labels_in_statement (small_statement (statement_of statement.now))) }
+    ensures { OnOk result (map (λ m. mark_of m.now) labels.new.items ≡ map (λ m. mark_of m.now) labels.old.items ++ labels_in_statement (statement_of statement.now)) }
 {
     match statement {
         Stmt::Compound(items) => collect_items(items.as_slice(), labels),
@@ -149,7 +149,7 @@ fn collect_statement<'a>(statement: &'a Stmt, labels: &mut Vec<&'a Mark>) -> Res
 // Adds the labels of the items of a block.
 #[cycle(collecting)]
 fn collect_items<'a>(items: &'a [Item], labels: &mut Vec<&'a Mark>) -> Result<(), AllocError>
-    ensures { OnOk result (map (λ m. label_of (mark_of m.now)) labels.new.items ≡ map (λ m. label_of (mark_of m.now)) labels.old.items ++ labels_in (small_items (items_in items.now))) }
+    ensures { OnOk result (map (λ m. mark_of m.now) labels.new.items ≡ map (λ m. mark_of m.now) labels.old.items ++ labels_in (items_in items.now)) }
 {
     'items: for item in items {
         match item {
@@ -176,7 +176,7 @@ fn first_name(alloc: Global, runs: &Runs, label: usize) -> Result<Option<Name>, 
 
 // The row of a label.
 fn label_row(alloc: Global, mark: &Mark, by: Option<Name>) -> Result<LabelRow, AllocError>
-    ensures { IfOk result (λ row. row ≡ record { id = (label_of (mark_of mark.now)).id; tag = (label_of (mark_of mark.now)).tag; by = by }) }
+    ensures { IfOk result (λ row. row ≡ record { id = id_of (mark_of mark.now); tag = tag_of (mark_of mark.now); by = by }) }
 {
     let tag = Name::new(alloc, mark.tag.as_slice())?;
     Ok(LabelRow {
@@ -188,7 +188,7 @@ fn label_row(alloc: Global, mark: &Mark, by: Option<Name>) -> Result<LabelRow, A
 
 // A row for each label.
 fn label_rows(alloc: Global, labels: &[&Mark], runs: &Runs) -> Result<Vec<LabelRow>, AllocError>
-    ensures { IfOk result (λ rows. rows.items ≡ rows_from 0 (map (λ m. label_of (mark_of m.now)) labels.now) runs.now.firsts.items runs.now.rows.items) }
+    ensures { IfOk result (λ rows. rows.items ≡ rows_from 0 (map (λ m. mark_of m.now) labels.now) runs.now.firsts.items runs.now.rows.items) }
 {
     let mut rows = Vec::new(alloc);
     'labels: for label in labels {

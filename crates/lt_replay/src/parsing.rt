@@ -1,7 +1,7 @@
 ghost use Rattle.std.specs.Prelude.{◌≡◌, ℕ, List, All};
 ghost use Rattle.lt_model.specs.Plain.{IsPlain};
 ghost use Rattle.lt_tree.specs.Tree.{Unit as UnitTree};
-ghost use Rattle.lt_tree.specs.SmallTree.{Label, IsSmallUnit, labels_in, program_of};
+ghost use Rattle.lt_tree.specs.SmallTree.{Label, IsSmallUnit, tag_of, labels_in, program_of};
 ghost use Rattle.lt_tree.specs.UnitView.{unit_of};
 ghost use Rattle.lt_replay.specs.declared.read.token.Token.{Token};
 ghost use Rattle.lt_tree.specs.Outcome.{Reads};
@@ -40,7 +40,7 @@ pub fn one_function()
 
 /// The tags of a small text's labels stand in the coverage text as they are.
 pub fn tags_are_plain()
-    ensures { (text : List ℕ) (f : UnitTree) → IsParsed text f → All (λ (label : Label). IsPlain label.tag) (labels_in (program_of f).items) }
+    ensures { (text : List ℕ) (f : UnitTree) → IsParsed text f → All (λ (label : Label). IsPlain (tag_of label)) (labels_in (program_of f).items) }
 {}
 
 /// What a small text stands for is a unit of one small function.

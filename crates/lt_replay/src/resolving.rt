@@ -2,10 +2,10 @@ ghost use Rattle.std.specs.Prelude.{◌≡◌, MatchBool, MatchOption, Contains,
 ghost use Rattle.lt_tree.specs.View.{expression_of, mark_of};
 ghost use Rattle.lt_tree.specs.Records.{marks_in};
 ghost use Rattle.lt_tree.specs.UnitView.{statement_of, items_in};
-ghost use Rattle.lt_tree.specs.SmallTree.{number_of as number_written, tree_of, label_of, labels_of, test_of, assigned, evaluated, small_statement, small_items, labels_in, labels_in_statement};
+ghost use Rattle.lt_tree.specs.SmallTree.{number_of as number_written, id_of, labels_of, labels_before, labels_in, labels_in_statement};
 ghost use Rattle.lt_replay.specs.Heading.{function_of};
 ghost use Rattle.lt_replay.specs.Code.{formula_of, spot_of, check_of, step_of, steps_in};
-ghost use Rattle.lt_replay.specs.Resolving.{numbered, numbered_label, numbered_labels, numbered_test, numbered_statement, numbered_items, ids_of, fits, fits_mark, fits_marks, fits_test, fits_assigned, fits_evaluated, fits_statement, fits_items, Gives, IsResolved};
+ghost use Rattle.lt_replay.specs.Resolving.{numbered, numbered_label, numbered_labels, numbered_test, numbered_assignment, numbered_evaluated, numbered_statement, numbered_items, ids_of, fits, fits_mark, fits_marks, fits_test, fits_assigned, fits_evaluated, fits_statement, fits_items, Gives, IsResolved};
 ghost use Rattle.lt_replay.specs.Numbers.{found, number_by, has_name, declared_names, IsScope, AreTwice, AreNumbered, FitIds};
 
 use crate::code::{Code, Command, Guard, Point, Term};
@@ -81,7 +81,7 @@ fn ids_fit(alloc: Global, ids: &[u32]) -> Result<bool, AllocError>
 /// The code of a function. It isn't of the form if a name is declared twice or used and not declared, or if the numbers of
 /// its labels don't differ or aren't in range.
 pub fn resolve(alloc: Global, f: &Function<'_>) -> Result<Code, Stop>
-    ensures { IsResolved (items_in f.now.items.now) (function_of f.now) result }
+    ensures { IsResolved (function_of f.now) result }
 {
     let Some(numbers) = variables_of(alloc, f)? else {
         return Err(Stop::NotOfForm);
@@ -120,7 +120,7 @@ fn resolve_expression(
     numbers: &BTreeMap<&[u8], usize>,
     e: &Expr,
 ) -> Result<Term, Stop>
-    ensures { Gives (fits (has_name numbers.now) (expression_of e.now)) (λ term. formula_of term ≡ numbered (number_by numbers.now) (tree_of (expression_of e.now))) result }
+    ensures { Gives (fits (has_name numbers.now) (expression_of e.now)) (λ term. formula_of term ≡ numbered (number_by numbers.now) (expression_of e.now)) result }
 {
     match e {
         Expr::Name(name) => match number_of(numbers, name) {
@@ -175,8 +175,8 @@ fn resolve_mark(
     mark: &Mark,
     ids: &mut Vec<u32>,
 ) -> Result<Point, Stop>
-    ensures is { Gives (fits_mark (has_name numbers.now) (mark_of mark.now)) (λ point. spot_of point ≡ numbered_label (number_by numbers.now) (length ids.old.items) (label_of (mark_of mark.now))) result }
-    ensures ids { OnOk result (ids.new.items ≡ ids.old.items ++ (label_of (mark_of mark.now)).id ∷ []) }
+    ensures is { Gives (fits_mark (has_name numbers.now) (mark_of mark.now)) (λ point. spot_of point ≡ numbered_label (number_by numbers.now) (length ids.old.items) (mark_of mark.now)) result }
+    ensures ids { OnOk result (ids.new.items ≡ ids.old.items ++ id_of (mark_of mark.now) ∷ []) }
 {
     if !mark.bound.is_empty() {
         return Err(Stop::NotOfForm);
@@ -211,8 +211,8 @@ fn resolve_guard(
     test: &Expr,
     ids: &mut Vec<u32>,
 ) -> Result<Guard, Stop>
-    ensures is { Gives (fits_test (has_name numbers.now) (expression_of test.now)) (λ guard. check_of guard ≡ numbered_test (number_by numbers.now) (length ids.old.items) (test_of (expression_of test.now))) result }
-    ensures ids { OnOk result (ids.new.items ≡ ids.old.items ++ ids_of (test_of (expression_of test.now)).labels) }
+    ensures is { Gives (fits_test (has_name numbers.now) (expression_of test.now)) (λ guard. check_of guard ≡ numbered_test (number_by numbers.now) (length ids.old.items) (expression_of test.now)) result }
+    ensures ids { OnOk result (ids.new.items ≡ ids.old.items ++ ids_of (labels_before (expression_of test.now))) }
 {
     let (marks, value) = unmarked(test);
     let points = resolve_marks(alloc, numbers, marks, ids)?;
@@ -227,8 +227,8 @@ fn resolve_assigned(
     target: &Expr,
     value: &Expr,
 ) -> Result<Command, Stop>
-    ensures { (n : ℕ) → Gives (fits_assigned (has_name numbers.now) (expression_of target.now) (expression_of value.now))
-        (λ command. step_of command ≡ numbered_statement (number_by numbers.now) n (assigned (expression_of target.now) (expression_of value.now))) result }
+    ensures { Gives (fits_assigned (has_name numbers.now) (expression_of target.now) (expression_of value.now))
+        (λ command. step_of command ≡ numbered_assignment (number_by numbers.now) (expression_of target.now) (expression_of value.now)) result }
 {
     let Expr::Name(target) = target else {
         return Err(Stop::NotOfForm);
@@ -245,8 +245,8 @@ fn resolve_evaluated(
     numbers: &BTreeMap<&[u8], usize>,
     e: &Expr,
 ) -> Result<Command, Stop>
-    ensures { (n : ℕ) → Gives (fits_evaluated (has_name numbers.now) (expression_of e.now))
-        (λ command. step_of command ≡ numbered_statement (number_by numbers.now) n (evaluated (expression_of e.now))) result }
+    ensures { Gives (fits_evaluated (has_name numbers.now) (expression_of e.now))
+        (λ command. step_of command ≡ numbered_evaluated (number_by numbers.now) (expression_of e.now)) result }
 {
     match e {
         Expr::Assign(op, target, value) => match op {
@@ -265,8 +265,8 @@ fn resolve_statement(
     statement: &Stmt,
     ids: &mut Vec<u32>,
 ) -> Result<Command, Stop>
-    ensures is { Gives (fits_statement (has_name numbers.now) (statement_of statement.now)) (λ command. step_of command ≡ numbered_statement (number_by numbers.now) (length ids.old.items) (small_statement (statement_of statement.now))) result }
-    ensures ids { OnOk result (ids.new.items ≡ ids.old.items ++ ids_of (labels_in_statement (small_statement (statement_of statement.now)))) }
+    ensures is { Gives (fits_statement (has_name numbers.now) (statement_of statement.now)) (λ command. step_of command ≡ numbered_statement (number_by numbers.now) (length ids.old.items) (statement_of statement.now)) result }
+    ensures ids { OnOk result (ids.new.items ≡ ids.old.items ++ ids_of (labels_in_statement (statement_of statement.now))) }
 {
     match statement {
         Stmt::Compound(items) => Ok(Command::Block(resolve_items(
@@ -312,8 +312,8 @@ fn resolve_items(
     items: &[Item],
     ids: &mut Vec<u32>,
 ) -> Result<Vec<Command>, Stop>
-    ensures is { Gives (fits_items (has_name numbers.now) (items_in items.now)) (λ commands. steps_in commands.items ≡ numbered_items (number_by numbers.now) (length ids.old.items) (small_items (items_in items.now))) result }
-    ensures ids { OnOk result (ids.new.items ≡ ids.old.items ++ ids_of (labels_in (small_items (items_in items.now)))) }
+    ensures is { Gives (fits_items (has_name numbers.now) (items_in items.now)) (λ commands. steps_in commands.items ≡ numbered_items (number_by numbers.now) (length ids.old.items) (items_in items.now)) result }
+    ensures ids { OnOk result (ids.new.items ≡ ids.old.items ++ ids_of (labels_in (items_in items.now))) }
 {
     let mut commands = Vec::new(alloc);
     'items: for item in items {

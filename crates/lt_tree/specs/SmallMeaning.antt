@@ -1,4 +1,6 @@
--- What a function of the small language does: expressions by C11 6.5, statements by C11 6.8.
+-- What a function of the small language does, by clauses on the trees of C that it is made of: expressions by C11 6.5,
+-- statements by C11 6.8. Trees that no small text makes have no meaning here: such an expression counts as 0, and such a
+-- statement does nothing.
 use Rattle.std.specs.Prelude.{ℕ, zero, suc, ℤ, pos, List, [], ◌∷◌, ◌++◌, length, Bool, true, false, not, ◌&&◌, ◌==◌, Option, Some, None, Result, Ok, Err, if◌then◌else◌}
 use Rattle.std.specs.Ordering.{int_eq}
 use Rattle.std.specs.Str.{bytes_eq}
@@ -18,7 +20,9 @@ use Rattle.lt_model.specs.declared.run.End.TheVariants.{Returned, Stopped, Undef
 use Rattle.lt_model.specs.Operators.{truth, value_of}
 use Rattle.lt_model.specs.Memory.{Block, then_result, load, store, create}
 use Rattle.lt_model.specs.State.{At, Bound, Made, Answer, Gives, Ends, bind}
-use Rattle.lt_tree.specs.SmallTree.{Tree, Named, Number, Minus, Not, Binary, Label, Test, Statement, Compound, Assigns, If, IfElse, While, Return, Items, no_items, a_statement, a_mark, Program}
+use Rattle.lt_tree.specs.declared.expression.UnaryOp.TheVariants as prefix
+use Rattle.lt_tree.specs.Tree as t
+use Rattle.lt_tree.specs.SmallTree.{Program, Label, number_of, predicate_of, id_of, labels_before, behind_labels}
 
 -- every object has one cell of type int
 abbrev pub int : CellType
@@ -36,12 +40,13 @@ number_in (content.Number z) = Ok z
 number_in (content.Address at) = Err U.NoCell
 
 -- The value of an expression, or its undefined behaviour. Evaluating it changes nothing.
-abbrev pub value : At → Tree → Result ℤ Ub
-value at (Named name) = then_result (load Lp64 at.memory (object_of at.scope name) int) number_in
-value at (Number z) = Ok z
-value at (Minus e) = then_result (value at e) (λ z. value_of Lp64 Sub Int (pos 0) z)
-value at (Not e) = then_result (value at e) (λ z. Ok (truth (int_eq z (pos 0))))
-value at (Binary op left right) = then_result (value at left) (λ a. then_result (value at right) (λ b. value_of Lp64 op Int a b))
+abbrev pub value : At → t.Expression → Result ℤ Ub
+value at (t.Name name) = then_result (load Lp64 at.memory (object_of at.scope name) int) number_in
+value at (t.Constant text) = Ok (pos (number_of text))
+value at (t.Unary prefix.Minus e) = then_result (value at e) (λ z. value_of Lp64 Sub Int (pos 0) z)
+value at (t.Unary prefix.Not e) = then_result (value at e) (λ z. Ok (truth (int_eq z (pos 0))))
+value at (t.Binary op left right) = then_result (value at left) (λ a. then_result (value at right) (λ b. value_of Lp64 op Int a b))
+value at _ = Ok (pos 0)
 
 -- undefined behaviour ends the run
 abbrev pub answered : {A : Type 0} → Result A Ub → At → Answer A
@@ -55,7 +60,7 @@ holds (Err kind) = false
 
 -- a mark is made; it costs no tick
 abbrev pub marked : Label → At → At
-marked label at = record at { marks = at.marks ++ record { id = label.id; truth = holds (value at label.predicate); values = [] } ∷ [] }
+marked label at = record at { marks = at.marks ++ record { id = id_of label; truth = holds (value at (predicate_of label)); values = [] } ∷ [] }
 
 abbrev pub marked_all : List Label → At → At
 marked_all [] at = at
@@ -80,8 +85,8 @@ abbrev pub tick : {A : Type 0} → (At → Answer A) → At → Answer A
 tick go at = spent at.ticks go at
 
 -- the marks of a controlling expression, and then whether it isn't 0
-abbrev pub tested : Test → At → Answer Bool
-tested test at = let before = marked_all test.labels at in bind (answered (value before test.value) before) (λ z at1. Gives (not (int_eq z (pos 0))) at1)
+abbrev pub tested : t.Expression → At → Answer Bool
+tested test at = let before = marked_all (labels_before test) at in bind (answered (value before (behind_labels test)) before) (λ z at1. Gives (not (int_eq z (pos 0))) at1)
 
 abbrev pub choose : {A : Type 0} → Bool → (At → A) → (At → A) → At → A
 choose true go other at = go at
@@ -92,26 +97,38 @@ abbrev pub stored : List ℕ → ℤ → At → Answer Flow
 stored name z at = bind (answered (store Lp64 at.memory (object_of at.scope name) int (content.Number z)) at) (λ memory at1. Gives Next (record at1 { memory = memory }))
 
 -- the tests and turns of a loop, at most so many; each spends a tick
-abbrev pub turns : ℕ → Test → (At → Answer Flow) → At → Answer Flow
+abbrev pub turns : ℕ → t.Expression → (At → Answer Flow) → At → Answer Flow
 turns zero test body at = Ends Steps at
 turns (suc n) test body at =
     tick (λ at1. bind (tested test at1) (λ goes_on at2. choose goes_on (λ at3. bind (body at3) (λ flow at4. after flow (turns n test body) at4)) (λ at3. Gives Next at3) at2)) at
 
+-- an assignment to a name
+abbrev pub assigned : t.Expression → t.Expression → At → Answer Flow
+assigned (t.Name target) e at = tick (λ at1. bind (answered (value at1 e) at1) (λ z at2. stored target z at2)) at
+assigned _ e at = Gives Next at
+
+-- an expression as a statement
+abbrev pub evaluated : t.Expression → At → Answer Flow
+evaluated (t.Assign None target e) at = assigned target e at
+evaluated _ at = Gives Next at
+
 abbrev mutual
   -- what a statement does
-  pub exec : Statement → At → Answer Flow
-  exec (Compound items) at = exec_items items at
-  exec (Assigns target e) at = tick (λ at1. bind (answered (value at1 e) at1) (λ z at2. stored target z at2)) at
-  exec (If test body) at = tick (λ at1. bind (tested test at1) (λ is_true at2. choose is_true (exec body) (λ at3. Gives Next at3) at2)) at
-  exec (IfElse test body other) at = tick (λ at1. bind (tested test at1) (λ is_true at2. choose is_true (exec body) (exec other) at2)) at
-  exec (While test body) at = tick (λ at1. turns at1.ticks test (exec body) at1) at
-  exec (Return e) at = tick (λ at1. bind (answered (value at1 e) at1) (λ z at2. Gives (Returns z) at2)) at
+  pub exec : t.Statement → At → Answer Flow
+  exec (t.Compound items) at = exec_items items at
+  exec (t.Evaluates e) at = evaluated e at
+  exec (t.If test body) at = tick (λ at1. bind (tested test at1) (λ is_true at2. choose is_true (exec body) (λ at3. Gives Next at3) at2)) at
+  exec (t.IfElse test body other) at = tick (λ at1. bind (tested test at1) (λ is_true at2. choose is_true (exec body) (exec other) at2)) at
+  exec (t.While test body) at = tick (λ at1. turns at1.ticks test (exec body) at1) at
+  exec (t.Return (Some e)) at = tick (λ at1. bind (answered (value at1 e) at1) (λ z at2. Gives (Returns z) at2)) at
+  exec _ at = Gives Next at
 
-  -- the items of a block, one after another
-  pub exec_items : Items → At → Answer Flow
-  exec_items no_items at = Gives Next at
-  exec_items (a_statement first rest) at = bind (exec first at) (λ flow at1. after flow (exec_items rest) at1)
-  exec_items (a_mark label rest) at = exec_items rest (marked label at)
+  -- the items of a block, one after another; the objects of its declarations are there from the beginning
+  pub exec_items : t.Items → At → Answer Flow
+  exec_items t.no_items at = Gives Next at
+  exec_items (t.a_declaration first rest) at = exec_items rest at
+  exec_items (t.a_statement first rest) at = bind (exec first at) (λ flow at1. after flow (exec_items rest) at1)
+  exec_items (t.a_label first rest) at = exec_items rest (marked first at)
 
 -- an object of type int
 abbrev pub int_object : Content → Block

@@ -1,6 +1,5 @@
--- Functions of the small language: which trees of C they are, and what such a tree comes to, without the parts that all of
--- them have in common. Their meaning, in SmallMeaning.antt, is said over what the trees come to.
-use Rattle.std.specs.Prelude.{ℕ, ℤ, pos, false, List, [], ◌∷◌, ◌++◌, map, Some, None, unwrap_or}
+-- Functions of the small language: which trees of C they are, and their names and labels.
+use Rattle.std.specs.Prelude.{ℕ, false, List, [], ◌∷◌, ◌++◌, map, Some, None, unwrap_or}
 use Rattle.std.specs.List.{flat_map}
 use Rattle.lt_model.specs.declared.operator.Op.{Op}
 use Rattle.lt_tree.specs.declared.expression.UnaryOp.TheVariants as prefix
@@ -78,100 +77,14 @@ int_function word params body = t.Defines int_specifiers (t.declarator (Some wor
 pub data IsSmallUnit : t.Unit → Type 0 where
   a_function : (word : List ℕ) (params : List (List ℕ)) {body : t.Items} → IsSmallBody body → IsSmallUnit (int_function word params body)
 
--- ---- what they come to
+-- ---- a function and its names
 
--- an expression
-pub data Tree : Type 0 where
-  Named : (name : List ℕ) → Tree
-  Number : (value : ℤ) → Tree
-  Minus : (e : Tree) → Tree
-  Not : (e : Tree) → Tree
-  Binary : (op : Op) (left right : Tree) → Tree
-
--- a label
-pub record Label : Type 0 where
-  pub predicate : Tree
-  pub id : ℕ
-  pub tag : List ℕ
-
--- an expression with the labels that are marked just before it is evaluated
-pub record Test : Type 0 where
-  pub labels : List Label
-  pub value : Tree
-
-mutual
-  -- a statement
-  pub data Statement : Type 0 where
-    Compound : (items : Items) → Statement
-    Assigns : (target : List ℕ) (value : Tree) → Statement
-    If : (test : Test) (body : Statement) → Statement
-    IfElse : (test : Test) (body other : Statement) → Statement
-    While : (test : Test) (body : Statement) → Statement
-    Return : (value : Tree) → Statement
-
-  -- the items of a block, in order
-  pub data Items : Type 0 where
-    no_items : Items
-    a_statement : (first : Statement) (rest : Items) → Items
-    a_mark : (label : Label) (rest : Items) → Items
-
--- a function
+-- a function, taken out of its unit; the items are its whole body
 pub record Program : Type 0 where
   pub name : List ℕ
   pub params : List (List ℕ)
   pub locals : List (List ℕ)
-  pub items : Items
-
--- the value of a constant, if it is from 0 to 2,147,483,647
-abbrev pub number_of : List ℕ → ℕ
-number_of text = within (value_of text)
-
--- an expression; what is no small one counts as 0 here and does nothing below
-abbrev pub tree_of : t.Expression → Tree
-tree_of (t.Name name) = Named name
-tree_of (t.Constant text) = Number (pos (number_of text))
-tree_of (t.Unary prefix.Minus e) = Minus (tree_of e)
-tree_of (t.Unary prefix.Not e) = Not (tree_of e)
-tree_of (t.Binary op left right) = Binary op (tree_of left) (tree_of right)
-tree_of _ = Number (pos 0)
-
-abbrev pub label_of : t.Mark → Label
-label_of (t.mark predicate id tag bound) = record { predicate = tree_of predicate; id = number_of id; tag = tag }
-
-abbrev pub labels_of : t.Marks → List Label
-labels_of t.no_marks = []
-labels_of (t.a_mark first rest) = label_of first ∷ labels_of rest
-
--- the marks in front of an expression, and what stands behind them
-abbrev pub test_of : t.Expression → Test
-test_of (t.Marked marks value) = record { labels = labels_of marks; value = tree_of value }
-test_of e = record { labels = []; value = tree_of e }
-
--- an expression as a statement: only an assignment to a name is a small one
-abbrev pub assigned : t.Expression → t.Expression → Statement
-assigned (t.Name target) value = Assigns target (tree_of value)
-assigned _ value = Compound no_items
-
-abbrev pub evaluated : t.Expression → Statement
-evaluated (t.Assign None target value) = assigned target value
-evaluated _ = Compound no_items
-
-abbrev mutual
-  pub small_statement : t.Statement → Statement
-  small_statement (t.Compound items) = Compound (small_items items)
-  small_statement (t.Evaluates e) = evaluated e
-  small_statement (t.If test body) = If (test_of test) (small_statement body)
-  small_statement (t.IfElse test body other) = IfElse (test_of test) (small_statement body) (small_statement other)
-  small_statement (t.While test body) = While (test_of test) (small_statement body)
-  small_statement (t.Return (Some value)) = Return (tree_of value)
-  small_statement _ = Compound no_items
-
-  -- without the declarations
-  pub small_items : t.Items → Items
-  small_items t.no_items = no_items
-  small_items (t.a_declaration first rest) = small_items rest
-  small_items (t.a_statement first rest) = a_statement (small_statement first) (small_items rest)
-  small_items (t.a_label first rest) = a_mark (label_of first) (small_items rest)
+  pub items : t.Items
 
 abbrev pub name_of : t.Declarator → List ℕ
 name_of (t.declarator name parts) = unwrap_or name []
@@ -194,51 +107,99 @@ params_of _ = []
 abbrev pub parts_of : t.Declarator → t.Parts
 parts_of (t.declarator name parts) = parts
 
--- the function of a unit of one function
+-- the function of a unit of one function; for another unit one with no names and an empty body
 abbrev pub program_of : t.Unit → Program
 program_of (t.Defines types d body ∷ []) =
-    record { name = name_of d; params = params_of (parts_of d); locals = locals_of body; items = small_items body }
-program_of _ = record { name = []; params = []; locals = []; items = no_items }
+    record { name = name_of d; params = params_of (parts_of d); locals = locals_of body; items = body }
+program_of _ = record { name = []; params = []; locals = []; items = t.no_items }
 
--- ---- labels and names
+-- ---- constants and labels
+
+-- the value of a constant, if it is from 0 to 2,147,483,647
+abbrev pub number_of : List ℕ → ℕ
+number_of text = within (value_of text)
+
+-- a label is a mark in the text
+abbrev pub Label : Type 0
+Label = t.Mark
+
+abbrev pub predicate_of : Label → t.Expression
+predicate_of (t.mark predicate id tag bound) = predicate
+
+abbrev pub id_of : Label → ℕ
+id_of (t.mark predicate id tag bound) = number_of id
+
+abbrev pub tag_of : Label → List ℕ
+tag_of (t.mark predicate id tag bound) = tag
+
+abbrev pub labels_of : t.Marks → List Label
+labels_of t.no_marks = []
+labels_of (t.a_mark first rest) = first ∷ labels_of rest
+
+-- the labels in front of an expression, and what stands behind them
+abbrev pub labels_before : t.Expression → List Label
+labels_before (t.Marked marks value) = labels_of marks
+labels_before e = []
+
+abbrev pub behind_labels : t.Expression → t.Expression
+behind_labels (t.Marked marks value) = value
+behind_labels e = e
 
 -- the labels of a statement, in the order of the text
 abbrev mutual
-  pub labels_in_statement : Statement → List Label
-  labels_in_statement (Compound items) = labels_in items
-  labels_in_statement (Assigns target value) = []
-  labels_in_statement (If test body) = test.labels ++ labels_in_statement body
-  labels_in_statement (IfElse test body other) = test.labels ++ labels_in_statement body ++ labels_in_statement other
-  labels_in_statement (While test body) = test.labels ++ labels_in_statement body
-  labels_in_statement (Return value) = []
+  pub labels_in_statement : t.Statement → List Label
+  labels_in_statement (t.Compound items) = labels_in items
+  labels_in_statement (t.If test body) = labels_before test ++ labels_in_statement body
+  labels_in_statement (t.IfElse test body other) = labels_before test ++ labels_in_statement body ++ labels_in_statement other
+  labels_in_statement (t.While test body) = labels_before test ++ labels_in_statement body
+  labels_in_statement _ = []
 
-  pub labels_in : Items → List Label
-  labels_in no_items = []
-  labels_in (a_statement first rest) = labels_in_statement first ++ labels_in rest
-  labels_in (a_mark label rest) = label ∷ labels_in rest
+  pub labels_in : t.Items → List Label
+  labels_in t.no_items = []
+  labels_in (t.a_declaration first rest) = labels_in rest
+  labels_in (t.a_statement first rest) = labels_in_statement first ++ labels_in rest
+  labels_in (t.a_label first rest) = first ∷ labels_in rest
+
+-- ---- the names that are used
 
 -- the names that an expression uses
-abbrev pub names_in_tree : Tree → List (List ℕ)
-names_in_tree (Named name) = name ∷ []
-names_in_tree (Number value) = []
-names_in_tree (Minus e) = names_in_tree e
-names_in_tree (Not e) = names_in_tree e
-names_in_tree (Binary op left right) = names_in_tree left ++ names_in_tree right
+abbrev pub names_in_expression : t.Expression → List (List ℕ)
+names_in_expression (t.Name name) = name ∷ []
+names_in_expression (t.Unary prefix.Minus e) = names_in_expression e
+names_in_expression (t.Unary prefix.Not e) = names_in_expression e
+names_in_expression (t.Binary op left right) = names_in_expression left ++ names_in_expression right
+names_in_expression _ = []
 
-abbrev pub names_in_test : Test → List (List ℕ)
-names_in_test test = flat_map (λ (label : Label). names_in_tree label.predicate) test.labels ++ names_in_tree test.value
+-- those of the labels' predicates
+abbrev pub names_in_labels : List Label → List (List ℕ)
+names_in_labels labels = flat_map (λ (label : Label). names_in_expression (predicate_of label)) labels
+
+abbrev pub names_in_test : t.Expression → List (List ℕ)
+names_in_test test = names_in_labels (labels_before test) ++ names_in_expression (behind_labels test)
+
+abbrev pub names_in_assignment : t.Expression → t.Expression → List (List ℕ)
+names_in_assignment (t.Name target) value = target ∷ names_in_expression value
+names_in_assignment _ value = []
+
+-- those of an expression as a statement: only an assignment to a name is a small one
+abbrev pub names_evaluated : t.Expression → List (List ℕ)
+names_evaluated (t.Assign None target value) = names_in_assignment target value
+names_evaluated _ = []
 
 -- the names that the expressions and assignments of a statement use, in the order of the text
 abbrev mutual
-  pub names_in_statement : Statement → List (List ℕ)
-  names_in_statement (Compound items) = names_in items
-  names_in_statement (Assigns target value) = target ∷ names_in_tree value
-  names_in_statement (If test body) = names_in_test test ++ names_in_statement body
-  names_in_statement (IfElse test body other) = names_in_test test ++ names_in_statement body ++ names_in_statement other
-  names_in_statement (While test body) = names_in_test test ++ names_in_statement body
-  names_in_statement (Return value) = names_in_tree value
+  pub names_in_statement : t.Statement → List (List ℕ)
+  names_in_statement (t.Compound items) = names_in items
+  names_in_statement (t.Evaluates e) = names_evaluated e
+  names_in_statement (t.If test body) = names_in_test test ++ names_in_statement body
+  names_in_statement (t.IfElse test body other) = names_in_test test ++ names_in_statement body ++ names_in_statement other
+  names_in_statement (t.While test body) = names_in_test test ++ names_in_statement body
+  names_in_statement (t.Return (Some value)) = names_in_expression value
+  names_in_statement _ = []
 
-  pub names_in : Items → List (List ℕ)
-  names_in no_items = []
-  names_in (a_statement first rest) = names_in_statement first ++ names_in rest
-  names_in (a_mark label rest) = names_in_tree label.predicate ++ names_in rest
+  -- declarations use no names
+  pub names_in : t.Items → List (List ℕ)
+  names_in t.no_items = []
+  names_in (t.a_declaration first rest) = names_in rest
+  names_in (t.a_statement first rest) = names_in_statement first ++ names_in rest
+  names_in (t.a_label first rest) = names_in_expression (predicate_of first) ++ names_in rest

@@ -4,7 +4,7 @@ use Rattle.std.proofs.lemmas.List.{map-append}
 use Rattle.lt_tree.specs.Tree as tree
 use Rattle.lt_tree.specs.View.{mark_of}
 use Rattle.lt_tree.specs.UnitView.{statement_of, items_in}
-use Rattle.lt_tree.specs.SmallTree.{Label, label_of, small_statement, small_items, labels_in, labels_in_statement}
+use Rattle.lt_tree.specs.SmallTree.{Label, labels_in, labels_in_statement}
 use Rattle.lt_tree.specs.declared.mark.Mark.{Mark}
 use Rattle.lt_tree.specs.declared.statement.Item.{Item}
 use Rattle.lt_tree.proofs.UnitRows.{compound_is}
@@ -19,21 +19,21 @@ collect_statement-returns-in-Compound t c =
 
 pub collect_items-items-preserved : goal.collect_items-items-preserved
 collect_items-items-preserved t c =
-    let label : Bor Mark → Label = λ m. label_of (mark_of m.now) in
+    let label : Bor Mark → Label = λ m. mark_of m.now in
     let items = c.args.items.now in
     let i = c.items.item-index in
-    let rest = labels_in (small_items (items_in (drop (i + 1) items))) in
+    let rest = labels_in (items_in (drop (i + 1) items)) in
     let before = map label c.items.labels.items in
     let split = next_item items i c.item-item.result c.items-test.true c.item-item.is in
-    let whole = map label c.args.labels.now.items ++ labels_in (small_items (items_in items)) in
-    let back : (x : Item) → c.item-item.result ≡ x → before ++ labels_in (small_items (items_in (x ∷ drop (i + 1) items))) ≡ whole = λ x is.
-    ap (λ all. before ++ labels_in (small_items all)) (sym (split ∙ ap (λ y. items_in (y ∷ drop (i + 1) items)) is)) ∙ c.items.invariant in
+    let whole = map label c.args.labels.now.items ++ labels_in (items_in items) in
+    let back : (x : Item) → c.item-item.result ≡ x → before ++ labels_in (items_in (x ∷ drop (i + 1) items)) ≡ whole = λ x is.
+    ap (λ all. before ++ labels_in all) (sym (split ∙ ap (λ y. items_in (y ∷ drop (i + 1) items)) is)) ∙ c.items.invariant in
     elim c.match-item.branch [
       | collect_items-in-Declaration w ↦ ap (λ v. map label v.items ++ rest) w.labels-is ∙ back _ w.in-Declaration.is
       | collect_items-in-Statement+in_ok-collect_statement-in-Statement w ↦
-          let first = labels_in_statement (small_statement (statement_of w.in-Statement.statement)) in
+          let first = labels_in_statement (statement_of w.in-Statement.statement) in
           ap (λ v. map label v.items ++ rest) w.labels-is ∙ ap (λ all. all ++ rest) w.in_ok-collect_statement-in-Statement.ensures ∙ append_assoc before first rest ∙ back _ w.in-Statement.is
       | collect_items-in-Mark+in_ok-push-in-Mark w ↦
-          let first = label_of (mark_of w.in-Mark.mark) in
+          let first = mark_of w.in-Mark.mark in
           ap (λ v. map label v.items ++ rest) w.labels-is ∙ ap (λ all. map label all ++ rest) w.in_ok-push-in-Mark.ensures.items ∙ ap (λ all. all ++ rest) (map-append label c.items.labels.items _) ∙ append_assoc before (first ∷ []) rest ∙ back _ w.in-Mark.is
     ]

@@ -6,7 +6,7 @@ use Rattle.std.specs.List.Sorted.{IsPermutation, IsSortedByKey}
 use Rattle.std.proofs.lemmas.List.Sorted.{IsPermutation-map, All-permutation}
 use Rattle.lt_tree.specs.View.{mark_of}
 use Rattle.lt_tree.specs.UnitView.{items_in}
-use Rattle.lt_tree.specs.SmallTree.{Label, label_of, small_items, labels_in}
+use Rattle.lt_tree.specs.SmallTree.{Label, labels_in}
 use Rattle.lt_tree.specs.declared.mark.Mark.{Mark}
 use Rattle.lt_replay.specs.Heading.{function_of}
 use Rattle.lt_cover.specs.declared.table.LabelRow.{LabelRow}
@@ -30,9 +30,9 @@ returns c =
     let ran = c.in_ok-runs.ensures f c.requires in
     let rows : runs.rows.items ≡ map (row_of_test f) tests = ran.0 ∙ ap (λ ts. map (row_of_test f) (cases_of ts)) c.as_slice.ensures.value in
     let firsts : AreFirsts f tests runs.firsts.items = subst (λ ts. AreFirsts f (cases_of ts) runs.firsts.items) c.as_slice.ensures.value ran.1 in
-    let seen : List (Bor Mark) → List Label = map (λ m. label_of (mark_of m.now)) in
+    let seen : List (Bor Mark) → List Label = map (λ m. mark_of m.now) in
     let labels = labels_in f.items in
-    let collected : seen c.collect_items.new.labels.items ≡ labels = c.in_ok-collect_items.ensures ∙ ap (λ (marks : List (Bor Mark)). seen marks ++ labels_in (small_items (items_in c.args.f.now.items.now))) c.new-labels.ensures.items in
+    let collected : seen c.collect_items.new.labels.items ≡ labels = c.in_ok-collect_items.ensures ∙ ap (λ (marks : List (Bor Mark)). seen marks ++ labels_in (items_in c.args.f.now.items.now)) c.new-labels.ensures.items in
     let all = rows_from 0 labels runs.firsts.items (map (row_of_test f) tests) in
     let made : c.in_ok-rows.rows.items ≡ all = c.in_ok-rows.ensures ∙ ap (λ marks. rows_from 0 (seen marks) runs.firsts.items runs.rows.items) c.as_slice-2.ensures.value ∙ ap (λ ls. rows_from 0 ls runs.firsts.items runs.rows.items) collected ∙ ap (rows_from 0 labels runs.firsts.items) rows in
     let moved : IsPermutation all c.sort_labels.new.rows.items = subst (λ xs. IsPermutation xs c.sort_labels.new.rows.items) made c.in_ok-sort_labels.ensures.are in

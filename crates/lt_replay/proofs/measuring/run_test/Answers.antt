@@ -1,6 +1,6 @@
 use Rattle.std.proofs.Common.{◌≡◌, ◌++◌, ◌∷◌, [], length, subst, sym, ap, ◌∙◌}
 use Rattle.std.proofs.lemmas.List.{length-map}
-use Rattle.lt_tree.specs.SmallTree.{Label, labels_in}
+use Rattle.lt_tree.specs.SmallTree.{id_of, labels_in}
 use Rattle.lt_input.specs.Cases.{case_of}
 use Rattle.lt_replay.specs.Coverage.{most_ticks, row_of_test}
 use Rattle.lt_replay.specs.Resolving.{IsRunOf}
@@ -18,7 +18,7 @@ returns c = λ f tests is_code room number are.
     let name = c.in_ok-name.ensures ∙ c.as_slice-2.ensures in
     let row : record { name = c.in_ok-name.name; end = end } ≡ row_of_test f case = ap (λ n. record { name = n; end = end }) name ∙ ap (λ e. record { name = case.name; end = e }) ran.ends in (
       row,
-      ran.room ∙ length-map (labels_in f.items) (λ (label : Label). label.id) ∙ sym is_code.labels,
+      ran.room ∙ length-map (labels_in f.items) id_of ∙ sym is_code.labels,
       elim c.if-is_ended.branch [
         | then-is_ended w ↦
             let labels = w.labels.result.now in
