@@ -1,2 +1,1 @@
-mod printed;
 mod trees;

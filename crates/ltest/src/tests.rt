@@ -1,16 +1,4 @@
-mod choices;
-mod constants;
-mod declared;
-mod every;
-mod expressions;
-mod printing;
-mod reading;
-mod rules;
-mod spots;
-mod structs;
-mod types;
-mod typing;
-mod units;
+mod small;
 
 use crate::message::message;
 use crate::status::{Refusal, Status};
@@ -200,6 +188,12 @@ fn the_deepest_nests_run(rt: HostRuntime) -> Result<(), Fail> {
         alloc,
         ["int f(int x) { ", "if (x) ", "return x;", "", " }"],
         499,
+    )?;
+    deepest(
+        &rt,
+        alloc,
+        ["int f(int x) { ", "if (x) {} else ", "return x;", "", " }"],
+        332,
     )?;
     Ok(())
 }

@@ -1,8 +1,9 @@
 //! Texts of C that are parsed and printed, some of them erased between.
 
-use super::reading::parsed;
+use super::reading::{deepest, parsed};
 use lt_print::print_unit;
-use lt_tree::erase;
+use lt_tree::{External, Item, Stmt, Unit, erase, is_pure, max_id};
+use std::alloc::Global;
 
 const ONE_TEST: &str = "int f(int x) {
   if (x > 0)
@@ -95,8 +96,64 @@ int sum(struct node *n) {
 }
 ";
 
+const PARTS: &str = "struct {
+  int x;
+  enum e {
+    A,
+    B = 1
+  } y : 2;
+} s;
+static int *const (*g[2])(int, ...) = {1, {2}};
+";
+
+const BODIES: &str = "int f(int a) {
+  if (a) {
+    if (b)
+      x;
+    else
+      y;
+  }
+  else
+    for (;;)
+      ;
+  do
+    switch (a) {
+      case 1:
+      default:
+      return b;
+    }
+  while (c);
+}
+";
+
+const SIGNS: &str = "void f(void) {
+  a - (b - c);
+  a - b - c;
+  - -x;
+  + -x;
+  & &x;
+  ! &x;
+  **x;
+  ~!x;
+  -*x;
+  f((a, b), 1 .m, \"\\\"\\\\\\n\\t\\000\\310?\");
+  (const int *)sizeof(int (*)[3]);
+}
+";
+
+const NESTED: &str = "void f(void) {
+  pc_label_bind(p, 1, \"T\", v, x);
+  pc_after((pc_label(p, 6, \"t\"), a = pc_decide((int)sizeof - ++*a[i]().m->m++, 2, 9, \"d\") - b && b ? b : c, \"z\"), 4, \"s\");
+}
+";
+
+const NESTED_ERASED: &str = "void f(void) {
+  a = (int)sizeof - ++*a[i]().m->m++ - b && b ? b : c, \"z\";
+}
+";
+
 // a text, and what is printed of it
-const TEXTS: [(&str, &str); 8] = [
+const TEXTS: [(&str, &str); 12] = [
     ("", ""),
     ("int f(int x){ if (x > 0) return 1; return 0; }", ONE_TEST),
     (DECIDED, DECIDED),
@@ -108,6 +165,10 @@ const TEXTS: [(&str, &str); 8] = [
     (TWO_NAMES, TWO_NAMES),
     (USES, USES),
     (LIST, LIST_PRINTED),
+    (PARTS, PARTS),
+    (BODIES, BODIES),
+    (SIGNS, SIGNS),
+    (NESTED, NESTED),
 ];
 
 #[test]
@@ -126,22 +187,76 @@ fn texts_are_printed_in_their_canonical_form(rt: HostRuntime) {
     }
 }
 
-// a text with marks, and what is printed of its erasure
-const MARKED: [(&str, &str); 5] = [
-    (DECIDED, ONE_TEST),
-    (POINTER_MARKED, POINTER),
-    (TWO_NAMES, TWO_NAMES_ERASED),
-    (USES, USES_ERASED),
-    (LIST, LIST_PRINTED),
+// a text with marks, the greatest of their ids, and what is printed of its erasure
+const MARKED: [(&str, u32, &str); 6] = [
+    (DECIDED, 2, ONE_TEST),
+    (POINTER_MARKED, 5, POINTER),
+    (TWO_NAMES, 1, TWO_NAMES_ERASED),
+    (USES, 6, USES_ERASED),
+    (LIST, 0, LIST_PRINTED),
+    (NESTED, 9, NESTED_ERASED),
 ];
 
 #[test]
 fn erased_texts_are_those_without_marks(rt: HostRuntime) {
     let alloc = rt.alloc();
-    for (text, wanted) in MARKED {
+    for (text, highest, wanted) in MARKED {
         let unit = parsed(alloc, text.as_bytes()).expect(&rt, "a unit").unit;
+        assert!(rt; max_id(&unit) == highest, "ids: {text}");
         let erased = erase(alloc, &unit).expect(&rt, "memory");
+        assert!(rt; max_id(&erased) == 0, "no ids: {text}");
         let printed = print_unit(alloc, &erased).expect(&rt, "memory");
         assert!(rt; printed.as_slice() == wanted.as_bytes(), "erased: {text}");
+    }
+}
+
+// The expressions of a function's statements that are pure.
+fn count_pure(unit: &Unit) -> usize {
+    let Some(External::Function(function)) = unit.externals.as_slice().first() else {
+        return 0;
+    };
+    let mut count: usize = 0;
+    for item in &function.body {
+        if let Item::Statement(Stmt::Expression(e)) = item {
+            if is_pure(e) {
+                count = count.saturating_add(1);
+            }
+        }
+    }
+    count
+}
+
+#[test]
+fn changes_are_not_pure(rt: HostRuntime) {
+    let text = b"void f(int b) { b - 1; sizeof(int[3]); ++b; b = 1; f(b); }";
+    let unit = parsed(rt.alloc(), text).expect(&rt, "a unit").unit;
+    assert_eq!(rt; count_pure(&unit), 2);
+}
+
+// What is printed of a text's erasure, where it has a unit.
+fn printed(alloc: Global, text: &[u8]) -> Option<Vec<u8>> {
+    let unit = parsed(alloc, text)?.unit;
+    let erased = erase(alloc, &unit).ok()?;
+    print_unit(alloc, &erased).ok()
+}
+
+// a front, a text as many times as it may stand, a middle, as many times another, and a back
+const DEEP: [[&str; 5]; 5] = [
+    ["void f(void) {", "{", "", "}", "}"],
+    ["void f(int a) {", "if (a) ", ";", "", "}"],
+    ["int x = ", "a - (", "a", ")", ";"],
+    ["int x = ", "~", "a", "", ";"],
+    ["int x = ", "sizeof(int[", "1", "])", ";"],
+];
+
+#[test]
+fn the_deepest_texts_are_erased_and_printed(rt: HostRuntime) {
+    let alloc = rt.alloc();
+    for parts in DEEP {
+        let text = deepest(alloc, parts).expect(&rt, "memory");
+        let once = printed(alloc, text.as_bytes()).expect(&rt, "a unit");
+        let twice = printed(alloc, once.as_slice()).expect(&rt, "a unit again");
+        assert!(rt; once.len().saturating_add(2) >= text.len());
+        assert!(rt; once == twice);
     }
 }

@@ -1,0 +1,13 @@
+mod choices;
+mod constants;
+mod declared;
+mod every;
+mod expressions;
+mod printing;
+mod reading;
+mod rules;
+mod spots;
+mod structs;
+mod types;
+mod typing;
+mod units;
