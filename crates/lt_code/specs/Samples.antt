@@ -8,10 +8,10 @@ use Rattle.lt_model.specs.declared.run.End.{End}
 use Rattle.lt_model.specs.declared.run.End.TheVariants.{Returned, Undefined, NoInput, Steps}
 use Rattle.lt_tree.specs.Tree as c
 use Rattle.lt_tree.specs.declared.expression.UnaryOp.TheVariants as unary
-use Rattle.lt_tree.specs.Examples.{just, int, x, one, two, zero_constant, pointer, declares}
+use Rattle.lt_tree_laws.specs.Examples.{just, int, x, one, two, zero_constant, pointer, declares}
 use Rattle.lt_tree.specs.Typing.Programs.{Program, typed, broken}
 use Rattle.lt_tree.specs.Typing.UnitTyping.{typing}
-use Rattle.lt_tree.specs.Typing.ExampleTexts.{name, number, object, function, declaration_of, takes_int}
+use Rattle.lt_tree_laws.specs.Typing.ExampleTexts.{name, number, object, function, declaration_of, takes_int}
 use Rattle.lt_ir.specs.Running.{Made, Over}
 use Rattle.lt_tree.specs.Typing.Entities.{Function}
 use Rattle.lt_model.specs.declared.input.Input.{Input}

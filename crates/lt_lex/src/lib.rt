@@ -16,6 +16,3 @@ pub use lexer::{lex, nest};
 pub use stop::LexStop;
 pub use token::Token;
 pub use tokens::Tokens;
-
-#[cfg(test)]
-mod tests;

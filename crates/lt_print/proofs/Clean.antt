@@ -24,7 +24,7 @@ use Rattle.lt_tree.specs.Symbols.{Symbol, symbol_of, symbols, spelling, spelt, n
 use Rattle.lt_tree.specs.Pieces as p
 use Rattle.lt_tree.specs.Pieces.{Word, Piece, word, gap, indent, line_end, quoted, written, text_of}
 use Rattle.lt_tree.specs.Canon.{Pieces}
-use Rattle.lt_tree.proofs.QuotedStrings.{read_back}
+use Rattle.lt_tree_laws.proofs.QuotedStrings.{read_back}
 use Rattle.lt_print.proofs.ReadPieces.{Reads, done, a_name, a_constant, a_literal, a_sign, a_gap, an_indent, a_line_end}
 use Rattle.lt_print.proofs.Cutting.{ends_word, EndsWord, word_longest}
 use Rattle.lt_print.proofs.CuttingMarks.{is_clear, IsClearOf, mark_longest}

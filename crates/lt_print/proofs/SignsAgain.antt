@@ -12,7 +12,7 @@ use Rattle.lt_tree.specs.declared.terminal.Terminal.{Terminal}
 use Rattle.lt_tree.specs.Operators.{arithmetic, connective, infix_of, prefix_of, assignment_of, storage_of, type_word_of}
 use Rattle.lt_tree.specs.TypeWords.{basic_of}
 use Rattle.lt_tree.specs.Canon.{sign_of_unary, sign_of_binary, sign_of_logical, sign_of_assignment, sign_of_storage, sign_of_word, words_of, tightness, tightness_of_logical}
-use Rattle.lt_tree.proofs.SignsBack.{read_back}
+use Rattle.lt_tree_laws.proofs.SignsBack.{read_back}
 
 pub binary_sign : (o : Op) → infix_of (sign_of_binary o) ≡ Some (arithmetic o, tightness o)
 binary_sign o = read_back.0 o

@@ -17,8 +17,8 @@ use Rattle.lt_tree.specs.Ahead.{Naming}
 use Rattle.lt_tree.specs.Grammar as g
 use Rattle.lt_tree.specs.Grammar.{Level}
 use Rattle.lt_tree.specs.Canon.{sign_of_assignment}
-use Rattle.lt_tree.proofs.SignsBack.{read_back}
-use Rattle.lt_tree.proofs.SpelledBytes.{are_bytes}
+use Rattle.lt_tree_laws.proofs.SignsBack.{read_back}
+use Rattle.lt_tree_laws.proofs.SpelledBytes.{are_bytes}
 use Rattle.lt_print.proofs.CuttingQuotes.{IsByte}
 use Rattle.lt_print.proofs.Written.{is_other}
 use Rattle.lt_print.proofs.Spelt.{AreSpelt, NameIf, Spelt, SpeltAll, SpeltMaybe, SpeltMarks, SpeltMark, SpeltBindings, SpeltSpecifiers, SpeltTypes, SpeltType, SpeltMembers, SpeltMemberDeclarators, SpeltEnumerators, SpeltDeclarator, SpeltParts, SpeltParameters, SpeltList}

@@ -22,6 +22,3 @@ mod unit;
 mod word;
 
 pub use unit::print_unit;
-
-#[cfg(test)]
-mod tests;

@@ -24,12 +24,4 @@ pub mod Nodes
 pub mod Pieces
 pub mod Canon
 pub mod CanonUnits
-pub mod Laws
-pub mod Examples
-pub mod WrittenExpressions
-pub mod WrittenDeclarations
-pub mod WrittenStatements
-pub mod WrittenUnits
-pub mod ReadTexts
-pub mod ReadForms
 pub mod Typing

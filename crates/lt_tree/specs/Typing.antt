@@ -28,7 +28,6 @@ pub mod DeclarationTyping
 pub mod StatementTyping
 pub mod Programs
 pub mod UnitTyping
-pub mod NodeNumbers
 -- what lies in memory
 pub mod Shapes
 pub mod TypeRows
@@ -38,8 +37,3 @@ pub mod StatementView
 pub mod EntityView
 pub mod ProgramView
 pub mod TypeView
--- examples
-pub mod ExampleTexts
-pub mod ExpressionExamples
-pub mod UnitExamples
-pub mod ProgramExamples

@@ -4,11 +4,8 @@
 mod constants;
 mod declaration;
 mod declarator;
-mod erasure;
 mod escapes;
 mod expression;
-mod ids;
-pub mod laws;
 pub mod makes;
 mod mark;
 mod purity;
@@ -22,10 +19,8 @@ mod unit;
 pub use constants::id_number;
 pub use declaration::{Declaration, InitDeclarator, Initialiser};
 pub use declarator::{Declarator, DeclaratorPart, Parameter, Parameters};
-pub use erasure::erase;
 pub use escapes::{escape, hex_value};
 pub use expression::{Expr, LogicalOp, UnaryOp};
-pub use ids::max_id;
 pub use mark::{Binding, Mark};
 pub use purity::is_pure;
 pub use specifier::{

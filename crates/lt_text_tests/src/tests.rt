@@ -1,0 +1,6 @@
+mod every;
+mod expressions;
+mod lexing;
+mod printing;
+mod trees;
+mod units;

@@ -1,5 +1,0 @@
-use Rattle.lt_tree.proofs.SpelledBytes.{are_bytes}
-use Rattle.lt_tree.proofs.laws.literals_spell_bytes.Goals as goal
-
-pub returns : goal.returns
-returns c = are_bytes

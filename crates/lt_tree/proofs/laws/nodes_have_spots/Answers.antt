@@ -1,5 +1,0 @@
-use Rattle.lt_tree.proofs.SpotsOfUnits.{one_for_each}
-use Rattle.lt_tree.proofs.laws.nodes_have_spots.Goals as goal
-
-pub returns : goal.returns
-returns c = one_for_each

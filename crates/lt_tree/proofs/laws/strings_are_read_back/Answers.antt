@@ -1,5 +1,0 @@
-use Rattle.lt_tree.proofs.QuotedStrings.{read_back}
-use Rattle.lt_tree.proofs.laws.strings_are_read_back.Goals as goal
-
-pub returns : goal.returns
-returns c = read_back

@@ -1,8 +1,0 @@
-use Rattle.lt_tree.proofs.WrittenExpressions.{types, strings}
-use Rattle.lt_tree.proofs.laws.types_and_strings_are_written.Goals as goal
-
-pub returns-clause-types : goal.returns-clause-types
-returns-clause-types c = types
-
-pub returns-clause-strings : goal.returns-clause-strings
-returns-clause-strings c = strings

@@ -1,0 +1,9 @@
+pub mod Laws
+pub mod Examples
+pub mod WrittenExpressions
+pub mod WrittenDeclarations
+pub mod WrittenStatements
+pub mod WrittenUnits
+pub mod ReadTexts
+pub mod ReadForms
+pub mod Typing
