@@ -28,11 +28,11 @@ use Rattle.lt_tree.specs.Typing.Declarators as d
 use Rattle.lt_tree.specs.Typing.ExpressionTyping as typing
 use Rattle.lt_tree.specs.Typing.NodeEnds.{end_of_enumerator}
 use Rattle.lt_tree.proofs.Rows.{sizeof_is, cast_is, struct_is, enum_is, listed_is, open_is}
-use Rattle.lt_type.specs.declared.declaring.Judging.TheVariants as judging
+use Rattle.lt_declare.specs.declared.made.Judging.TheVariants as judging
 use Rattle.lt_type.specs.Ends.{enumerator, without_any}
 use Rattle.lt_type.specs.Found as found
 use Rattle.lt_type.specs.Found.{Part, a_pointer, an_array, a_function, with_part, with_parts, Found, with_all_found, with_found}
-use Rattle.lt_type.specs.Views.{judging_of}
+use Rattle.lt_declare.specs.DeclaredViews.{judging_of}
 use Rattle.lt_type.proofs.Turns.{behind}
 
 -- ---- expressions with type names

@@ -8,8 +8,8 @@ use Rattle.lt_tree.specs.Typing.Types.{CType}
 use Rattle.lt_tree.specs.Typing.TypedTree as e
 use Rattle.lt_tree.specs.Typing.ValueView.{mark_of, marks_in}
 use Rattle.lt_tree.specs.Typing.MarkRules.{TypedBinding}
-use Rattle.lt_type.specs.declared.typed.Typed.{Typed}
-use Rattle.lt_type.specs.Views.{typed_in, bindings_with}
+use Rattle.lt_env.specs.declared.typed.Typed.{Typed}
+use Rattle.lt_env.specs.Views.{typed_in, bindings_with}
 use Rattle.lt_type.proofs.Turns.{before}
 
 pub nothing_bound : (types : List CType) (list : List Binding) → bindings_with types list [] ≡ []

@@ -3,22 +3,13 @@ use Rattle.std.proofs.Common.{◌≡◌, ℕ, Bool, List, [], ◌∷◌, ◌++�
 use Rattle.std.proofs.lemmas.List.{append-nil}
 use Rattle.std.proofs.Math.Bool.{and-true, and_assoc}
 use Rattle.std.specs.Prelude.{is_some}
-use Rattle.lt_tree.specs.declared.typed.types.TypeId.{TypeId}
-use Rattle.lt_tree.specs.Typing.Types.{CType, CTypes, a_type}
-use Rattle.lt_tree.specs.Typing.TypeRows.{type_in, all_in}
+use Rattle.lt_tree.specs.Typing.Types.{CTypes}
 use Rattle.lt_tree.specs.Typing.Rules.{Rule}
 use Rattle.lt_tree.specs.Typing.Entities.{Known}
 use Rattle.lt_tree.specs.Typing.Declarators.{Parameters}
-use Rattle.lt_type.specs.Declaring.{type_behind, parameter_behind}
+use Rattle.lt_declare.specs.Declaring.{parameter_behind}
 use Rattle.lt_type.specs.Ends.{without_any}
 use Rattle.lt_type.specs.Found.{Found, with_found, with_all_found}
-
--- ---- one more parameter
-
--- one more type behind others
-pub types_more : (types : List CType) (ids : List TypeId) (id : TypeId) → all_in types (ids ++ id ∷ []) ≡ type_behind (all_in types ids) (type_in types id)
-types_more types [] id = refl
-types_more types (first ∷ ids) id = ap (a_type (type_in types first)) (types_more types ids id)
 
 -- parameters with the same parts, of which these may be said in another way
 pub same_parts : (p : Parameters) {t u : CTypes} {objects others : List ℕ} {b c : Bool} {faults rules : List Rule} → t ≡ u → objects ≡ others → b ≡ c → faults ≡ rules

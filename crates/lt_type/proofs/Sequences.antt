@@ -10,12 +10,12 @@ use Rattle.lt_tree.specs.declared.typed.entity.Tagged.{Tagged}
 use Rattle.lt_table.specs.TableRows.{Stays}
 use Rattle.lt_table.specs.TypesValue.{TypesValue, Widens}
 use Rattle.lt_tree.specs.Typing.EntityView.{structs_of}
-use Rattle.lt_type.specs.NamesValue.{NamesValue, NameFrameValue, KeepsOuter, frames_at, frame_at}
-use Rattle.lt_type.specs.declared.walker.Walker.{Walker}
-use Rattle.lt_type.specs.declared.stop.TypeStop.{TypeStop}
-use Rattle.lt_type.specs.declared.stop.TypeStop.TheVariants.{Broken, NoMemory}
-use Rattle.lt_type.specs.Going.{At, Gives, types_in, known_of}
-use Rattle.lt_type.proofs.Goings.{longer_still, as_long, kept_still, ends_stops, ends_then}
+use Rattle.lt_env.specs.NamesValue.{NamesValue, NameFrameValue, KeepsOuter, frames_at, frame_at}
+use Rattle.lt_env.specs.declared.walker.Walker.{Walker}
+use Rattle.lt_env.specs.declared.stop.TypeStop.{TypeStop}
+use Rattle.lt_env.specs.declared.stop.TypeStop.TheVariants.{Broken, NoMemory}
+use Rattle.lt_env.specs.Going.{At, Gives, types_in, known_of}
+use Rattle.lt_env.proofs.Goings.{longer_still, as_long, kept_still, ends_stops, ends_then}
 
 -- ---- sequences of calls
 

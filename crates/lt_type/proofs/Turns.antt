@@ -5,12 +5,12 @@ use Rattle.lt_tree.specs.Typing.Types.{CType}
 use Rattle.lt_tree.specs.Typing.TypeRows.{Continues, Lasts}
 use Rattle.lt_tree.specs.Typing.Entities.{Known}
 use Rattle.lt_tree.specs.Typing.Steps.{Outcome, Goes, Breaks, Walk, goes_on, gives}
-use Rattle.lt_type.specs.NamesValue.{KeepsOuter}
-use Rattle.lt_type.specs.declared.walker.Walker.{Walker}
-use Rattle.lt_type.specs.declared.stop.TypeStop.{TypeStop}
-use Rattle.lt_type.specs.declared.stop.TypeStop.TheVariants.{Broken, NoMemory}
-use Rattle.lt_type.specs.Going.{At, Gives, types_in, known_of}
-use Rattle.lt_type.proofs.Goings.{longer_still, as_long, kept_still}
+use Rattle.lt_env.specs.NamesValue.{KeepsOuter}
+use Rattle.lt_env.specs.declared.walker.Walker.{Walker}
+use Rattle.lt_env.specs.declared.stop.TypeStop.{TypeStop}
+use Rattle.lt_env.specs.declared.stop.TypeStop.TheVariants.{Broken, NoMemory}
+use Rattle.lt_env.specs.Going.{At, Gives, types_in, known_of}
+use Rattle.lt_env.proofs.Goings.{longer_still, as_long, kept_still}
 
 -- The walk over the whole gives what the walk `next` gives from here, and `last` behind it.
 pub record Turning {A B : Type 0} (before now : Walker) (whole : List CType → Walk B) (next : List CType → Walk A) (last : List CType → A → Walk B) : Type 0 where

@@ -14,7 +14,7 @@ use Rattle.lt_tree.specs.Typing.ExpressionTyping as typing
 use Rattle.lt_type.specs.declared.walk.shapes.Shape.{Shape}
 use Rattle.lt_type.specs.declared.walk.shapes.Shape.TheVariants as shape
 use Rattle.lt_type.specs.declared.walk.parameters.FoundParameter.{FoundParameter}
-use Rattle.lt_type.specs.Views.{parameters_in, declares_of}
+use Rattle.lt_declare.specs.DeclaredViews.{parameters_in, declares_of}
 
 -- ---- parts of declarators
 

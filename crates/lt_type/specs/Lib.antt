@@ -1,16 +1,4 @@
-pub mod ScopeFrames
-pub mod NamesValue
-pub mod NameMaps
-pub mod LabelMaps
-pub mod Symbols
-pub mod Views
-pub mod Going
 pub mod Ends
-pub mod Knowing
-pub mod Arguments
-pub mod Declaring
-pub mod DeclaredKinds
-pub mod MarkEnds
 pub mod Found
 pub mod Membered
 pub mod TypeOf

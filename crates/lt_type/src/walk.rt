@@ -16,15 +16,13 @@ ghost use Rattle.lt_tree.specs.Typing.Steps.{without_marks};
 ghost use Rattle.lt_tree.specs.Typing.Expressions.{as_value};
 ghost use Rattle.lt_tree.specs.Typing.ExpressionTyping as typing;
 ghost use Rattle.lt_tree.specs.Typing.TypeRows.{type_in};
-ghost use Rattle.lt_type.specs.Going.{Gives};
+ghost use Rattle.lt_env.specs.Going.{Gives};
 ghost use Rattle.lt_type.specs.TypeOf as wanted;
-ghost use Rattle.lt_type.specs.Views.{use_of, typed_in};
+ghost use Rattle.lt_env.specs.Views.{use_of, typed_in};
 
-use crate::stop::TypeStop;
-use crate::typed::{Typed, Use};
 use crate::walk::operators::operand_use;
-use crate::walker::Walker;
 pub use declarators::declarator;
+use lt_env::{TypeStop, Typed, Use, Walker};
 use lt_model::Op;
 use lt_tree::Expr;
 use lt_tree::typed::{TypeId, When};

@@ -12,8 +12,8 @@ use Rattle.lt_tree.specs.Typing.StatementView as view
 use Rattle.lt_tree.specs.Typing.Expressions.{as_value}
 use Rattle.lt_tree.specs.Typing.ExpressionTyping.{expression}
 use Rattle.lt_tree.specs.Typing.StatementTyping as typing
-use Rattle.lt_type.specs.declared.walker.Walker.{Walker}
-use Rattle.lt_type.specs.Going.{known_of}
+use Rattle.lt_env.specs.declared.walker.Walker.{Walker}
+use Rattle.lt_env.specs.Going.{known_of}
 use Rattle.lt_type.proofs.Turns.{Turning, turns_start, before, one_more}
 use Rattle.lt_unit.specs.UnitViews.{labelled_of}
 use Rattle.lt_unit.specs.CaseParts.{case_made, case_walk}

@@ -17,10 +17,10 @@ use Rattle.lt_tree.specs.Typing.Entities as k
 use Rattle.lt_tree.specs.Typing.Entities.{Known, declared_among}
 use Rattle.lt_tree.specs.Typing.Steps.{Goes, changes, gives}
 use Rattle.lt_tree.specs.Typing.Declaring as typing
-use Rattle.lt_type.specs.Symbols.{declared_at, with_declared, with_start}
-use Rattle.lt_type.specs.declared.walker.Walker.{Walker}
-use Rattle.lt_type.specs.Going.{Gives, types_in, known_of, done}
-use Rattle.lt_type.proofs.Goings.{as_long}
+use Rattle.lt_env.specs.Symbols.{declared_at, with_declared, with_start}
+use Rattle.lt_env.specs.declared.walker.Walker.{Walker}
+use Rattle.lt_env.specs.Going.{Gives, types_in, known_of, done}
+use Rattle.lt_env.proofs.Goings.{as_long}
 use Rattle.lt_type.proofs.Turns.{shown_more}
 
 -- something that is known was changed

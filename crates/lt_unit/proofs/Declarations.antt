@@ -17,8 +17,8 @@ use Rattle.lt_tree.specs.Typing.Declarators.{Declares}
 use Rattle.lt_tree.specs.Typing.Declaring.{Kind, declaration_faults}
 use Rattle.lt_tree.specs.Typing.ExpressionTyping as expressions
 use Rattle.lt_tree.specs.Typing.DeclarationTyping as typing
-use Rattle.lt_type.specs.declared.declaring.Judging.TheVariants as judging
-use Rattle.lt_type.specs.Views.{judging_of}
+use Rattle.lt_declare.specs.declared.made.Judging.TheVariants as judging
+use Rattle.lt_declare.specs.DeclaredViews.{judging_of}
 use Rattle.lt_unit.specs.UnitViews.{with_storage}
 use Rattle.lt_unit.specs.Inside.{declare_as}
 

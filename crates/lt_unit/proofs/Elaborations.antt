@@ -12,12 +12,12 @@ use Rattle.lt_tree.specs.Typing.Entities.{Known, no_names, at_start}
 use Rattle.lt_tree.specs.Typing.EntityView.{structs_of, object_of, declared_of, function_of, label_of, fact_of}
 use Rattle.lt_tree.specs.Typing.Programs.{typed}
 use Rattle.lt_tree.specs.Typing.UnitTyping.{typing, answer, externals, defined_in}
-use Rattle.lt_type.specs.NamesValue.{NamesValue, NameFrameValue, frame_at, frames_at}
-use Rattle.lt_type.specs.declared.walker.Walker.{Walker}
-use Rattle.lt_type.specs.declared.stop.TypeStop.{TypeStop}
-use Rattle.lt_type.specs.declared.stop.TypeStop.TheVariants.{Broken, NoMemory}
-use Rattle.lt_type.specs.Going.{Gives, done, types_in, known_of}
-use Rattle.lt_type.proofs.Goings.{as_long}
+use Rattle.lt_env.specs.NamesValue.{NamesValue, NameFrameValue, frame_at, frames_at}
+use Rattle.lt_env.specs.declared.walker.Walker.{Walker}
+use Rattle.lt_env.specs.declared.stop.TypeStop.{TypeStop}
+use Rattle.lt_env.specs.declared.stop.TypeStop.TheVariants.{Broken, NoMemory}
+use Rattle.lt_env.specs.Going.{Gives, done, types_in, known_of}
+use Rattle.lt_env.proofs.Goings.{as_long}
 use Rattle.lt_unit.specs.Elaborated.{Elaborated}
 use Rattle.lt_unit.specs.Programs.{IsProgram}
 

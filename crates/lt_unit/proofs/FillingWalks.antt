@@ -14,9 +14,9 @@ use Rattle.lt_tree.specs.Typing.Declaring.{length_faults}
 use Rattle.lt_tree.specs.Typing.InitialiserTyping.{with_length, listed_length, end_of_list, started}
 use Rattle.lt_table.specs.TableRows.{Stays}
 use Rattle.lt_table.specs.TypesValue.{TypesValue, Widens}
-use Rattle.lt_type.specs.declared.walker.Walker.{Walker}
-use Rattle.lt_type.specs.declared.stop.TypeStop.{TypeStop}
-use Rattle.lt_type.specs.Going.{Gives, known_of, done}
+use Rattle.lt_env.specs.declared.walker.Walker.{Walker}
+use Rattle.lt_env.specs.declared.stop.TypeStop.{TypeStop}
+use Rattle.lt_env.specs.Going.{Gives, known_of, done}
 use Rattle.lt_type.proofs.Sequences.{gives_then, gives_made}
 use Rattle.lt_unit.specs.LeftParts.{Knows}
 use Rattle.lt_unit.proofs.Lasting.{gives_here}

@@ -5,10 +5,10 @@ use Rattle.lt_tree.specs.Typing.TypeRows.{Lasts}
 use Rattle.lt_tree.specs.Typing.Rules.{Rule}
 use Rattle.lt_tree.specs.Typing.Steps.{Outcome, Walk, gives, settle}
 use Rattle.lt_table.specs.TableRows.{Stays}
-use Rattle.lt_type.specs.declared.walker.Walker.{Walker}
-use Rattle.lt_type.specs.declared.stop.TypeStop.{TypeStop}
-use Rattle.lt_type.specs.Going.{At, Gives, types_in, known_of, done}
-use Rattle.lt_type.proofs.Goings.{longer_still}
+use Rattle.lt_env.specs.declared.walker.Walker.{Walker}
+use Rattle.lt_env.specs.declared.stop.TypeStop.{TypeStop}
+use Rattle.lt_env.specs.Going.{At, Gives, types_in, known_of, done}
+use Rattle.lt_env.proofs.Goings.{longer_still}
 use Rattle.lt_type.proofs.Sequences.{gives_itself, gives_so}
 
 -- the same walk from here on, whatever types are added

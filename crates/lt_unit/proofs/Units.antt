@@ -9,11 +9,11 @@ use Rattle.lt_tree.specs.Typing.TypedTree.{Items}
 use Rattle.lt_tree.specs.Typing.Entities.{Known, Frame}
 use Rattle.lt_tree.specs.Typing.Steps.{Outcome, Goes, Breaks, Walk, goes_on, ◌>>=◌, gives, left, within}
 use Rattle.lt_tree.specs.Typing.UnitTyping as typing
-use Rattle.lt_type.specs.NamesValue.{NamesValue, NameFrameValue, frames_at, frame_at}
-use Rattle.lt_type.specs.declared.walker.Walker.{Walker}
-use Rattle.lt_type.specs.declared.stop.TypeStop.{TypeStop}
-use Rattle.lt_type.specs.declared.stop.TypeStop.TheVariants.{Broken, NoMemory}
-use Rattle.lt_type.specs.Going.{At, Gives, known_of}
+use Rattle.lt_env.specs.NamesValue.{NamesValue, NameFrameValue, frames_at, frame_at}
+use Rattle.lt_env.specs.declared.walker.Walker.{Walker}
+use Rattle.lt_env.specs.declared.stop.TypeStop.{TypeStop}
+use Rattle.lt_env.specs.declared.stop.TypeStop.TheVariants.{Broken, NoMemory}
+use Rattle.lt_env.specs.Going.{At, Gives, known_of}
 use Rattle.lt_unit.specs.UnitViews.{adds_function}
 
 -- ---- frames

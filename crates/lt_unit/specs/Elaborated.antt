@@ -7,8 +7,8 @@ use Rattle.lt_tree.specs.UnitView.{unit_of}
 use Rattle.lt_tree.specs.Typing.EntityView.{rule_of}
 use Rattle.lt_tree.specs.Typing.ProgramView.{program_of}
 use Rattle.lt_tree.specs.Typing.UnitTyping.{IsProgramOf, BreaksFirst}
-use Rattle.lt_type.specs.declared.stop.TypeStop.{TypeStop}
-use Rattle.lt_type.specs.declared.stop.TypeStop.TheVariants.{Broken, NoMemory}
+use Rattle.lt_env.specs.declared.stop.TypeStop.{TypeStop}
+use Rattle.lt_env.specs.declared.stop.TypeStop.TheVariants.{Broken, NoMemory}
 
 -- a program is the unit's, and a rule is the first that the unit breaks
 abbrev pub Elaborated : DataModel → SourceUnit → Result Program TypeStop → Type 0

@@ -6,10 +6,10 @@ use Rattle.lt_tree.specs.UnitView.{unit_of}
 use Rattle.lt_tree.specs.Typing.TypeRows.{types_of_rows, Continues}
 use Rattle.lt_tree.specs.Typing.Programs as programs
 use Rattle.lt_tree.specs.Typing.ProgramView.{program_of}
-use Rattle.lt_type.specs.Going.{types_in, known_of}
-use Rattle.lt_type.specs.declared.walker.Walker.{Walker}
-use Rattle.lt_type.specs.declared.stop.TypeStop.{TypeStop}
-use Rattle.lt_type.specs.declared.stop.TypeStop.TheVariants.{NoMemory}
+use Rattle.lt_env.specs.Going.{types_in, known_of}
+use Rattle.lt_env.specs.declared.walker.Walker.{Walker}
+use Rattle.lt_env.specs.declared.stop.TypeStop.{TypeStop}
+use Rattle.lt_env.specs.declared.stop.TypeStop.TheVariants.{NoMemory}
 
 -- Its table goes on from the walker's, and it is the program of what the walker knows; nothing but want of memory stops it.
 abbrev pub IsProgram : Walker → SourceUnit → Result Program TypeStop → Type 0

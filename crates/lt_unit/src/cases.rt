@@ -7,8 +7,8 @@ ghost use Rattle.lt_tree.specs.UnitView as source;
 ghost use Rattle.lt_tree.specs.Typing.StatementView as view;
 ghost use Rattle.lt_tree.specs.Typing.StatementTyping as typing;
 ghost use Rattle.lt_table.specs.TableRows.{Stays};
-ghost use Rattle.lt_type.specs.Going.{Gives, itself};
-ghost use Rattle.lt_type.specs.Views.{typed_of};
+ghost use Rattle.lt_env.specs.Going.{Gives, itself};
+ghost use Rattle.lt_env.specs.Views.{typed_of};
 ghost use Rattle.lt_unit.specs.UnitViews.{around_of, labelled_of};
 ghost use Rattle.lt_unit.specs.CaseParts.{case_made, case_walk};
 

@@ -17,10 +17,11 @@ ghost use Rattle.lt_table.specs.TableRows.{Stays};
 ghost use Rattle.lt_table.specs.TypesValue.{Widens};
 ghost use Rattle.lt_tree.specs.Typing.DeclarationTyping as typing;
 ghost use Rattle.lt_tree.specs.Typing.StatementTyping as statements;
-ghost use Rattle.lt_type.specs.declared.stop.TypeStop.TheVariants.{NoMemory};
-ghost use Rattle.lt_type.specs.Going.{Gives, answering};
-ghost use Rattle.lt_type.specs.Views.{specified_of, declares_of, typed_in};
-ghost use Rattle.lt_type.specs.DeclaredKinds as kinds;
+ghost use Rattle.lt_env.specs.declared.stop.TypeStop.TheVariants.{NoMemory};
+ghost use Rattle.lt_env.specs.Going.{Gives, answering};
+ghost use Rattle.lt_env.specs.Views.{typed_in};
+ghost use Rattle.lt_declare.specs.DeclaredViews.{specified_of, declares_of};
+ghost use Rattle.lt_declare.specs.DeclaredKinds as kinds;
 ghost use Rattle.lt_unit.specs.UnitViews.{locals_of, local_in, declared_locals_of, for_start_in, with_storage, started_of};
 
 use crate::declared::{

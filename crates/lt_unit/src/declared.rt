@@ -9,8 +9,8 @@ ghost use Rattle.lt_tree.specs.Typing.EntityView.{life_of, object_of, function_o
 ghost use Rattle.lt_tree.specs.Typing.Entities as entities;
 ghost use Rattle.lt_tree.specs.Typing.Steps as steps;
 ghost use Rattle.lt_tree.specs.Typing.Declaring as typing;
-ghost use Rattle.lt_type.specs.Going.{Gives, answering, itself, done};
-ghost use Rattle.lt_type.specs.DeclaredKinds.{kind_in};
+ghost use Rattle.lt_env.specs.Going.{Gives, answering, itself, done};
+ghost use Rattle.lt_declare.specs.DeclaredKinds.{kind_in};
 ghost use Rattle.lt_unit.specs.UnitViews.{adds_function};
 
 use lt_model::Name;

@@ -16,7 +16,7 @@ ghost use Rattle.lt_tree.specs.UnitView as source;
 ghost use Rattle.lt_tree.specs.Typing.TypeRows.{type_in};
 ghost use Rattle.lt_tree.specs.Typing.Declaring.{length_faults};
 ghost use Rattle.lt_tree.specs.Typing.InitialiserTyping as typing;
-ghost use Rattle.lt_type.specs.Going.{Gives, done};
+ghost use Rattle.lt_env.specs.Going.{Gives, done};
 ghost use Rattle.lt_unit.specs.UnitViews.{started_of};
 
 use filling::nothing_to_fill;

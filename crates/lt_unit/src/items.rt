@@ -7,7 +7,7 @@ ghost use Rattle.lt_tree.specs.UnitView as source;
 ghost use Rattle.lt_tree.specs.View as tree;
 ghost use Rattle.lt_tree.specs.Typing.StatementView as view;
 ghost use Rattle.lt_tree.specs.Typing.StatementTyping as typing;
-ghost use Rattle.lt_type.specs.Going.{Gives};
+ghost use Rattle.lt_env.specs.Going.{Gives};
 ghost use Rattle.lt_unit.specs.UnitViews.{around_of, locals_of};
 ghost use Rattle.lt_unit.specs.ItemParts.{created_items, performed_items, labelled_items};
 

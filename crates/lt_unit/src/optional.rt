@@ -3,8 +3,8 @@
 ghost use Rattle.std.specs.Prelude.{◌≡◌, option_map};
 ghost use Rattle.lt_tree.specs.View.{expression_of};
 ghost use Rattle.lt_unit.specs.UnitViews.{optional_walk};
-ghost use Rattle.lt_type.specs.Going.{Gives};
-ghost use Rattle.lt_type.specs.Views.{typed_in, use_of};
+ghost use Rattle.lt_env.specs.Going.{Gives};
+ghost use Rattle.lt_env.specs.Views.{typed_in, use_of};
 
 use lt_tree::Expr;
 use lt_type::{TypeStop, Typed, Use, Walker, expression};

@@ -4,8 +4,8 @@ ghost use Rattle.std.specs.Prelude.{◌≡◌, List, IfOk, IfErr};
 ghost use Rattle.lt_tree.specs.Typing.Types.{CType};
 ghost use Rattle.lt_tree.specs.Typing.Entities as entities;
 ghost use Rattle.lt_table.specs.TableRows.{Grows};
-ghost use Rattle.lt_type.specs.declared.stop.TypeStop.TheVariants.{NoMemory};
-ghost use Rattle.lt_type.specs.Going.{known_of};
+ghost use Rattle.lt_env.specs.declared.stop.TypeStop.TheVariants.{NoMemory};
+ghost use Rattle.lt_env.specs.Going.{known_of};
 ghost use Rattle.lt_unit.specs.Listing.{AreByPlace};
 ghost use Rattle.lt_unit.specs.Programs.{IsProgram};
 

@@ -11,7 +11,7 @@ ghost use Rattle.lt_tree.specs.View.{expression_of};
 ghost use Rattle.lt_tree.specs.UnitView.{statement_of, start_of, items_in, cases_in};
 ghost use Rattle.lt_tree.specs.Typing.Steps.{in_block};
 ghost use Rattle.lt_tree.specs.Typing.StatementTyping as typing;
-ghost use Rattle.lt_type.specs.Going.{Gives};
+ghost use Rattle.lt_env.specs.Going.{Gives};
 ghost use Rattle.lt_unit.specs.Inside as inside;
 ghost use Rattle.lt_unit.specs.UnitViews.{around_of, statement_in};
 ghost use Rattle.std.specs.Prelude.{option_map};

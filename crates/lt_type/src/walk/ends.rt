@@ -2,14 +2,12 @@
 
 ghost use Rattle.std.specs.Prelude.{◌≡◌};
 ghost use Rattle.lt_tree.specs.Typing.ValueView.{when_of, marks_in};
-ghost use Rattle.lt_type.specs.Going.{Gives};
+ghost use Rattle.lt_env.specs.Going.{Gives};
 ghost use Rattle.lt_type.specs.Ends.{index_end, call_end, member_end, arrow_end, step_end, unary_end, size_end, binary_end, logical_end, conditional_end, assignment_end, comma_end, marked_end, decide_end, after_end};
-ghost use Rattle.lt_type.specs.Views.{typed_in, all_typed, use_of};
+ghost use Rattle.lt_env.specs.Views.{typed_in, all_typed, use_of};
 
-use crate::judge::{binary, calls, marks, parts, unary};
-use crate::stop::TypeStop;
-use crate::typed::{Typed, Use};
-use crate::walker::Walker;
+use lt_env::{TypeStop, Typed, Use, Walker};
+use lt_judge::{binary, calls, marks, parts, unary};
 use lt_model::Op;
 use lt_tree::typed::{Mark, When};
 use lt_tree::{LogicalOp, UnaryOp};

@@ -7,15 +7,13 @@ ghost use Rattle.lt_tree.specs.Tree as c;
 ghost use Rattle.lt_tree.specs.Typing.ExpressionTyping as typing;
 ghost use Rattle.lt_tree.specs.Typing.MarkRules.{inside_mark, inside_after};
 ghost use Rattle.lt_tree.specs.Typing.ValueView as value;
-ghost use Rattle.lt_type.specs.Going.{Gives};
-ghost use Rattle.lt_type.specs.Views.{typed_in, bindings_with, use_of};
+ghost use Rattle.lt_env.specs.Going.{Gives};
+ghost use Rattle.lt_env.specs.Views.{typed_in, bindings_with, use_of};
 
-use crate::judge::marks::end_of_mark;
-use crate::stop::TypeStop;
-use crate::typed::{Typed, Use};
 use crate::walk::ends::{end_after, end_decide, end_marked};
 use crate::walk::expression;
-use crate::walker::Walker;
+use lt_env::{TypeStop, Typed, Use, Walker};
+use lt_judge::marks::end_of_mark;
 use lt_tree::{Binding, Expr, Mark, typed};
 
 /// How an expression behind marks is used.

@@ -8,14 +8,12 @@ ghost use Rattle.lt_tree.specs.Typing.EntityView.{object_of, life_of};
 ghost use Rattle.lt_tree.specs.Typing.Entities.{literal, unmade};
 ghost use Rattle.lt_tree.specs.Typing.Types.{CType};
 ghost use Rattle.lt_tree.specs.Typing.TypeRows.{type_in};
-ghost use Rattle.lt_type.specs.Going.{Gives, answering, itself};
+ghost use Rattle.lt_env.specs.Going.{Gives, answering, itself};
 ghost use Rattle.lt_type.specs.Ends.{letters_of, text_number, text_end};
-ghost use Rattle.lt_type.specs.Views.{typed_in, use_of};
+ghost use Rattle.lt_env.specs.Views.{typed_in, use_of};
 
-use crate::judge::names::{judge_constant, judge_name, judge_text, text_type};
-use crate::stop::TypeStop;
-use crate::typed::{Typed, Use};
-use crate::walker::Walker;
+use lt_env::{TypeStop, Typed, Use, Walker};
+use lt_judge::names::{judge_constant, judge_name, judge_text, text_type};
 use lt_model::{Name, Scalar};
 use lt_tree::typed::{Life, Object, Start, StartPart, TypeId};
 use std::alloc::{AllocError, Global};

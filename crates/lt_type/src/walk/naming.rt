@@ -7,16 +7,15 @@ ghost use Rattle.lt_tree.specs.Tree as c;
 ghost use Rattle.lt_tree.specs.Typing.ExpressionTyping as typing;
 ghost use Rattle.lt_tree.specs.Typing.NodeEnds.{end_of_enumerator};
 ghost use Rattle.lt_tree.specs.Typing.Specifying.{value_given};
-ghost use Rattle.lt_type.specs.Going.{Gives, itself, done};
+ghost use Rattle.lt_env.specs.Going.{Gives, itself, done};
 ghost use Rattle.lt_type.specs.Ends.{enumerator};
-ghost use Rattle.lt_type.specs.Views.{typed_in, naming_of, specified_of};
+ghost use Rattle.lt_env.specs.Views.{typed_in};
+ghost use Rattle.lt_declare.specs.DeclaredViews.{naming_of, specified_of};
 
-use crate::declaring::{Naming, Specified, specifiers as ends};
-use crate::stop::TypeStop;
-use crate::typed::{Typed, Use};
 use crate::walk::members::members;
 use crate::walk::operators::unmarked;
-use crate::walker::Walker;
+use lt_declare::{Naming, Specified, specifiers as ends};
+use lt_env::{TypeStop, Typed, Use, Walker};
 use lt_model::Name;
 use lt_tree::{Enumerator, Expr, Member, Specifiers, TypeSpecifier};
 

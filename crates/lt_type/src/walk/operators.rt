@@ -9,18 +9,16 @@ ghost use Rattle.lt_tree.specs.Typing.Steps.{without_marks};
 ghost use Rattle.lt_tree.specs.Typing.NodeEnds.{operand_of};
 ghost use Rattle.lt_tree.specs.Typing.ValueView.{when_of};
 ghost use Rattle.lt_type.specs.Ends.{step, unary};
-ghost use Rattle.lt_type.specs.Going.{Gives};
-ghost use Rattle.lt_type.specs.Views.{typed_in, use_of};
+ghost use Rattle.lt_env.specs.Going.{Gives};
+ghost use Rattle.lt_env.specs.Views.{typed_in, use_of};
 
-use crate::stop::TypeStop;
-use crate::typed::{Typed, Use};
 use crate::walk::ends::{
     end_assignment, end_binary, end_comma, end_conditional, end_logical, end_size, end_step,
     end_unary,
 };
 use crate::walk::expression;
 use crate::walk::parts::expressions;
-use crate::walker::Walker;
+use lt_env::{TypeStop, Typed, Use, Walker};
 use lt_model::Op;
 use lt_tree::typed::When;
 use lt_tree::{Expr, LogicalOp, UnaryOp};

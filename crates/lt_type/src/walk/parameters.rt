@@ -7,21 +7,17 @@ ghost use Rattle.lt_tree.specs.Typing.Types.{adjusted};
 ghost use Rattle.lt_tree.specs.Typing.TypeRows.{type_in};
 ghost use Rattle.lt_tree.specs.Typing.Steps.{in_block, gives};
 ghost use Rattle.lt_tree.specs.Typing.ExpressionTyping as typing;
-ghost use Rattle.lt_type.specs.Going.{Gives, answering};
+ghost use Rattle.lt_env.specs.Going.{Gives, answering};
 ghost use Rattle.lt_type.specs.Found as found;
 ghost use Rattle.lt_type.specs.Found.{found_of, with_all_found};
 ghost use Rattle.lt_type.specs.Ends.{found_end, without_any};
-ghost use Rattle.lt_type.specs.Views.{parameters_in, declares_of};
+ghost use Rattle.lt_declare.specs.DeclaredViews.{parameters_in, declares_of};
 
-use crate::declaring::declarators::{
-    binds_parameter, parameter_behind, with_dots, without_parameters,
-};
-use crate::declaring::{Declares, Judging, Parameters};
-use crate::stop::TypeStop;
-use crate::symbols::NameFrame;
 use crate::walk::declarators::declarator;
 use crate::walk::naming::specifiers;
-use crate::walker::Walker;
+use lt_declare::declarators::{binds_parameter, parameter_behind, with_dots, without_parameters};
+use lt_declare::{Declares, Judging, Parameters};
+use lt_env::{NameFrame, TypeStop, Walker};
 use lt_tree::typed::TypeId;
 use lt_tree::{Parameter, Parameters as Listing};
 

@@ -5,14 +5,12 @@ ghost use Rattle.lt_tree.specs.View.{expression_of};
 ghost use Rattle.lt_tree.specs.Records.{expressions_in};
 ghost use Rattle.lt_tree.specs.Tree as c;
 ghost use Rattle.lt_tree.specs.Typing.ExpressionTyping as typing;
-ghost use Rattle.lt_type.specs.Going.{Gives};
-ghost use Rattle.lt_type.specs.Views.{typed_in, all_typed, use_of};
+ghost use Rattle.lt_env.specs.Going.{Gives};
+ghost use Rattle.lt_env.specs.Views.{typed_in, all_typed, use_of};
 
-use crate::stop::TypeStop;
-use crate::typed::{Typed, Use};
 use crate::walk::ends::{end_arrow, end_call, end_index, end_member};
 use crate::walk::expression;
-use crate::walker::Walker;
+use lt_env::{TypeStop, Typed, Use, Walker};
 use lt_tree::Expr;
 
 // `a[b]`

@@ -3,14 +3,13 @@
 ghost use Rattle.std.specs.Prelude.{◌≡◌, [], map};
 ghost use Rattle.lt_tree.specs.Typing.TypeRows.{type_in};
 ghost use Rattle.lt_tree.specs.Typing.Declarators as d;
-ghost use Rattle.lt_type.specs.Going.{Gives, answering};
+ghost use Rattle.lt_env.specs.Going.{Gives, answering};
 ghost use Rattle.lt_type.specs.Found.{part_of, with_part, with_parts};
-ghost use Rattle.lt_type.specs.Views.{built_of};
+ghost use Rattle.lt_declare.specs.DeclaredViews.{built_of};
 
-use crate::declaring::declarators::{array_of, built, function_of, pointer_to};
-use crate::declaring::{Built, Parameters};
-use crate::stop::TypeStop;
-use crate::walker::Walker;
+use lt_declare::declarators::{array_of, built, function_of, pointer_to};
+use lt_declare::{Built, Parameters};
+use lt_env::{TypeStop, Walker};
 use lt_model::Quals;
 use lt_tree::typed::TypeId;
 

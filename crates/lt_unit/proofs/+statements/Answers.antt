@@ -8,8 +8,8 @@ use Rattle.lt_tree.specs.Typing.Steps.{◌>>=◌, ◌>>◌, goes_on, gives, in_b
 use Rattle.lt_tree.specs.Typing.Expressions.{as_truth}
 use Rattle.lt_tree.specs.Typing.ExpressionTyping as expressions
 use Rattle.lt_tree.specs.Typing.StatementTyping as typing
-use Rattle.lt_type.specs.Going.{answering}
-use Rattle.lt_type.proofs.Goings.{longer_still, as_long}
+use Rattle.lt_env.specs.Going.{answering}
+use Rattle.lt_env.proofs.Goings.{longer_still, as_long}
 use Rattle.lt_type.proofs.Sequences.{gives_entered, gives_then, gives_stops, gives_so, gives_in_block, stops_in_block, stopped}
 use Rattle.lt_type.proofs.Turns.{lacks_memory, turns_start, turns_on, turns_stop, turns_end, opened, collected, before, before_more}
 use Rattle.lt_unit.specs.Inside as inside

@@ -8,8 +8,8 @@ ghost use Rattle.lt_tree.specs.Typing.TypeRows.{type_in};
 ghost use Rattle.lt_tree.specs.Typing.InitialiserTyping as typing;
 ghost use Rattle.lt_tree.specs.Typing.Filling as filling;
 ghost use Rattle.lt_table.specs.TableRows.{Stays};
-ghost use Rattle.lt_type.specs.Going.{Gives};
-ghost use Rattle.lt_type.specs.Views.{typed_in};
+ghost use Rattle.lt_env.specs.Going.{Gives};
+ghost use Rattle.lt_env.specs.Views.{typed_in};
 ghost use Rattle.lt_unit.specs.Fillings.{filling_in, value_filled, value_in_front, text_filled, surplus_filled, list_filled};
 
 use crate::initialiser::filling::{Filling, filling_of, nothing_to_fill, with_part};

@@ -1,7 +1,7 @@
 // String literals that initialise arrays of characters, C11 6.7.9p14.
 
 ghost use Rattle.lt_tree.specs.Typing.InitialiserTyping as typing;
-ghost use Rattle.lt_type.specs.Going.{Gives, done};
+ghost use Rattle.lt_env.specs.Going.{Gives, done};
 
 use crate::initialiser::values::length_faults;
 use lt_tree::typed::{Constancy, Fact};

@@ -13,7 +13,7 @@ ghost use Rattle.lt_tree.specs.Typing.Expressions as expressions;
 ghost use Rattle.lt_tree.specs.Typing.Filling as typing;
 ghost use Rattle.lt_table.specs.TableRows.{Stays};
 ghost use Rattle.lt_table.specs.TypesValue.{Widens};
-ghost use Rattle.lt_type.specs.Views.{typed_of, typed_in};
+ghost use Rattle.lt_env.specs.Views.{typed_of, typed_in};
 ghost use Rattle.lt_unit.specs.LeftParts.{Knows};
 
 use crate::initialiser::letters::is_too_long;

@@ -3,8 +3,8 @@
 ghost use Rattle.std.specs.Prelude.{◌≡◌, option_map};
 ghost use Rattle.lt_tree.specs.Typing.StatementView as view;
 ghost use Rattle.lt_tree.specs.Typing.ValueView.{value_of};
-ghost use Rattle.lt_type.specs.Going.{Gives};
-ghost use Rattle.lt_type.specs.Views.{typed_in};
+ghost use Rattle.lt_env.specs.Going.{Gives};
+ghost use Rattle.lt_env.specs.Views.{typed_in};
 ghost use Rattle.lt_unit.specs.Inside as inside;
 ghost use Rattle.lt_unit.specs.SwitchHeads.{head_end};
 ghost use Rattle.lt_unit.specs.UnitViews.{statement_in, for_start_in};

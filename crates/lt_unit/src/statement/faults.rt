@@ -8,7 +8,7 @@ ghost use Rattle.lt_tree.specs.Typing.Expressions as expressions;
 ghost use Rattle.lt_tree.specs.Typing.Operations as operations;
 ghost use Rattle.lt_tree.specs.Typing.StatementTyping as typing;
 ghost use Rattle.lt_table.specs.TableRows.{Stays};
-ghost use Rattle.lt_type.specs.Views.{typed_of, typed_in};
+ghost use Rattle.lt_env.specs.Views.{typed_of, typed_in};
 
 use lt_model::Scalar;
 use lt_table::Types;

@@ -4,8 +4,8 @@ ghost use Rattle.std.specs.Prelude.{◌≡◌, IfOk, option_map};
 ghost use Rattle.lt_model.specs.Conversions.{promoted};
 ghost use Rattle.lt_table.specs.TableRows.{Stays};
 ghost use Rattle.lt_table.specs.TypesValue.{Widens};
-ghost use Rattle.lt_type.specs.Going.{Gives, answering};
-ghost use Rattle.lt_type.specs.Views.{typed_in};
+ghost use Rattle.lt_env.specs.Going.{Gives, answering};
+ghost use Rattle.lt_env.specs.Views.{typed_in};
 ghost use Rattle.lt_unit.specs.SwitchHeads.{head_of, switch_head};
 
 use crate::statement::faults::{scalar_of, switch_faults};

@@ -11,7 +11,7 @@ ghost use Rattle.lt_tree.specs.Typing.Expressions as expressions;
 ghost use Rattle.lt_tree.specs.Typing.StatementTyping as typing;
 ghost use Rattle.lt_table.specs.TableRows.{Stays};
 ghost use Rattle.lt_table.specs.TypesValue.{Widens};
-ghost use Rattle.lt_type.specs.Views.{typed_in};
+ghost use Rattle.lt_env.specs.Views.{typed_in};
 ghost use Rattle.lt_unit.specs.UnitViews.{statement_in};
 ghost use Rattle.lt_model.specs.Conversions.{promoted};
 

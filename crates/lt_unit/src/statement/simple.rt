@@ -5,8 +5,8 @@ ghost use Rattle.lt_tree.specs.Tree as c;
 ghost use Rattle.lt_tree.specs.View.{expression_of};
 ghost use Rattle.lt_tree.specs.Typing.StatementTyping as typing;
 ghost use Rattle.lt_tree.specs.Typing.TypeRows.{type_in};
-ghost use Rattle.lt_type.specs.Going.{Gives};
-ghost use Rattle.lt_type.specs.Views.{typed_in};
+ghost use Rattle.lt_env.specs.Going.{Gives};
+ghost use Rattle.lt_env.specs.Views.{typed_in};
 ghost use Rattle.lt_unit.specs.SwitchHeads as heads;
 ghost use Rattle.lt_unit.specs.UnitViews.{around_of, statement_in};
 

@@ -6,8 +6,9 @@ use Rattle.lt_tree.specs.Typing.Steps.{Goes, ◌>>=◌, goes_on, gives, without_
 use Rattle.lt_tree.specs.Typing.Expressions.{as_value, as_truth, as_place, as_callee}
 use Rattle.lt_tree.specs.Typing.ExpressionTyping as typing
 use Rattle.lt_type.specs.Ends.{index_end, call_end, member_end, arrow_end, step_end, unary_end, size_end, binary_end, logical_end, conditional_end, assignment_end, comma_end, marked_end, decide_end, after_end, members_end, declarator_end, sizeof_type_end, cast_end, found_end, without_any}
-use Rattle.lt_type.specs.Views.{use_of, typed_in, all_typed, bindings_with, naming_of, members_in, specified_of, open_struct_of, declares_of, judging_of}
-use Rattle.lt_type.proofs.Goings.{longer_still, as_long}
+use Rattle.lt_env.specs.Views.{use_of, typed_in, all_typed, bindings_with}
+use Rattle.lt_declare.specs.DeclaredViews.{naming_of, members_in, specified_of, open_struct_of, declares_of, judging_of}
+use Rattle.lt_env.proofs.Goings.{longer_still, as_long}
 use Rattle.lt_type.proofs.Sequences.{gives_then, gives_stops, gives_entered, gives_so, stopped, gives_itself, gives_in_block, stops_in_block}
 use Rattle.lt_type.proofs.Turns.{turns_start, lacks_memory, one_more, all_alone, list_on, list_stop, list_end, before, before_more, length_more, turns_from, turns_on, turns_stop, turns_end, passes_on, passes_stop, passes_end, collected, opened, behind_both}
 use Rattle.lt_type.proofs.Seen.{call_seen, comma_seen, marked_seen}

@@ -10,7 +10,8 @@ use Rattle.lt_type.proofs.MarkTurns.{mark_before}
 use Rattle.lt_tree.specs.Records.{expressions_in, bindings_in, marks_in, types_in, enumerators_in}
 use Rattle.lt_tree.specs.Typing.Steps.{gives}
 use Rattle.lt_tree.specs.Typing.ExpressionTyping as typing
-use Rattle.lt_type.specs.Views.{all_typed, bindings_with, naming_of, members_in, specified_of}
+use Rattle.lt_env.specs.Views.{all_typed, bindings_with}
+use Rattle.lt_declare.specs.DeclaredViews.{naming_of, members_in, specified_of}
 use Rattle.lt_type.proofs.Turns.{Turning, before}
 use Rattle.lt_type.proofs.walk.+typing.Given as goal
 

@@ -1,7 +1,7 @@
 use Rattle.std.proofs.Common.{ap, ◌∙◌}
 use Rattle.lt_tree.specs.Typing.Steps.{Goes, gives}
 use Rattle.lt_tree.specs.Typing.Expressions.{own_type}
-use Rattle.lt_type.specs.Views.{typed_of}
+use Rattle.lt_env.specs.Views.{typed_of}
 use Rattle.lt_type.proofs.Sequences.{gives_itself, gives_so, gives_stops, gives_then, stopped}
 use Rattle.lt_type.proofs.walk.type_of.Goals as goal
 

@@ -4,8 +4,8 @@ use Rattle.lt_tree.specs.Typing.Steps.{◌>>=◌, gives, without_marks}
 use Rattle.lt_tree.specs.Typing.Expressions.{as_value}
 use Rattle.lt_tree.specs.Typing.ExpressionTyping.{expression}
 use Rattle.lt_tree.specs.Typing.StatementTyping as typing
-use Rattle.lt_type.specs.Views.{typed_of}
-use Rattle.lt_type.proofs.Goings.{as_long}
+use Rattle.lt_env.specs.Views.{typed_of}
+use Rattle.lt_env.proofs.Goings.{as_long}
 use Rattle.lt_type.proofs.Sequences.{gives_entered, gives_then, gives_stops, gives_so, stopped}
 use Rattle.lt_type.proofs.Turns.{lacks_memory}
 use Rattle.lt_unit.specs.UnitViews.{labelled_of}

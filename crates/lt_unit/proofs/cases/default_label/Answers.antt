@@ -2,7 +2,7 @@ use Rattle.std.proofs.Common.{◌∷◌, [], true, not, ap, ◌∙◌}
 use Rattle.lt_tree.specs.Typing.TypedTree as e
 use Rattle.lt_tree.specs.Typing.Rules.{broken_if, unless, bad_case}
 use Rattle.lt_tree.specs.Typing.Steps.{◌>>◌, gives, settle}
-use Rattle.lt_type.proofs.Goings.{as_long}
+use Rattle.lt_env.proofs.Goings.{as_long}
 use Rattle.lt_type.proofs.Sequences.{gives_entered, gives_then, gives_stops, stopped}
 use Rattle.lt_type.proofs.Turns.{lacks_memory}
 use Rattle.lt_unit.specs.UnitViews.{labelled_of}

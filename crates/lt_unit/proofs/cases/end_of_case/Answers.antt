@@ -2,8 +2,8 @@ use Rattle.std.proofs.Common.{ap, ◌∙◌}
 use Rattle.lt_tree.specs.Typing.Rules.{unless, bad_case}
 use Rattle.lt_tree.specs.Typing.Steps.{goes_on, gives, settle}
 use Rattle.lt_tree.specs.Typing.StatementTyping as typing
-use Rattle.lt_type.specs.Going.{known_of}
-use Rattle.lt_type.proofs.Goings.{as_long}
+use Rattle.lt_env.specs.Going.{known_of}
+use Rattle.lt_env.proofs.Goings.{as_long}
 use Rattle.lt_type.proofs.Sequences.{gives_then, gives_stops, gives_itself, stopped}
 use Rattle.lt_type.proofs.Turns.{lacks_memory}
 use Rattle.lt_unit.proofs.Lasting.{gives_here}

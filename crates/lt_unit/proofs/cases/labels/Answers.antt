@@ -4,7 +4,7 @@ use Rattle.lt_tree.specs.UnitView as source
 use Rattle.lt_tree.specs.Typing.StatementView as view
 use Rattle.lt_tree.specs.Typing.Steps.{goes_on, gives}
 use Rattle.lt_tree.specs.Typing.StatementTyping as typing
-use Rattle.lt_type.proofs.Goings.{longer_still}
+use Rattle.lt_env.proofs.Goings.{longer_still}
 use Rattle.lt_type.proofs.Sequences.{stopped}
 use Rattle.lt_type.proofs.Turns.{lacks_memory, turns_on, turns_stop, turns_end, opened, collected}
 use Rattle.lt_unit.proofs.CaseTurns.{turns_so, label_first, labelled_before, labels_more, all_labels}

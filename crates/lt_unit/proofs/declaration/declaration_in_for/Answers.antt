@@ -5,7 +5,7 @@ use Rattle.lt_tree.specs.Records.{specifiers_of}
 use Rattle.lt_tree.specs.Typing.Steps.{Goes, ◌>>=◌, gives}
 use Rattle.lt_tree.specs.Typing.ExpressionTyping as expressions
 use Rattle.lt_tree.specs.Typing.DeclarationTyping as typing
-use Rattle.lt_type.specs.Views.{specified_of}
+use Rattle.lt_declare.specs.DeclaredViews.{specified_of}
 use Rattle.lt_type.proofs.Sequences.{gives_then, gives_stops, gives_so, stopped}
 use Rattle.lt_unit.specs.UnitViews.{locals_of, with_storage}
 use Rattle.lt_unit.proofs.declaration.declaration_in_for.Goals as goal

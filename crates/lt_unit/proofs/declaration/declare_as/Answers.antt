@@ -1,7 +1,7 @@
 use Rattle.std.specs.Prelude.{option_map}
 use Rattle.lt_tree.specs.UnitView as source
-use Rattle.lt_type.specs.DeclaredKinds.{kind_in}
-use Rattle.lt_type.specs.Views.{declares_of}
+use Rattle.lt_declare.specs.DeclaredKinds.{kind_in}
+use Rattle.lt_declare.specs.DeclaredViews.{declares_of}
 use Rattle.lt_type.proofs.Sequences.{gives_so}
 use Rattle.lt_unit.proofs.Declarations.{without_name, with_name}
 use Rattle.lt_unit.proofs.declaration.declare_as.Goals as goal

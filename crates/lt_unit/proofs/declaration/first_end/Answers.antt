@@ -2,7 +2,7 @@ use Rattle.std.proofs.Common.{[], ap, ◌∙◌}
 use Rattle.lt_tree.specs.Typing.TypedTree as e
 use Rattle.lt_tree.specs.Typing.Expressions.{value_in}
 use Rattle.lt_tree.specs.Typing.StatementTyping.{TypedStart}
-use Rattle.lt_type.specs.Views.{typed_in}
+use Rattle.lt_env.specs.Views.{typed_in}
 use Rattle.lt_type.proofs.Sequences.{gives_made}
 use Rattle.lt_unit.proofs.declaration.first_end.Goals as goal
 

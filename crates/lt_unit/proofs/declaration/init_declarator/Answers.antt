@@ -2,7 +2,7 @@ use Rattle.std.specs.Prelude.{option_map}
 use Rattle.lt_tree.specs.UnitView as source
 use Rattle.lt_tree.specs.Records.{declarator_of}
 use Rattle.lt_tree.specs.Typing.DeclarationTyping as typing
-use Rattle.lt_type.specs.Views.{specified_of, declares_of}
+use Rattle.lt_declare.specs.DeclaredViews.{specified_of, declares_of}
 use Rattle.lt_type.proofs.Sequences.{gives_then, gives_stops, gives_so, stopped}
 use Rattle.lt_unit.specs.Inside.{declare_as}
 use Rattle.lt_unit.specs.UnitViews.{with_storage}

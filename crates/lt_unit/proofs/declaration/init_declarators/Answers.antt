@@ -4,8 +4,8 @@ use Rattle.lt_tree.specs.UnitView as source
 use Rattle.lt_tree.specs.Typing.Steps.{Goes, goes_on, gives}
 use Rattle.lt_tree.specs.Typing.StatementView.{local_of}
 use Rattle.lt_tree.specs.Typing.DeclarationTyping as typing
-use Rattle.lt_type.specs.Views.{specified_of}
-use Rattle.lt_type.proofs.Goings.{longer_still}
+use Rattle.lt_declare.specs.DeclaredViews.{specified_of}
+use Rattle.lt_env.proofs.Goings.{longer_still}
 use Rattle.lt_type.proofs.Sequences.{stopped}
 use Rattle.lt_type.proofs.Turns.{turns_start, turns_on, turns_stop, turns_end, lacks_memory, opened, collected, all_alone}
 use Rattle.lt_unit.specs.UnitViews.{locals_of, local_in, with_storage}

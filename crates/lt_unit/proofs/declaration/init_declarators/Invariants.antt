@@ -2,7 +2,7 @@ use Rattle.std.proofs.Common.{◌++◌, map, drop}
 use Rattle.lt_tree.specs.UnitView as source
 use Rattle.lt_tree.specs.Typing.Steps.{gives}
 use Rattle.lt_tree.specs.Typing.DeclarationTyping as typing
-use Rattle.lt_type.specs.Views.{specified_of}
+use Rattle.lt_declare.specs.DeclaredViews.{specified_of}
 use Rattle.lt_type.proofs.Turns.{Turning}
 use Rattle.lt_unit.specs.UnitViews.{locals_of, with_storage}
 use Rattle.lt_unit.proofs.declaration.init_declarators.Given as goal

@@ -1,9 +1,9 @@
 use Rattle.std.proofs.Common.{refl}
 use Rattle.lt_tree.specs.Typing.TypeRows.{type_in}
 use Rattle.lt_tree.specs.Typing.Declaring as typing
-use Rattle.lt_type.proofs.Goings.{as_long}
+use Rattle.lt_env.proofs.Goings.{as_long}
 use Rattle.lt_type.proofs.Turns.{lacks_memory}
-use Rattle.lt_type.proofs.Judgements.{judged, widens_none}
+use Rattle.lt_env.proofs.Judgements.{judged, widens_none}
 use Rattle.lt_unit.proofs.declared.kind.Goals as goal
 
 pub returns-in-Some : goal.returns-in-Some

@@ -3,9 +3,9 @@ use Rattle.std.specs.Prelude.{option_map, unwrap_or}
 use Rattle.lt_tree.specs.Typing.Types.{Void}
 use Rattle.lt_tree.specs.Typing.TypeRows.{type_in}
 use Rattle.lt_tree.specs.Typing.Entities as entities
-use Rattle.lt_type.specs.Going.{known_of}
+use Rattle.lt_env.specs.Going.{known_of}
 use Rattle.lt_unit.proofs.Changed.{object_type}
-use Rattle.lt_type.proofs.Judgements.{judged, widens_none}
+use Rattle.lt_env.proofs.Judgements.{judged, widens_none}
 use Rattle.lt_unit.proofs.declared.type_of_object.Goals as goal
 
 pub returns-in-Some : goal.returns-in-Some

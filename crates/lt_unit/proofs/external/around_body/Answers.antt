@@ -1,5 +1,5 @@
 use Rattle.lt_tree.specs.Typing.Steps.{Goes}
-use Rattle.lt_type.specs.Going.{answering}
+use Rattle.lt_env.specs.Going.{answering}
 use Rattle.lt_type.proofs.Sequences.{gives_then, gives_itself}
 use Rattle.lt_unit.specs.UnitViews.{around_of}
 use Rattle.std.proofs.Common.{false}

@@ -7,8 +7,8 @@ use Rattle.lt_tree.specs.Typing.Steps.{◌>>=◌, goes_on, within, gives}
 use Rattle.lt_tree.specs.Typing.Declaring as declaring
 use Rattle.lt_tree.specs.Typing.StatementTyping as statements
 use Rattle.lt_tree.specs.Typing.UnitTyping as typing
-use Rattle.lt_type.specs.NamesValue.{frame_at}
-use Rattle.lt_type.specs.Views.{declares_of, parameters_in}
+use Rattle.lt_env.specs.NamesValue.{frame_at}
+use Rattle.lt_declare.specs.DeclaredViews.{declares_of, parameters_in}
 use Rattle.lt_type.proofs.Sequences.{gives_then, gives_stops, gives_so, stopped}
 use Rattle.lt_unit.specs.UnitViews.{around_of}
 use Rattle.lt_unit.proofs.Units.{body_then, function_added}

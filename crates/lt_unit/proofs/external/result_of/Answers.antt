@@ -3,8 +3,8 @@ use Rattle.std.specs.Prelude.{option_map, unwrap_or}
 use Rattle.lt_tree.specs.Typing.Types.{Void}
 use Rattle.lt_tree.specs.Typing.TypeRows.{type_in}
 use Rattle.lt_tree.specs.Typing.UnitTyping as typing
-use Rattle.lt_type.proofs.Goings.{longer_still}
-use Rattle.lt_type.proofs.Judgements.{judged, widens_none}
+use Rattle.lt_env.proofs.Goings.{longer_still}
+use Rattle.lt_env.proofs.Judgements.{judged, widens_none}
 use Rattle.lt_unit.proofs.external.result_of.Goals as goal
 
 pub returns-in-Some : goal.returns-in-Some

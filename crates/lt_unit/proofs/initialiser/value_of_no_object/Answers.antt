@@ -4,7 +4,7 @@ use Rattle.lt_tree.specs.Typing.Expressions.{as_value}
 use Rattle.lt_tree.specs.Typing.ExpressionTyping.{expression}
 use Rattle.lt_tree.specs.Typing.Rules.{bad_initialiser}
 use Rattle.lt_tree.specs.Typing.Steps.{◌>>=◌, settle}
-use Rattle.lt_type.proofs.Goings.{as_long}
+use Rattle.lt_env.proofs.Goings.{as_long}
 use Rattle.lt_type.proofs.Sequences.{gives_entered, gives_then, gives_stops, stopped}
 use Rattle.lt_type.proofs.Turns.{lacks_memory}
 use Rattle.lt_unit.proofs.Lasting.{settled}

@@ -3,7 +3,7 @@ use Rattle.lt_tree.specs.Typing.TypedTree as e
 use Rattle.lt_tree.specs.Typing.Steps.{◌>>=◌, ◌>>◌, gives, settle}
 use Rattle.lt_tree.specs.Typing.DeclarationTyping.{declaration}
 use Rattle.lt_tree.specs.Typing.StatementTyping as typing
-use Rattle.lt_type.proofs.Goings.{as_long}
+use Rattle.lt_env.proofs.Goings.{as_long}
 use Rattle.lt_type.proofs.Sequences.{gives_entered, gives_then, gives_stops, gives_so, stopped}
 use Rattle.lt_type.proofs.Turns.{lacks_memory}
 use Rattle.lt_unit.specs.UnitViews.{locals_of}

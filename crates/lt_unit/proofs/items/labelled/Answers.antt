@@ -5,7 +5,7 @@ use Rattle.lt_tree.specs.Typing.StatementView as view
 use Rattle.lt_tree.specs.Typing.ValueView as value
 use Rattle.lt_tree.specs.Typing.Steps.{◌>>=◌, gives}
 use Rattle.lt_tree.specs.Typing.ExpressionTyping.{mark}
-use Rattle.lt_type.proofs.Goings.{as_long}
+use Rattle.lt_env.proofs.Goings.{as_long}
 use Rattle.lt_type.proofs.Sequences.{gives_entered, gives_then, gives_stops, stopped}
 use Rattle.lt_type.proofs.Turns.{lacks_memory}
 use Rattle.lt_unit.proofs.Lasting.{gives_it}

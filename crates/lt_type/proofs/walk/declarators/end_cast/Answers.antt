@@ -1,7 +1,7 @@
 use Rattle.std.proofs.Common.{ap}
 use Rattle.lt_tree.specs.Typing.Expressions.{finish}
 use Rattle.lt_tree.specs.Typing.NodeEnds.{also}
-use Rattle.lt_type.specs.Views.{use_of}
+use Rattle.lt_env.specs.Views.{use_of}
 use Rattle.lt_type.proofs.Sequences.{gives_then, gives_so}
 use Rattle.lt_type.proofs.walk.declarators.end_cast.Goals as goal
 

@@ -1,5 +1,5 @@
 use Rattle.lt_tree.specs.Typing.NodeEnds.{end_of_declarator}
-use Rattle.lt_type.specs.Views.{built_of}
+use Rattle.lt_declare.specs.DeclaredViews.{built_of}
 use Rattle.lt_type.proofs.Sequences.{gives_then}
 use Rattle.lt_type.proofs.walk.declarators.end_declarator.Goals as goal
 

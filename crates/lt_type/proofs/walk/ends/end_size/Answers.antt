@@ -1,7 +1,7 @@
 use Rattle.std.proofs.Common.{ap, ◌∙◌}
 use Rattle.lt_tree.specs.Typing.Expressions.{own_type, finish}
 use Rattle.lt_tree.specs.Typing.Operations.{judge_size}
-use Rattle.lt_type.specs.Views.{typed_of, use_of}
+use Rattle.lt_env.specs.Views.{typed_of, use_of}
 use Rattle.lt_type.proofs.Sequences.{gives_then, gives_so}
 use Rattle.lt_type.proofs.walk.ends.end_size.Goals as goal
 

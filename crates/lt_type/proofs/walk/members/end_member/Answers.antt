@@ -1,6 +1,6 @@
 use Rattle.std.proofs.Common.{ap}
 use Rattle.lt_tree.specs.Typing.Steps.{◌>>◌, gives, settle}
-use Rattle.lt_type.specs.Views.{members_in}
+use Rattle.lt_declare.specs.DeclaredViews.{members_in}
 use Rattle.lt_type.proofs.Sequences.{gives_then, gives_stops, gives_so, gives_itself, stopped}
 use Rattle.lt_type.proofs.walk.members.end_member.Goals as goal
 

@@ -1,6 +1,6 @@
 use Rattle.std.proofs.Common.{ap, ◌∙◌}
 use Rattle.lt_tree.specs.Typing.Declarators.{has_member}
-use Rattle.lt_type.specs.Views.{members_in}
+use Rattle.lt_declare.specs.DeclaredViews.{members_in}
 use Rattle.lt_type.proofs.walk.members.is_declared.Goals as goal
 
 pub returns-in-Some : goal.returns-in-Some

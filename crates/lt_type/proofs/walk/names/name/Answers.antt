@@ -2,7 +2,7 @@ use Rattle.lt_tree.specs.Typing.Entities.{meaning_of}
 use Rattle.lt_tree.specs.Typing.Steps.{◌>>=◌, here}
 use Rattle.lt_tree.specs.Typing.Expressions.{finish}
 use Rattle.lt_tree.specs.Typing.Operations.{judge_name}
-use Rattle.lt_type.specs.Views.{use_of}
+use Rattle.lt_env.specs.Views.{use_of}
 use Rattle.lt_type.proofs.Sequences.{gives_then, gives_entered}
 use Rattle.lt_type.proofs.walk.names.name.Goals as goal
 

@@ -6,7 +6,7 @@ use Rattle.lt_tree.specs.Typing.Entities.{Known}
 use Rattle.lt_tree.specs.Typing.NodeEnds.{text_at}
 use Rattle.lt_tree.specs.Typing.ExpressionTyping.{expression}
 use Rattle.lt_type.specs.Ends.{text_number, text_end}
-use Rattle.lt_type.specs.Views.{use_of}
+use Rattle.lt_env.specs.Views.{use_of}
 use Rattle.lt_type.proofs.Sequences.{gives_then, gives_entered, gives_so}
 use Rattle.lt_type.proofs.walk.names.text.Goals as goal
 

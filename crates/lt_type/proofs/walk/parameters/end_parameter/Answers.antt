@@ -1,6 +1,6 @@
 use Rattle.lt_tree.specs.Typing.Steps.{◌>>=◌, gives}
 use Rattle.lt_tree.specs.Typing.Declarators.{binds_parameter}
-use Rattle.lt_type.specs.Views.{declares_of}
+use Rattle.lt_declare.specs.DeclaredViews.{declares_of}
 use Rattle.lt_type.proofs.Sequences.{gives_then, gives_stops, gives_itself, stopped}
 use Rattle.lt_type.proofs.walk.parameters.end_parameter.Goals as goal
 

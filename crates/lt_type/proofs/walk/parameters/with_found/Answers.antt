@@ -2,7 +2,7 @@ use Rattle.std.proofs.Common.{map, refl, sym, ap, ◌∙◌}
 use Rattle.std.proofs.lemmas.List.{nil_from_length}
 use Rattle.lt_tree.specs.Typing.Steps.{Goes}
 use Rattle.lt_type.specs.Found.{found_of}
-use Rattle.lt_type.specs.Views.{parameters_in}
+use Rattle.lt_declare.specs.DeclaredViews.{parameters_in}
 use Rattle.lt_type.proofs.Sequences.{stopped}
 use Rattle.lt_type.proofs.Turns.{turns_from, turns_on, turns_stop, turns_end}
 use Rattle.lt_type.proofs.ParameterTurns.{all_behind, forwards}

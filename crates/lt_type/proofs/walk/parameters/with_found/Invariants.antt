@@ -2,7 +2,7 @@ use Rattle.std.proofs.Common.{map}
 use Rattle.lt_tree.specs.Typing.Steps.{Goes, gives}
 use Rattle.lt_type.specs.Ends.{without_any}
 use Rattle.lt_type.specs.Found.{found_of, with_all_found}
-use Rattle.lt_type.specs.Views.{parameters_in}
+use Rattle.lt_declare.specs.DeclaredViews.{parameters_in}
 use Rattle.lt_type.proofs.Turns.{Turning}
 use Rattle.lt_type.proofs.ParameterTurns.{all_behind}
 use Rattle.lt_type.proofs.walk.parameters.with_found.Given as goal

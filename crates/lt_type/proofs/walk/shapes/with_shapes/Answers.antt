@@ -1,7 +1,7 @@
 use Rattle.std.proofs.Common.{map, refl, ap, ◌∙◌}
 use Rattle.lt_tree.specs.Typing.Steps.{Goes}
 use Rattle.lt_type.specs.Found.{part_of, with_parts}
-use Rattle.lt_type.specs.Views.{built_of}
+use Rattle.lt_declare.specs.DeclaredViews.{built_of}
 use Rattle.lt_type.proofs.Sequences.{stopped}
 use Rattle.lt_type.proofs.Turns.{turns_on, turns_stop}
 use Rattle.lt_type.proofs.InsideTurns.{last_part}

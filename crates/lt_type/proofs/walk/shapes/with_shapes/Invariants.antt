@@ -3,7 +3,7 @@ use Rattle.lt_tree.specs.Typing.TypeRows.{type_in}
 use Rattle.lt_tree.specs.Typing.Steps.{Goes, gives}
 use Rattle.lt_tree.specs.Typing.Declarators as d
 use Rattle.lt_type.specs.Found.{part_of, with_parts}
-use Rattle.lt_type.specs.Views.{built_of}
+use Rattle.lt_declare.specs.DeclaredViews.{built_of}
 use Rattle.lt_type.proofs.Turns.{Turning}
 use Rattle.lt_type.proofs.walk.shapes.with_shapes.Given as goal
 

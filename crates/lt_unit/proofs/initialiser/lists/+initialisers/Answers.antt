@@ -6,8 +6,8 @@ use Rattle.lt_tree.specs.Typing.TypeRows.{type_in}
 use Rattle.lt_tree.specs.Typing.Filling.{Filling, list_faults}
 use Rattle.lt_tree.specs.Typing.InitialiserTyping as typing
 use Rattle.lt_tree.specs.Typing.Steps.{Walk, ◌>>◌, goes_on, gives, settle}
-use Rattle.lt_type.specs.Going.{known_of}
-use Rattle.lt_type.proofs.Goings.{as_long}
+use Rattle.lt_env.specs.Going.{known_of}
+use Rattle.lt_env.proofs.Goings.{as_long}
 use Rattle.lt_type.proofs.Sequences.{gives_entered, gives_then, gives_stops, gives_so, stopped}
 use Rattle.lt_type.proofs.Turns.{lacks_memory, turns_from, passes_on, passes_stop, passes_end}
 use Rattle.lt_unit.specs.Fillings.{filling_in}

@@ -2,11 +2,11 @@ use Rattle.std.proofs.Common.{ap, ◌∙◌}
 use Rattle.lt_tree.specs.Typing.Rules.{broken_if, bad_initialiser}
 use Rattle.lt_tree.specs.Typing.TypeRows.{type_in}
 use Rattle.lt_tree.specs.Typing.Filling.{is_too_long_for, letters_of}
-use Rattle.lt_type.proofs.Goings.{as_long}
+use Rattle.lt_env.proofs.Goings.{as_long}
 use Rattle.lt_type.proofs.Sequences.{gives_then, gives_stops, gives_made, stopped}
 use Rattle.lt_type.proofs.Turns.{lacks_memory}
 use Rattle.lt_unit.specs.Fillings.{filling_in, with_part}
-use Rattle.lt_type.proofs.Judgements.{widens_none}
+use Rattle.lt_env.proofs.Judgements.{widens_none}
 use Rattle.lt_unit.proofs.Lasting.{settled}
 use Rattle.lt_unit.proofs.initialiser.lists.fill_text.Goals as goal
 

@@ -1,8 +1,8 @@
 use Rattle.std.proofs.Common.{map, sym}
 use Rattle.lt_tree.specs.View.{expression_of}
 use Rattle.lt_tree.specs.Typing.StatementView.{start_part_of}
-use Rattle.lt_type.specs.Going.{known_of}
-use Rattle.lt_type.proofs.Goings.{as_long}
+use Rattle.lt_env.specs.Going.{known_of}
+use Rattle.lt_env.proofs.Goings.{as_long}
 use Rattle.lt_type.proofs.Sequences.{stopped}
 use Rattle.lt_type.proofs.Turns.{lacks_memory}
 use Rattle.lt_unit.specs.LeftParts.{run_of, runs_of}

@@ -3,9 +3,9 @@ use Rattle.lt_tree.specs.Typing.Types.{struct_of}
 use Rattle.lt_tree.specs.Typing.StatementView.{start_part_of}
 use Rattle.lt_tree.specs.Typing.Expressions.{own_type}
 use Rattle.lt_tree.specs.Typing.Filling.{opened, is_struct_of}
-use Rattle.lt_type.specs.Going.{known_of}
-use Rattle.lt_type.specs.Views.{typed_of, typed_in}
-use Rattle.lt_type.proofs.Goings.{as_long}
+use Rattle.lt_env.specs.Going.{known_of}
+use Rattle.lt_env.specs.Views.{typed_of, typed_in}
+use Rattle.lt_env.proofs.Goings.{as_long}
 use Rattle.lt_type.proofs.Sequences.{gives_itself, stopped}
 use Rattle.lt_type.proofs.Turns.{lacks_memory}
 use Rattle.lt_unit.specs.LeftParts.{run_of, runs_of}

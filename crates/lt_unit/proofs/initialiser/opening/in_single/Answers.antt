@@ -3,7 +3,7 @@ use Rattle.lt_tree.specs.Typing.TypeRows.{type_in}
 use Rattle.lt_tree.specs.Typing.Filling.{first_in_struct}
 use Rattle.lt_table.proofs.TableFound.{then_ok}
 use Rattle.lt_unit.specs.LeftParts.{is_taken_for, runs_of}
-use Rattle.lt_type.proofs.Judgements.{stays_in}
+use Rattle.lt_env.proofs.Judgements.{stays_in}
 use Rattle.lt_unit.proofs.Openings.{plain_whole, plain_struct}
 use Rattle.lt_unit.proofs.initialiser.opening.in_single.Goals as goal
 

@@ -3,7 +3,7 @@ use Rattle.lt_tree.specs.Typing.TypeRows.{type_in}
 use Rattle.lt_tree.specs.Typing.Filling.{parts_of}
 use Rattle.lt_table.proofs.TableFound.{then_ok}
 use Rattle.lt_unit.specs.LeftParts.{plain}
-use Rattle.lt_type.proofs.Judgements.{stays_in}
+use Rattle.lt_env.proofs.Judgements.{stays_in}
 use Rattle.lt_unit.proofs.Openings.{plain_twice, plain_parts}
 use Rattle.lt_unit.proofs.initialiser.opening.parts_of.Goals as goal
 

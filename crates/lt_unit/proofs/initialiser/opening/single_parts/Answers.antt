@@ -2,7 +2,7 @@ use Rattle.std.proofs.Common.{sym, ap, ◌∙◌}
 use Rattle.lt_tree.specs.Typing.TypeRows.{type_in}
 use Rattle.lt_tree.specs.Typing.Filling.{parts_of}
 use Rattle.lt_table.proofs.TableFound.{then_ok}
-use Rattle.lt_type.proofs.Judgements.{stays_in}
+use Rattle.lt_env.proofs.Judgements.{stays_in}
 use Rattle.lt_unit.proofs.Openings.{plain_part, plain_struct}
 use Rattle.lt_unit.proofs.initialiser.opening.single_parts.Goals as goal
 

@@ -4,7 +4,7 @@ use Rattle.std.specs.Prelude.{slice_index_or}
 use Rattle.lt_tree.specs.Typing.Types.{Void}
 use Rattle.lt_tree.specs.Typing.TypeRows.{type_in}
 use Rattle.lt_unit.specs.LeftParts.{plain}
-use Rattle.lt_type.proofs.Judgements.{stays_in}
+use Rattle.lt_env.proofs.Judgements.{stays_in}
 use Rattle.lt_unit.proofs.Openings.{plain_itself, plain_bare}
 use Rattle.lt_unit.proofs.initialiser.opening.unqualified.Goals as goal
 

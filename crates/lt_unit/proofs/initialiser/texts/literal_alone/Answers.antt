@@ -5,7 +5,7 @@ use Rattle.lt_tree.specs.Typing.Entities.{Fact}
 use Rattle.lt_tree.specs.Typing.Steps.{Walk, ◌>>=◌, ◌>>◌, here, settle, notes}
 use Rattle.lt_tree.specs.Typing.Operations.{text_type}
 use Rattle.lt_tree.specs.Typing.Declaring.{length_faults}
-use Rattle.lt_type.specs.Going.{known_of}
+use Rattle.lt_env.specs.Going.{known_of}
 use Rattle.lt_type.proofs.Sequences.{gives_entered, gives_then, gives_stops, stopped}
 use Rattle.lt_type.proofs.Turns.{lacks_memory}
 use Rattle.lt_unit.proofs.Lasting.{gives_here}

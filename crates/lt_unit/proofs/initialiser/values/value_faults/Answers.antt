@@ -4,8 +4,8 @@ use Rattle.lt_tree.specs.Typing.TypeRows.{type_in}
 use Rattle.lt_tree.specs.Typing.ConstancyView.{constancy_of}
 use Rattle.lt_tree.specs.Typing.Expressions.{constancy_to}
 use Rattle.lt_tree.specs.Typing.Operations.{fits}
-use Rattle.lt_type.specs.Views.{typed_of}
-use Rattle.lt_type.proofs.Judgements.{stays_on}
+use Rattle.lt_env.specs.Views.{typed_of}
+use Rattle.lt_env.proofs.Judgements.{stays_on}
 use Rattle.lt_unit.proofs.FillingWalks.{value_rules}
 use Rattle.lt_unit.proofs.initialiser.values.value_faults.Goals as goal
 

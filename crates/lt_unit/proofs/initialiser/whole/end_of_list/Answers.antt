@@ -5,13 +5,13 @@ use Rattle.lt_tree.specs.Typing.Steps.{Goes, ◌>>◌, settle}
 use Rattle.lt_tree.specs.Typing.Declaring.{length_faults}
 use Rattle.lt_tree.specs.Typing.Filling.{list_faults}
 use Rattle.lt_tree.specs.Typing.InitialiserTyping.{with_length, listed_length, started}
-use Rattle.lt_type.specs.Going.{known_of}
-use Rattle.lt_type.proofs.Goings.{as_long}
+use Rattle.lt_env.specs.Going.{known_of}
+use Rattle.lt_env.proofs.Goings.{as_long}
 use Rattle.lt_type.proofs.Sequences.{gives_then, gives_stops, gives_so, gives_made, stopped}
 use Rattle.lt_type.proofs.Turns.{lacks_memory}
 use Rattle.lt_unit.specs.LeftParts.{Knows, runs_of}
 use Rattle.lt_unit.specs.Fillings.{filling_in}
-use Rattle.lt_type.proofs.Judgements.{stays_on, widens_none}
+use Rattle.lt_env.proofs.Judgements.{stays_on, widens_none}
 use Rattle.lt_unit.proofs.FillingWalks.{knows_itself, knows_on, knows_back, judged_then, list_end_steps}
 use Rattle.lt_unit.proofs.initialiser.whole.end_of_list.Goals as goal
 

@@ -5,11 +5,11 @@ use Rattle.lt_tree.specs.Typing.Steps.{◌>>◌, gives, settle}
 use Rattle.lt_tree.specs.Typing.Declaring.{length_faults}
 use Rattle.lt_tree.specs.Typing.Filling.{is_too_long_for, letters_of}
 use Rattle.lt_tree.specs.Typing.InitialiserTyping.{with_length, started}
-use Rattle.lt_type.specs.Going.{known_of}
-use Rattle.lt_type.proofs.Goings.{as_long}
+use Rattle.lt_env.specs.Going.{known_of}
+use Rattle.lt_env.proofs.Goings.{as_long}
 use Rattle.lt_type.proofs.Sequences.{gives_then, gives_stops, gives_made, stopped}
 use Rattle.lt_type.proofs.Turns.{lacks_memory}
-use Rattle.lt_type.proofs.Judgements.{widens_none}
+use Rattle.lt_env.proofs.Judgements.{widens_none}
 use Rattle.lt_unit.proofs.FillingWalks.{knows_itself, knows_on, judged_then}
 use Rattle.lt_unit.proofs.initialiser.whole.end_of_text.Goals as goal
 

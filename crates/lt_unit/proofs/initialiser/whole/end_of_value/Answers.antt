@@ -3,8 +3,8 @@ use Rattle.lt_tree.specs.Typing.TypeRows.{type_in}
 use Rattle.lt_tree.specs.Typing.Steps.{Goes, ◌>>◌, settle}
 use Rattle.lt_tree.specs.Typing.Filling.{value_part}
 use Rattle.lt_tree.specs.Typing.InitialiserTyping.{started}
-use Rattle.lt_type.specs.Going.{known_of}
-use Rattle.lt_type.specs.Views.{typed_of, typed_in}
+use Rattle.lt_env.specs.Going.{known_of}
+use Rattle.lt_env.specs.Views.{typed_of, typed_in}
 use Rattle.lt_type.proofs.Sequences.{gives_then, gives_stops, gives_so, gives_made, stopped}
 use Rattle.lt_type.proofs.Turns.{lacks_memory}
 use Rattle.lt_unit.specs.Fillings.{whole_faults}

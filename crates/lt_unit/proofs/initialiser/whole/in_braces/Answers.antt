@@ -8,8 +8,8 @@ use Rattle.lt_tree.specs.Typing.Steps.{Walk, ◌>>=◌, goes_on, here}
 use Rattle.lt_tree.specs.Typing.Declaring.{length_faults}
 use Rattle.lt_tree.specs.Typing.Filling.{filling_of}
 use Rattle.lt_tree.specs.Typing.InitialiserTyping.{Started, initialisers, end_of_list}
-use Rattle.lt_type.specs.Going.{known_of}
-use Rattle.lt_type.proofs.Goings.{as_long}
+use Rattle.lt_env.specs.Going.{known_of}
+use Rattle.lt_env.proofs.Goings.{as_long}
 use Rattle.lt_type.proofs.Sequences.{gives_entered, gives_then, gives_stops, stopped}
 use Rattle.lt_type.proofs.Turns.{lacks_memory}
 use Rattle.lt_unit.specs.Fillings.{behind_parts}

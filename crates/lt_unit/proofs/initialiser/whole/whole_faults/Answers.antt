@@ -3,8 +3,8 @@ use Rattle.lt_tree.specs.Typing.TypeRows.{type_in}
 use Rattle.lt_tree.specs.Typing.Rules.{bad_initialiser}
 use Rattle.lt_tree.specs.Typing.Declaring.{length_faults}
 use Rattle.lt_tree.specs.Typing.Filling.{value_faults}
-use Rattle.lt_type.specs.Views.{typed_of}
-use Rattle.lt_type.proofs.Judgements.{stays_on}
+use Rattle.lt_env.specs.Views.{typed_of}
+use Rattle.lt_env.proofs.Judgements.{stays_on}
 use Rattle.lt_unit.proofs.initialiser.whole.whole_faults.Goals as goal
 
 pub returns-clause-made : goal.returns-clause-made

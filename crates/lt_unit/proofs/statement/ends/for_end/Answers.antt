@@ -3,8 +3,8 @@ use Rattle.lt_tree.specs.Typing.TypedTree as e
 use Rattle.lt_tree.specs.Typing.StatementView as view
 use Rattle.lt_tree.specs.Typing.Steps.{gives}
 use Rattle.lt_tree.specs.Typing.StatementTyping as typing
-use Rattle.lt_type.specs.Views.{typed_in}
-use Rattle.lt_type.proofs.Goings.{as_long}
+use Rattle.lt_env.specs.Views.{typed_in}
+use Rattle.lt_env.proofs.Goings.{as_long}
 use Rattle.lt_type.proofs.Sequences.{gives_then, gives_stops, gives_made, stopped}
 use Rattle.lt_type.proofs.Turns.{lacks_memory}
 use Rattle.lt_unit.specs.UnitViews.{statement_in}

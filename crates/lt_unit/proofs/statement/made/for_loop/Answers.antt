@@ -2,9 +2,9 @@ use Rattle.std.proofs.Common.{option_map, ap, ◌∙◌}
 use Rattle.lt_tree.specs.Typing.TypedTree as e
 use Rattle.lt_tree.specs.Typing.StatementView as view
 use Rattle.lt_tree.specs.Typing.StatementTyping.{optional_value}
-use Rattle.lt_type.specs.Views.{typed_in}
+use Rattle.lt_env.specs.Views.{typed_in}
 use Rattle.lt_unit.specs.UnitViews.{statement_in}
-use Rattle.lt_type.proofs.Judgements.{stays_on}
+use Rattle.lt_env.proofs.Judgements.{stays_on}
 use Rattle.lt_unit.proofs.statement.made.for_loop.Goals as goal
 
 pub returns-clause-made : goal.returns-clause-made

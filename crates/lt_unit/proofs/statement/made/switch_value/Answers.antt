@@ -3,8 +3,8 @@ use Rattle.lt_model.specs.Conversions.{promoted}
 use Rattle.lt_tree.specs.Typing.Types.{Num, scalar_of}
 use Rattle.lt_tree.specs.Typing.Expressions.{own_type, value_in, converted_to}
 use Rattle.lt_tree.specs.Typing.StatementTyping as typing
-use Rattle.lt_type.specs.Views.{typed_in, typed_of}
-use Rattle.lt_type.proofs.Judgements.{stays_on}
+use Rattle.lt_env.specs.Views.{typed_in, typed_of}
+use Rattle.lt_env.proofs.Judgements.{stays_on}
 use Rattle.lt_unit.proofs.SwitchOperands.{switch_none, switch_some, value_so}
 use Rattle.lt_unit.proofs.statement.made.switch_value.Goals as goal
 

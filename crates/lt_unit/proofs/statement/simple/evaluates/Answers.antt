@@ -3,7 +3,7 @@ use Rattle.lt_tree.specs.Typing.TypedTree as e
 use Rattle.lt_tree.specs.Typing.Steps.{◌>>=◌, gives}
 use Rattle.lt_tree.specs.Typing.Expressions.{as_value, value_in}
 use Rattle.lt_tree.specs.Typing.ExpressionTyping.{expression}
-use Rattle.lt_type.specs.Views.{typed_in}
+use Rattle.lt_env.specs.Views.{typed_in}
 use Rattle.lt_type.proofs.Sequences.{gives_entered, gives_then, gives_stops, gives_made, stopped}
 use Rattle.lt_type.proofs.Turns.{lacks_memory}
 use Rattle.lt_unit.proofs.statement.simple.evaluates.Goals as goal

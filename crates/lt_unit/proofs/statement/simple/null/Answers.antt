@@ -2,7 +2,7 @@ use Rattle.std.proofs.Common.{ap, ◌∙◌}
 use Rattle.lt_tree.specs.Typing.TypedTree as e
 use Rattle.lt_tree.specs.Typing.StatementView as view
 use Rattle.lt_tree.specs.Typing.Steps.{gives}
-use Rattle.lt_type.proofs.Goings.{as_long}
+use Rattle.lt_env.proofs.Goings.{as_long}
 use Rattle.lt_type.proofs.Sequences.{gives_entered, stopped}
 use Rattle.lt_type.proofs.Turns.{lacks_memory}
 use Rattle.lt_unit.proofs.Lasting.{gives_it}

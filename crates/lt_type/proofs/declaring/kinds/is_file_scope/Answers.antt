@@ -1,6 +1,0 @@
-use Rattle.std.proofs.Common.{ap}
-use Rattle.std.proofs.Common.{◌==◌}
-use Rattle.lt_type.proofs.declaring.kinds.is_file_scope.Goals as goal
-
-pub returns : goal.returns
-returns c = λ types. ap (λ n. n == 1) (c.depth.ensures types)

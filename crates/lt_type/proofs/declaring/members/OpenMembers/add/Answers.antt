@@ -1,9 +1,0 @@
-use Rattle.std.proofs.Common.{◌∙◌}
-use Rattle.std.specs.Str.{bytes_eq}
-use Rattle.lt_type.proofs.NameMaps.{one_more, same_name}
-use Rattle.lt_type.proofs.declaring.members.OpenMembers.add.Goals as goal
-
-pub invariant_of-self-in-Ok : goal.invariant_of-self-in-Ok
-invariant_of-self-in-Ok c =
-    one_more (λ w it. bytes_eq it.name w) c.self.inside.list.items _ _ c.self.inside.names c.insert.new.self c.in_ok-key.key.items c.self.invariant c.in_ok-push.ensures.items
-    (λ w. same_name _ c.args.name w (c.in_ok-key.ensures.items ∙ c.as_slice.ensures)) c.in-Ok.ensures.updates

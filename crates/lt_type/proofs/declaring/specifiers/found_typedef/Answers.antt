@@ -1,8 +1,0 @@
-use Rattle.std.proofs.Common.{sym, ap, ◌∙◌}
-use Rattle.lt_tree.specs.Typing.Specifying as typing
-use Rattle.lt_type.specs.Views.{naming_of}
-use Rattle.lt_type.proofs.declaring.specifiers.found_typedef.Goals as goal
-
-pub returns : goal.returns
-returns c = λ types.
-    ap (λ f. naming_of types (record { ty = c.typedef_in.result; faults = f })) c.new.ensures ∙ (sym (c.typedef_in.ensures types) ∙ ap typing.typedef_named (c.find.ensures types))

@@ -1,7 +1,0 @@
-use Rattle.lt_tree.specs.Typing.BinaryOperations.{judge_binary}
-use Rattle.lt_type.proofs.Judgements.{judged}
-use Rattle.lt_type.proofs.judge.binary.judge_binary.Goals as goal
-
-pub returns : goal.returns
-unfolding judge_binary
-returns c = judged c.binary.ensures.widens c.in_ok-judged.ensures.made

@@ -1,7 +1,0 @@
-use Rattle.std.proofs.Common.{refl}
-use Rattle.lt_type.specs.Going.{known_of}
-use Rattle.lt_type.proofs.Judgements.{judged}
-use Rattle.lt_type.proofs.judge.parts.judge_index.Goals as goal
-
-pub returns : goal.returns
-returns c = judged c.in_ok-index.ensures.widens (λ longer more. c.in_ok-index.ensures.made longer more (known_of longer c.args.walker.now) refl refl refl)

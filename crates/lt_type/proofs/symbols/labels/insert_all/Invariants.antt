@@ -1,6 +1,0 @@
-use Rattle.std.proofs.Common.{take}
-use Rattle.lt_type.specs.NameMaps.{HasNames}
-use Rattle.lt_type.proofs.symbols.labels.insert_all.Given as goal
-
-abbrev pub invariant-loop-name : goal.invariant-loop-name
-invariant-loop-name l = HasNames (take l.name-index l.names) l.fn.bound l.bound
