@@ -103,7 +103,7 @@ calm_write change p = calm_bind (changed change) (λ u. gives p) (calm_changed c
 
 pub calm_stored : (model : DataModel) (ty : CellType) (a : Option Address) (c : Content) (p : Footprint) → Calm (stored model ty a c p)
 calm_stored model ty a c p at =
-    calm_bind (free_target (target ty a at.memory) p) (λ u. changed (λ memory. store model memory a ty c) >> gives (joined p (writes (target ty a at.memory)))) (calm_free (target ty a at.memory) p) (λ u. calm_write (λ memory. store model memory a ty c) (joined p (writes (target ty a at.memory)))) at
+    calm_write (λ memory. store model memory a ty c) (joined p (writes (target ty a at.memory))) at
 
 pub calm_copied : (model : DataModel) (shape : Shape) (a b : Option Address) (p : Footprint) → Calm (copied model shape a b p)
 calm_copied model shape a b p =

@@ -16,7 +16,7 @@ use Rattle.lt_model.specs.Operators.{value_of}
 use Rattle.lt_model.specs.Memory.{Memory, load, store, copy_struct, checked_address, then_result, move_by, compare, subtract, not_null}
 use Rattle.lt_model.specs.State.{CellName, Footprint, Valued, clash, joined, meets}
 use Rattle.lt_ir.specs.Running.{Variable, Left, At, Answer, Gives, Ends, Step, gives, over, defined, absurdity, asked, changed, ◌>>=◌, ◌>>◌, spent, tick, living_block, with_block, place, took, next_value, stub_value}
-use Rattle.lt_ir.specs.Evaluation.{number_in, address_in, used, is_some_address, truth_in, apart, cells_there, writes, target, free_target, loaded, stored, copied, with_reads, signed_count, moved, member_at, applied, counted, compared}
+use Rattle.lt_ir.specs.Evaluation.{number_in, address_in, used, is_some_address, truth_in, apart, cells_there, writes, target, free_target, aimed, loaded, stored, copied, with_reads, signed_count, moved, member_at, applied, counted, compared}
 use Rattle.lt_ir.specs.Graph.{How, to_integer, to_truth, to_pointer, to_void, as_it_is, Register, register_at, had, content_at, contents_from, convert_as}
 use Rattle.lt_code.proofs.Finishing.{Later, Keeps, Calm, later_same, later_still}
 
@@ -133,6 +133,10 @@ calm-apart p q at = keeps-refused at (clash p q) (Err Unsequenced) (joined p q)
 pub calm-free_target : (cells : List CellName) (operands : Footprint) → Calm (free_target cells operands)
 calm-free_target cells operands at = keeps-refused at (meets cells operands.pending) (Err Unsequenced) tt
 
+pub calm-aimed : (ty : CellType) (place : Option Address) (operands : Footprint) → Calm (aimed ty place operands)
+calm-aimed ty place operands at =
+    calm-bind (free_target (target ty place at.memory) operands) (λ _. gives operands) (calm-free_target (target ty place at.memory) operands) (λ _ at1. later_same at1) at
+
 -- ---- memory
 
 pub calm-loaded : (model : DataModel) (ty : CellType) (p : Valued (Option Address)) → Calm (loaded model ty p)
@@ -140,8 +144,7 @@ calm-loaded model ty p at = calm-bind (asked (λ memory. load model memory p.val
 
 pub calm-stored : (model : DataModel) (ty : CellType) (place : Option Address) (c : Content) (operands : Footprint) → Calm (stored model ty place c operands)
 calm-stored model ty place c operands at =
-    let cells = target ty place at.memory in
-    calm-bind (free_target cells operands) (λ _. changed (λ memory. store model memory place ty c) >>= (λ _. gives (joined operands (writes cells)))) (calm-free_target cells operands) (λ _. calm-bind (changed (λ memory. store model memory place ty c)) (λ _. gives (joined operands (writes cells))) (calm-changed (λ memory. store model memory place ty c)) (λ _ at1. later_same at1)) at
+    calm-bind (changed (λ memory. store model memory place ty c)) (λ _. gives (joined operands (writes (target ty place at.memory)))) (calm-changed (λ memory. store model memory place ty c)) (λ _ at1. later_same at1) at
 
 pub calm-copied : (model : DataModel) (shape : Shape) (place from : Option Address) (operands : Footprint) → Calm (copied model shape place from operands)
 calm-copied model shape place from operands at =

@@ -11,14 +11,14 @@ use Rattle.lt_model.specs.declared.operator.Op.{Op}
 use Rattle.lt_model.specs.Scalar.{convert_of}
 use Rattle.lt_model.specs.State.{Footprint, Valued, joined, settle, untouched}
 use Rattle.lt_ir.specs.Running.{Variable, At, Answer, Gives, Ends, Step, Over, gives, ◌>>=◌, place}
-use Rattle.lt_ir.specs.Evaluation.{valued, number_in, address_in, used, truth_in, of_truth, apart, loaded, stored, copied, with_reads, moved, member_at, applied, counted, compared}
+use Rattle.lt_ir.specs.Evaluation.{valued, number_in, address_in, used, truth_in, of_truth, apart, aimed, loaded, stored, copied, with_reads, moved, member_at, applied, counted, compared}
 use Rattle.lt_code.specs.Meaning.Expressions.{Calls, Around}
 use Rattle.lt_ir.specs.Graph as g
-use Rattle.lt_ir.specs.Graph.{How, to_integer, to_truth, to_pointer, to_void, as_it_is, Unsequenced, Sequenced, Settled, Read, Graph, Node, Config, Frame, Register, Next, Goes, Stops, register_at, had, content_at, convert_as, kept_if, act, step, going, goes, puts, puts_with, tracks}
+use Rattle.lt_ir.specs.Graph.{How, to_integer, to_truth, to_pointer, to_void, as_it_is, Unsequenced, Sequenced, Settled, Read, Target, Graph, Node, Config, Frame, Register, Next, Goes, Stops, register_at, had, content_at, convert_as, kept_if, act, step, going, goes, puts, puts_with, tracks}
 use Rattle.lt_code.specs.Code.{Setting, around}
 use Rattle.lt_code.proofs.Finishing.{finish, Finishes, conf, stands_at, Later, Keeps, Calm, go, through, step_at, with_bind}
 use Rattle.lt_code.proofs.Registers.{Wrote, wrote_set}
-use Rattle.lt_code.proofs.CalmSteps.{calm-bind, calm-gives, calm-place, calm-used, calm-address_in, calm-number_in, calm-truth_in, calm-apart, calm-loaded, calm-stored, calm-copied, calm-with_reads, calm-moved, calm-member_at, calm-applied, calm-counted, calm-compared, calm-convert_as}
+use Rattle.lt_code.proofs.CalmSteps.{calm-bind, calm-gives, calm-place, calm-used, calm-address_in, calm-number_in, calm-truth_in, calm-apart, calm-aimed, calm-loaded, calm-stored, calm-copied, calm-with_reads, calm-moved, calm-member_at, calm-applied, calm-counted, calm-compared, calm-convert_as}
 
 -- where an expression's code stands, and what is known there
 pub record Scene : Type 0 where
@@ -215,6 +215,13 @@ read_node z i r next shape rs at x k has lt e ep h =
     (step_at z.graph z.code i (g.Clash (Read shape r) next) rs z.stack at has
     ∙ ap₂ (λ o p. going (had o >>= (λ c. with_reads shape (valued c p))) at (λ p. tracks (conf z.code i rs z.stack at) r p next)) e ep)
     (calm-with_reads shape x at) h
+
+pub target_node : (z : Scene) (i place r next : ℕ) (ty : CellType) (rs : List Register) (at : At) (a : Option Address) (p : Footprint) (k : Footprint → At → Over) → Stands z i (g.Clash (Target place r ty) next) → r < length rs → (register_at rs place).content ≡ Some (content.Address a) → (register_at rs r).footprint ≡ p → Written z r next rs at (λ p. tracked rs r p) k → Run z i rs at (finish (aimed ty a p at) k)
+target_node z i place r next ty rs at a p k has lt e ep h =
+    writes z i r next rs at (aimed ty a p at) (λ p. tracked rs r p) k lt
+    (step_at z.graph z.code i (g.Clash (Target place r ty) next) rs z.stack at has
+    ∙ ap₂ (λ o p. going (had o >>= address_in >>= (λ a. aimed ty a p)) at (λ p. tracks (conf z.code i rs z.stack at) r p next)) e ep)
+    (calm-aimed ty a p at) h
 
 -- ---- nodes that write no register
 

@@ -22,6 +22,10 @@ pub ticks : s.TicksOfALoop
 unfolding typing struct_cells struct_extent struct_cells_at load store create_shaped
 ticks = (refl, refl)
 
+pub divided : s.WrittenBeforeDivided
+unfolding typing struct_cells struct_extent struct_cells_at load store create_shaped
+divided = refl
+
 pub twice : s.WrittenTwice
 unfolding typing struct_cells struct_extent struct_cells_at load store create_shaped
 twice = refl

@@ -20,7 +20,7 @@ use Rattle.lt_code.specs.Meaning.Expressions.{Around, Calls, cell_type, shape, s
 use Rattle.lt_code.specs.Meaning.Statements.{type_of_object, is_sealed_object, is_zeroed, parts_in}
 use Rattle.lt_code.specs.Meaning.Runs.{variable_of, initials, stops, name_of_object}
 use Rattle.lt_ir.specs.Graph as g
-use Rattle.lt_ir.specs.Graph.{How, to_integer, to_truth, to_pointer, to_void, as_it_is, Pure, Fixed, Parts, Unsequenced, Sequenced, Settled, Read, Node, Arm, Bound', Code, Graph, look, nodes_of}
+use Rattle.lt_ir.specs.Graph.{How, to_integer, to_truth, to_pointer, to_void, as_it_is, Pure, Fixed, Parts, Unsequenced, Sequenced, Settled, Read, Target, Node, Arm, Bound', Code, Graph, look, nodes_of}
 
 abbrev pub Places : Type 1
 Places = ℕ → Node → Type 0
@@ -94,6 +94,11 @@ number_among k name (f ∷ fs) = if bytes_eq f.name name then Some k else number
 abbrev pub HasReads : Setting → CType → Places → ℕ → ℕ → ℕ → Type 0
 HasReads s t P r from to = either (is_struct t) (P from (g.Clash (Read (shape s.program t) r) to)) (from ≡ to)
 
+-- What is to be written is no pending write of the operands: the address of the target is in one register, and their footprint in the other. Copying a struct sees
+-- to that itself.
+abbrev pub HasTarget : Setting → CType → Places → (place r : ℕ) → ℕ → ℕ → Type 0
+HasTarget s t P place r from to = either (is_struct t) (from ≡ to) (P from (g.Clash (Target place r (cell_type s.program t)) to))
+
 -- a value that goes to a place: the place is in r, the value in q, and the footprint of the operands in p; the answer goes to r
 abbrev pub HasAssign : Setting → CType → Places → (r q p : ℕ) → ℕ → ℕ → Type 0
 HasAssign s t P r q p from to =
@@ -163,11 +168,11 @@ abbrev mutual
     test = λ P w r from on off. HasLogical op ((codes_of s a).test P w r) ((codes_of s b).test P w (r + 1)) P w r from on off;
   }
   codes_of s (e.Conditional t test a b) = plain (λ is_taken P w r from to. (m1 : ℕ) × (m2 : ℕ) × (m3 : ℕ) × (m4 : ℕ) × (m5 : ℕ) × (m6 : ℕ) × (r + 1 < w) × (codes_of s test).test P w r from m1 m2 × P m1 (g.Clash (Settled r) m3) × P m2 (g.Clash (Settled r) m4) × (codes_of s a).value true P w (r + 1) m3 m5 × (codes_of s b).value true P w (r + 1) m4 m5 × P m5 (g.Clash (Sequenced r (r + 1) r) m6) × P m6 (g.Convert r (r + 1) as_it_is to))
-  codes_of s (e.Assign t p v) = plain (λ is_taken P w r from to. (m1 : ℕ) × (m2 : ℕ) × (m3 : ℕ) × (m4 : ℕ) × (r + 1 < w) × places_of s p P w r from m1 × (codes_of s v).value true P w (r + 1) m1 m2 × HasReads s t P (r + 1) m2 m3 × P m3 (g.Clash (Unsequenced r (r + 1) r) m4) × HasAssign s t P r (r + 1) r m4 to)
-  codes_of s (e.Update t op k p v) = plain (λ is_taken P w r from to. (m1 : ℕ) × (m2 : ℕ) × (m3 : ℕ) × (m4 : ℕ) × (m5 : ℕ) × (m6 : ℕ) × (m7 : ℕ) × (r + 3 < w) × places_of s p P w r from m1 × P m1 (g.Load (r + 1) r (cell_type s.program t) m2) × (codes_of s v).value true P w (r + 2) m2 m3 × P m3 (g.Clash (Unsequenced (r + 1) (r + 2) (r + 1)) m4) × P m4 (g.Convert (r + 3) (r + 1) (to_integer k) m5) × P m5 (g.Apply (r + 3) (r + 3) (r + 2) op k m6) × P m6 (g.Convert (r + 3) (r + 3) (to_integer (scalar_in t)) m7) × P m7 (g.Store r r (r + 3) (r + 3) (r + 1) (cell_type s.program t) to))
-  codes_of s (e.UpdatePointer t op size p v) = plain (λ is_taken P w r from to. (m1 : ℕ) × (m2 : ℕ) × (m3 : ℕ) × (m4 : ℕ) × (m5 : ℕ) × (r + 3 < w) × places_of s p P w r from m1 × P m1 (g.Load (r + 1) r (cell_type s.program t) m2) × (codes_of s v).value true P w (r + 2) m2 m3 × P m3 (g.Clash (Unsequenced (r + 1) (r + 2) (r + 1)) m4) × P m4 (g.Move (r + 3) (r + 1) (r + 2) op size m5) × P m5 (g.Store r r (r + 3) (r + 3) (r + 1) (cell_type s.program t) to))
-  codes_of s (e.Step t when op k p) = plain (λ is_taken P w r from to. (m1 : ℕ) × (m2 : ℕ) × (m3 : ℕ) × (m4 : ℕ) × (m5 : ℕ) × (m6 : ℕ) × (r + 3 < w) × places_of s p P w r from m1 × P m1 (g.Load (r + 1) r (cell_type s.program t) m2) × P m2 (g.Convert (r + 3) (r + 1) (to_integer k) m3) × P m3 (g.Constant (r + 2) (content.Number (pos 1)) false m4) × P m4 (g.Apply (r + 3) (r + 3) (r + 2) op k m5) × P m5 (g.Convert (r + 3) (r + 3) (to_integer (scalar_in t)) m6) × P m6 (g.Store r r (r + 3) (kept_in when (r + 1) (r + 3)) (r + 1) (cell_type s.program t) to))
-  codes_of s (e.StepPointer t when op size p) = plain (λ is_taken P w r from to. (m1 : ℕ) × (m2 : ℕ) × (m3 : ℕ) × (m4 : ℕ) × (r + 3 < w) × places_of s p P w r from m1 × P m1 (g.Load (r + 1) r (cell_type s.program t) m2) × P m2 (g.Constant (r + 2) (content.Number (pos 1)) false m3) × P m3 (g.Move (r + 3) (r + 1) (r + 2) op size m4) × P m4 (g.Store r r (r + 3) (kept_in when (r + 1) (r + 3)) (r + 1) (cell_type s.program t) to))
+  codes_of s (e.Assign t p v) = plain (λ is_taken P w r from to. (m1 : ℕ) × (m2 : ℕ) × (m3 : ℕ) × (m4 : ℕ) × (m5 : ℕ) × (r + 1 < w) × places_of s p P w r from m1 × (codes_of s v).value true P w (r + 1) m1 m2 × HasReads s t P (r + 1) m2 m3 × P m3 (g.Clash (Unsequenced r (r + 1) r) m4) × HasTarget s t P r r m4 m5 × HasAssign s t P r (r + 1) r m5 to)
+  codes_of s (e.Update t op k p v) = plain (λ is_taken P w r from to. (m1 : ℕ) × (m2 : ℕ) × (m3 : ℕ) × (m4 : ℕ) × (m5 : ℕ) × (m6 : ℕ) × (m7 : ℕ) × (m8 : ℕ) × (r + 3 < w) × places_of s p P w r from m1 × P m1 (g.Load (r + 1) r (cell_type s.program t) m2) × (codes_of s v).value true P w (r + 2) m2 m3 × P m3 (g.Clash (Unsequenced (r + 1) (r + 2) (r + 1)) m8) × P m8 (g.Clash (Target r (r + 1) (cell_type s.program t)) m4) × P m4 (g.Convert (r + 3) (r + 1) (to_integer k) m5) × P m5 (g.Apply (r + 3) (r + 3) (r + 2) op k m6) × P m6 (g.Convert (r + 3) (r + 3) (to_integer (scalar_in t)) m7) × P m7 (g.Store r r (r + 3) (r + 3) (r + 1) (cell_type s.program t) to))
+  codes_of s (e.UpdatePointer t op size p v) = plain (λ is_taken P w r from to. (m1 : ℕ) × (m2 : ℕ) × (m3 : ℕ) × (m4 : ℕ) × (m5 : ℕ) × (m6 : ℕ) × (r + 3 < w) × places_of s p P w r from m1 × P m1 (g.Load (r + 1) r (cell_type s.program t) m2) × (codes_of s v).value true P w (r + 2) m2 m3 × P m3 (g.Clash (Unsequenced (r + 1) (r + 2) (r + 1)) m6) × P m6 (g.Clash (Target r (r + 1) (cell_type s.program t)) m4) × P m4 (g.Move (r + 3) (r + 1) (r + 2) op size m5) × P m5 (g.Store r r (r + 3) (r + 3) (r + 1) (cell_type s.program t) to))
+  codes_of s (e.Step t when op k p) = plain (λ is_taken P w r from to. (m1 : ℕ) × (m2 : ℕ) × (m3 : ℕ) × (m4 : ℕ) × (m5 : ℕ) × (m6 : ℕ) × (m7 : ℕ) × (r + 3 < w) × places_of s p P w r from m1 × P m1 (g.Load (r + 1) r (cell_type s.program t) m7) × P m7 (g.Clash (Target r (r + 1) (cell_type s.program t)) m2) × P m2 (g.Convert (r + 3) (r + 1) (to_integer k) m3) × P m3 (g.Constant (r + 2) (content.Number (pos 1)) false m4) × P m4 (g.Apply (r + 3) (r + 3) (r + 2) op k m5) × P m5 (g.Convert (r + 3) (r + 3) (to_integer (scalar_in t)) m6) × P m6 (g.Store r r (r + 3) (kept_in when (r + 1) (r + 3)) (r + 1) (cell_type s.program t) to))
+  codes_of s (e.StepPointer t when op size p) = plain (λ is_taken P w r from to. (m1 : ℕ) × (m2 : ℕ) × (m3 : ℕ) × (m4 : ℕ) × (m5 : ℕ) × (r + 3 < w) × places_of s p P w r from m1 × P m1 (g.Load (r + 1) r (cell_type s.program t) m5) × P m5 (g.Clash (Target r (r + 1) (cell_type s.program t)) m2) × P m2 (g.Constant (r + 2) (content.Number (pos 1)) false m3) × P m3 (g.Move (r + 3) (r + 1) (r + 2) op size m4) × P m4 (g.Store r r (r + 3) (kept_in when (r + 1) (r + 3)) (r + 1) (cell_type s.program t) to))
   codes_of s (e.Call t f vs) = plain (λ is_taken P w r from to. (m1 : ℕ) × (m2 : ℕ) × (m3 : ℕ) × (r < w) × arguments_of s vs P w r from m1 × P m1 (g.Clash (Settled r) m2) × P m2 (g.Tick m3) × HasCall s is_taken f t P r (count_of vs) m3 to)
   codes_of s (e.Comma t no_values) = plain (λ is_taken P w r from to. (r < w) × P from (g.Constant r content.Unset false to))
   codes_of s (e.Comma t (a_value v vs)) = plain (λ is_taken P w r from to. (m : ℕ) × (r < w) × P from (g.Constant r content.Unset false m) × parts_of s ((codes_of s v).value true) vs P w r m to)

@@ -9,7 +9,7 @@ use Rattle.lt_ir.specs.Graph.{Graph, Runs}
 use Rattle.lt_code.specs.Meaning.Runs.{run}
 use Rattle.lt_code.specs.Code.{Setting, HasProgram, IsTruthOf, IsNumberOf, AreBound}
 use Rattle.lt_code.specs.Predicates.{pure_of, bound_of}
-use Rattle.lt_code.specs.Samples.{DivisionByZero, ReadAndWritten, NothingLeft, TicksOfALoop, WrittenTwice, WrittenBeforeACall, EndedObject, OnePastTheEnd, QuietPredicate}
+use Rattle.lt_code.specs.Samples.{DivisionByZero, ReadAndWritten, NothingLeft, TicksOfALoop, WrittenBeforeDivided, WrittenTwice, WrittenBeforeACall, EndedObject, OnePastTheEnd, QuietPredicate}
 
 -- A graph that has the code of a program runs as the program does: with the same end, ticks, memory and marks.
 abbrev pub GraphsRunAsTheirPrograms : Type 0
@@ -27,4 +27,4 @@ PredicatesAgree = (s : Setting) → ((v : Value) → IsTruthOf s v (pure_of s v)
 
 -- runs that are worked out
 abbrev pub RunsAreWorkedOut : Type 0
-RunsAreWorkedOut = DivisionByZero × ReadAndWritten × NothingLeft × TicksOfALoop × WrittenTwice × WrittenBeforeACall × EndedObject × OnePastTheEnd × QuietPredicate
+RunsAreWorkedOut = DivisionByZero × ReadAndWritten × NothingLeft × TicksOfALoop × WrittenBeforeDivided × WrittenTwice × WrittenBeforeACall × EndedObject × OnePastTheEnd × QuietPredicate

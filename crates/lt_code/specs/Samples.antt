@@ -68,6 +68,11 @@ TicksOfALoop = (end_with looping (pos 2) 7 ≡ Some Returned) × (end_with loopi
     looping =
         function (c.a_statement (c.While x (c.Evaluates (c.Assign None x (c.Binary op.Sub x one)))) (c.a_statement (c.Return (Some x)) c.no_items)) ∷ []
 
+-- `int f(int x) { (&x)[x = 0] /= 0; return x; }`: what is written clashes before anything is divided
+abbrev pub WrittenBeforeDivided : Type 0
+WrittenBeforeDivided =
+    end_with (function (c.a_statement (c.Evaluates (c.Assign (Some op.Div) (c.Index (c.Unary unary.AddressOf x) (c.Assign None x zero_constant)) zero_constant)) returns_x) ∷ []) (pos 3) 100 ≡ Some (Undefined U.Unsequenced)
+
 -- `int f(int x) { x = x++; return x; }`
 abbrev pub WrittenTwice : Type 0
 WrittenTwice = end_with (function (c.a_statement (c.Evaluates (c.Assign None x (c.PostInc x))) returns_x) ∷ []) (pos 3) 100 ≡ Some (Undefined U.Unsequenced)

@@ -83,21 +83,21 @@ target ty place memory = if is_met memory place ty then cell_at place 0 else []
 abbrev pub free_target : List CellName → Footprint → Step (Unit {0})
 free_target cells operands = if meets cells operands.pending then defined (Err U.Unsequenced) else gives tt
 
+-- The footprint of the operands, where the cell that is to be written is no pending write of theirs. A place that meets no cell clashes with nothing.
+abbrev pub aimed : CellType → Option Address → Footprint → Step Footprint
+aimed ty place operands at = (free_target (target ty place at.memory) operands >> gives operands) at
+
 -- ---- what is done to memory, with the footprint of it
 
 -- a scalar is read; the footprint before is that of its place
 abbrev pub loaded : DataModel → CellType → Valued (Option Address) → Step (Valued Content)
 loaded model ty p = asked (λ memory. load model memory p.value ty) >>= (λ c. gives (valued c (joined p.footprint (reads (cell_at p.value 0)))))
 
--- A scalar is stored: the clash of its target comes before the store's own undefined behaviour. The footprint is that of the operands.
+-- a scalar is stored; the footprint before is that of the operands
 abbrev pub stored : DataModel → CellType → Option Address → Content → Footprint → Step Footprint
-stored model ty place c operands at =
-    (free_target cells operands >> (changed (λ memory. store model memory place ty c) >> gives (joined operands (writes cells)))) at
-  where
-    cells : List CellName
-    cells = target ty place at.memory
+stored model ty place c operands at = (changed (λ memory. store model memory place ty c) >> gives (joined operands (writes (target ty place at.memory)))) at
 
--- a struct is copied
+-- a struct is copied: the clash of its target comes first
 abbrev pub copied : DataModel → Shape → Option Address → Option Address → Footprint → Step Footprint
 copied model shape place from operands =
     free_target (cells_there shape.cells place) operands

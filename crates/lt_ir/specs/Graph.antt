@@ -15,7 +15,7 @@ use Rattle.lt_model.specs.declared.run.End.TheVariants.{Returned, Stopped}
 use Rattle.lt_model.specs.Scalar.{convert_of}
 use Rattle.lt_model.specs.State.{Footprint, joined, settle, untouched}
 use Rattle.lt_ir.specs.Running.{Variable, Bound, Binding, At, Gives, Ends, Step, gives, absurdity, ◌>>=◌, ◌>>◌, tick, one_deeper, place, begins, ends, seals, stub_value, begin_parameters, statics_of, with_scope, is_static, Initial, marked_with, one_more, quietly, Over}
-use Rattle.lt_ir.specs.Evaluation.{valued, number_in, address_in, used, truth_in, of_truth, apart, loaded, stored, copied, with_reads, moved, member_at, applied, counted, compared, store_parameters}
+use Rattle.lt_ir.specs.Evaluation.{valued, number_in, address_in, used, truth_in, of_truth, apart, aimed, loaded, stored, copied, with_reads, moved, member_at, applied, counted, compared, store_parameters}
 use Rattle.lt_ir.specs.Starting.{started, nowhere}
 
 -- how a content is converted
@@ -57,6 +57,8 @@ pub data Parts : Type 0 where
   Settled : (to : ℕ) → Parts
   -- the cells of the struct are read whose address the register has
   Read : (shape : Shape) (to : ℕ) → Parts
+  -- what is to be written at the address that the first register has is no pending write of the operands
+  Target : (place to : ℕ) (type : CellType) → Parts
 
 -- a name that a mark binds
 pub record Bound' : Type 0 where
@@ -310,6 +312,7 @@ abbrev pub parted : DataModel → List Register → Parts → Step Footprint
 parted model rs (Unsequenced left right to) = apart (register_at rs left).footprint (register_at rs right).footprint
 parted model rs (Sequenced left right to) = gives (joined (register_at rs left).footprint (register_at rs right).footprint)
 parted model rs (Settled to) = gives (settle (register_at rs to).footprint)
+parted model rs (Target place to type) = content_at rs place >>= address_in >>= (λ a. aimed type a (register_at rs to).footprint)
 parted model rs (Read shape to) = content_at rs to >>= (λ x. with_reads shape (valued x (register_at rs to).footprint))
 
 abbrev pub target_of : Parts → ℕ
@@ -317,6 +320,7 @@ target_of (Unsequenced left right to) = to
 target_of (Sequenced left right to) = to
 target_of (Settled to) = to
 target_of (Read shape to) = to
+target_of (Target place to type) = to
 
 abbrev pub act : Graph → Option Node → Config → Next
 act g None c = Stops Stopped c.at

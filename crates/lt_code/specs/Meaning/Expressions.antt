@@ -19,7 +19,7 @@ use Rattle.lt_tree.specs.Typing.Programs.{Program}
 use Rattle.lt_tree.specs.Typing.TypedTree as e
 use Rattle.lt_tree.specs.Typing.TypedTree.{Value, Values, Place, Marks, Mark, Bindings, Side, on_left, on_right, When, Conversion, type_of, no_values, a_value}
 use Rattle.lt_ir.specs.Running.{Variable, At, Gives, Step, gives, ◌>>=◌, place, Binding, marks, quietly, one_more, marked_with}
-use Rattle.lt_ir.specs.Evaluation.{valued, number_in, address_in, used, truth_in, of_truth, apart, loaded, stored, copied, with_reads, moved, member_at, applied, counted, compared}
+use Rattle.lt_ir.specs.Evaluation.{valued, number_in, address_in, used, truth_in, of_truth, apart, aimed, loaded, stored, copied, with_reads, moved, member_at, applied, counted, compared}
 
 -- what calling a function of this name on these values gives; the flag says whether its value is taken
 abbrev pub Calls : Type 0
@@ -84,6 +84,11 @@ second_truth left right = do
   y ← right
   b ← truth_in y.value
   gives (valued (of_truth b) (joined left y.footprint))
+
+-- The footprint of the operands, where the target is no pending write of theirs. Copying a struct sees to that itself.
+abbrev pub aimed_at : Program → CType → Option Address → Footprint → (is_a_struct : Bool) → Step Footprint
+aimed_at program t place operands true = gives operands
+aimed_at program t place operands false = aimed (cell_type program t) place operands
 
 -- a value goes to a place; the footprint is that of the operands
 abbrev pub assigned : Program → CType → Option Address → Content → Footprint → (is_a_struct : Bool) → Step (Valued Content)
@@ -223,13 +228,15 @@ abbrev mutual
     x ← place_of here p
     y ← eval here true v
     q ← taken here.program t y
-    footprint ← apart x.footprint q
+    operands ← apart x.footprint q
+    footprint ← aimed_at here.program t x.value operands (is_struct t)
     assigned here.program t x.value y.value footprint (is_struct t)
   eval here is_taken (e.Update t op s p v) = do
     x ← place_of here p
     old ← loaded here.program.model (cell_type here.program t) x
     y ← eval here true v
-    footprint ← apart old.footprint y.footprint
+    operands ← apart old.footprint y.footprint
+    footprint ← aimed (cell_type here.program t) x.value operands
     a ← number_in old.value
     z ← applied here.program.model op s (content.Number (convert_of here.program.model s a)) y.value
     updated here.program t x.value (content.Number (convert_of here.program.model (scalar_in t) z)) (content.Number (convert_of here.program.model (scalar_in t) z)) footprint
@@ -237,20 +244,23 @@ abbrev mutual
     x ← place_of here p
     old ← loaded here.program.model (cell_type here.program t) x
     y ← eval here true v
-    footprint ← apart old.footprint y.footprint
+    operands ← apart old.footprint y.footprint
+    footprint ← aimed (cell_type here.program t) x.value operands
     a ← moved op size old.value y.value
     updated here.program t x.value (content.Address a) (content.Address a) footprint
   eval here is_taken (e.Step t when op s p) = do
     x ← place_of here p
     old ← loaded here.program.model (cell_type here.program t) x
+    footprint ← aimed (cell_type here.program t) x.value old.footprint
     a ← number_in old.value
     z ← applied here.program.model op s (content.Number (convert_of here.program.model s a)) (content.Number (pos 1))
-    updated here.program t x.value (content.Number (convert_of here.program.model (scalar_in t) z)) (kept when old.value (content.Number (convert_of here.program.model (scalar_in t) z))) old.footprint
+    updated here.program t x.value (content.Number (convert_of here.program.model (scalar_in t) z)) (kept when old.value (content.Number (convert_of here.program.model (scalar_in t) z))) footprint
   eval here is_taken (e.StepPointer t when op size p) = do
     x ← place_of here p
     old ← loaded here.program.model (cell_type here.program t) x
+    footprint ← aimed (cell_type here.program t) x.value old.footprint
     a ← moved op size old.value (content.Number (pos 1))
-    updated here.program t x.value (content.Address a) (kept when old.value (content.Address a)) old.footprint
+    updated here.program t x.value (content.Address a) (kept when old.value (content.Address a)) footprint
   eval here is_taken (e.Call t f arguments) = called here t f is_taken (arguments_of here arguments)
   eval here is_taken (e.Comma t parts) = elim (parts_of here parts) [ None ↦ gives (valued content.Unset untouched) | Some step ↦ step untouched ]
   eval here is_taken (e.Marked t ms v) = λ at. eval here true v (marked_all here ms at)
