@@ -7,7 +7,8 @@ use Rattle.lt_model.specs.declared.scalar.DataModel.{DataModel}
 use Rattle.lt_model.specs.declared.run.End.{End as RunEnd}
 use Rattle.lt_tree.specs.Typing.Entities.{Function}
 use Rattle.lt_tree.specs.Typing.Programs.{Program}
-use Rattle.lt_ir.specs.Running.{Variable, parameter, At, Answer, Gives, Ends, Step, Over, ◌>>◌, gives, most_calls, ends, seals, one_deeper, statics_of, with_scope, begin_parameters, end_parameters, without}
+use Rattle.lt_model.specs.State.{Gives, Ends}
+use Rattle.lt_ir.specs.Running.{Variable, parameter, At, Answer, Step, Over, ◌>>◌, gives, most_calls, ends, seals, one_deeper, statics_of, with_scope, begin_parameters, end_parameters, without}
 use Rattle.lt_code.specs.Meaning.Expressions.{Calls, shape}
 use Rattle.lt_code.specs.Meaning.Statements.{Flow, Next, Breaks, Continues, Returns, exec_items, is_sealed_object, type_of_object}
 use Rattle.lt_ir.specs.Evaluation.{store_parameters}

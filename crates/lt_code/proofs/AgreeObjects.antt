@@ -8,11 +8,11 @@ use Rattle.lt_model.specs.declared.cell.Shape.{Shape}
 use Rattle.lt_model.specs.declared.cell.CellType.{CellType}
 use Rattle.lt_model.specs.declared.scalar.DataModel.{DataModel}
 use Rattle.lt_model.specs.declared.scalar.Scalar.{Scalar}
-use Rattle.lt_model.specs.State.{Footprint, Valued, untouched}
+use Rattle.lt_model.specs.State.{Footprint, Valued, untouched, Gives, Ends}
 use Rattle.lt_tree.specs.Typing.Types.{CType, Num, is_struct}
 use Rattle.lt_tree.specs.Typing.TypedTree as e
 use Rattle.lt_tree.specs.Typing.TypedTree.{Value, Mark, Local, StartPart, type_of}
-use Rattle.lt_ir.specs.Running.{Variable, At, Answer, Gives, Ends, Step, Over, ◌>>=◌, ◌>>◌, gives, tick, place, begins, seals}
+use Rattle.lt_ir.specs.Running.{Variable, At, Answer, Step, Over, ◌>>=◌, ◌>>◌, gives, tick, place, begins, seals}
 use Rattle.lt_ir.specs.Evaluation.{valued, address_in, used, stored, copied, with_reads, member_at}
 use Rattle.lt_code.specs.Meaning.Expressions.{Calls, eval, taken, assigned, shape, cell_type, marked}
 use Rattle.lt_code.specs.Meaning.Statements.{filled, filled_all, spelled, put_at, opened, sealed_if, is_zeroed, parts_in, is_sealed_object, type_of_object}

@@ -8,12 +8,12 @@ use Rattle.lt_model.specs.declared.cell.Content.TheVariants as content
 use Rattle.lt_model.specs.declared.operator.Op.{Op}
 use Rattle.lt_model.specs.declared.operator.Op.TheVariants as O
 use Rattle.lt_model.specs.Scalar.{convert_of}
-use Rattle.lt_model.specs.State.{Footprint, Valued, joined, settle, untouched}
+use Rattle.lt_model.specs.State.{Footprint, Valued, joined, settle, untouched, Gives, Ends}
 use Rattle.lt_tree.specs.declared.expression.LogicalOp.{LogicalOp}
 use Rattle.lt_tree.specs.declared.expression.LogicalOp.TheVariants as logical
 use Rattle.lt_tree.specs.Typing.TypedTree as e
 use Rattle.lt_tree.specs.Typing.TypedTree.{Value, Values, Place, Bindings, Side, on_left, on_right, no_values, a_value}
-use Rattle.lt_ir.specs.Running.{At, Answer, Gives, Ends, Step, ◌>>=◌, gives, quietly, place}
+use Rattle.lt_ir.specs.Running.{At, Answer, Step, ◌>>=◌, gives, quietly, place}
 use Rattle.lt_ir.specs.Evaluation.{valued, number_in, address_in, truth_in, of_truth, apart, moved, member_at, applied, counted, compared}
 use Rattle.lt_code.specs.Meaning.Expressions.{Calls, is_pure, is_pure_place, are_pure, pure_only, eval, place_of, parts_of, comma_from, decides, second_truth, pointer_of, count_of, scalar_in}
 use Rattle.lt_ir.specs.Graph as g

@@ -8,7 +8,8 @@ use Rattle.lt_model.specs.declared.run.End.{End as RunEnd}
 use Rattle.lt_tree.specs.Typing.Types.{CType, is_void}
 use Rattle.lt_tree.specs.Typing.Entities.{Function}
 use Rattle.lt_tree.specs.Typing.Programs.{Program}
-use Rattle.lt_ir.specs.Running.{At, Answer, Gives, Ends, Step, Over, over, ◌>>=◌, ◌>>◌, gives, spent, one_deeper, statics_of, with_scope, begin_parameters, stub_value}
+use Rattle.lt_model.specs.State.{Gives, Ends}
+use Rattle.lt_ir.specs.Running.{At, Answer, Step, Over, over, ◌>>=◌, ◌>>◌, gives, spent, one_deeper, statics_of, with_scope, begin_parameters, stub_value}
 use Rattle.lt_ir.specs.Evaluation.{valued, store_parameters}
 use Rattle.lt_ir.specs.Starting.{started, nowhere}
 use Rattle.lt_code.specs.Meaning.Expressions.{Calls}

@@ -4,10 +4,10 @@ use Rattle.std.specs.Prelude.{if◌then◌else◌}
 use Rattle.std.specs.List.{list_any}
 use Rattle.lt_model.specs.declared.cell.Content.{Content}
 use Rattle.lt_model.specs.declared.cell.Content.TheVariants as content
-use Rattle.lt_model.specs.State.{Valued}
+use Rattle.lt_model.specs.State.{Valued, Gives, Ends, Binding}
 use Rattle.lt_tree.specs.Typing.TypedTree as e
 use Rattle.lt_tree.specs.Typing.TypedTree.{Value, Statement, Items, Cases, Label, Local, Mark}
-use Rattle.lt_ir.specs.Running.{Variable, Bound, At, Answer, Gives, Ends, Step, Over, ◌>>=◌, ◌>>◌, gives, ends, without, Binding, marked_with}
+use Rattle.lt_ir.specs.Running.{Variable, Bound, At, Answer, Step, Over, ◌>>=◌, ◌>>◌, gives, ends, without, marked_with}
 use Rattle.lt_ir.specs.Evaluation.{valued, number_in, truth_in}
 use Rattle.lt_code.specs.Meaning.Expressions.{Calls, Around, eval, marked}
 use Rattle.lt_code.specs.Meaning.Statements.{Flow, Next, Breaks, Continues, Returns, after, next_turn, left_switch, opened, within, within_all, tested, tested_if, stepped, turns, do_turns, looped, entry_label, exec, exec_items, exec_cases}

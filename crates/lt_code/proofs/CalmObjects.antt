@@ -9,9 +9,9 @@ use Rattle.lt_model.specs.declared.cell.CellType.{CellType}
 use Rattle.lt_model.specs.declared.scalar.DataModel.{DataModel}
 use Rattle.lt_model.specs.declared.operator.Ub.{Ub}
 use Rattle.lt_model.specs.Memory.{Memory, create_shaped, end_block, store, copy_struct}
-use Rattle.lt_model.specs.State.{CellName, Footprint, Valued, meets, joined}
+use Rattle.lt_model.specs.State.{CellName, Footprint, Valued, meets, joined, Gives, Ends}
 use Rattle.lt_model.specs.declared.run.End.{End as RunEnd}
-use Rattle.lt_ir.specs.Running.{Variable, parameter, local, static, At, Bound, Answer, Gives, Ends, Step, Over, ◌>>=◌, ◌>>◌, gives, absurdity, defined, asked, changed, tick, spent, one_deeper, most_calls, with_block, living_block, place, begins, ends, seals, is_begun, created, bound_to, without, same_variable, stub_value, took, next_value}
+use Rattle.lt_ir.specs.Running.{Variable, parameter, local, static, At, Bound, Answer, Step, Over, ◌>>=◌, ◌>>◌, gives, absurdity, defined, asked, changed, tick, spent, one_deeper, most_calls, with_block, living_block, place, begins, ends, seals, is_begun, created, bound_to, without, same_variable, stub_value, took, next_value}
 use Rattle.lt_ir.specs.Evaluation.{number_in, address_in, used, stored, copied, free_target, with_reads, member_at, target, reads, writes, cells_there}
 use Rattle.lt_ir.specs.Graph.{Graph, Config, Goes, Stops, step}
 use Rattle.lt_code.proofs.Finishing.{finish, Finishes, Later, Keeps, Calm, later_same, later_still, go, stop}

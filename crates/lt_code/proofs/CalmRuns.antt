@@ -9,9 +9,9 @@ use Rattle.lt_model.specs.declared.input.BlockIn.{BlockIn}
 use Rattle.lt_model.specs.declared.input.Input.{Input}
 use Rattle.lt_model.specs.declared.run.End.{End as RunEnd}
 use Rattle.lt_model.specs.Memory.{Block, new_block, cells_alive, most_cells}
-use Rattle.lt_model.specs.State.{untouched}
+use Rattle.lt_model.specs.State.{untouched, Gives, Ends}
 use Rattle.lt_tree.specs.Typing.Programs.{Program}
-use Rattle.lt_ir.specs.Running.{Variable, parameter, static, Bound, At, Answer, Gives, Ends, Step, ◌>>=◌, ◌>>◌, gives, place, begins, without, statics_of, is_static, begin_parameters, bound_to, Initial, placed, block_of_initial, start_statics}
+use Rattle.lt_ir.specs.Running.{Variable, parameter, static, Bound, At, Answer, Step, ◌>>=◌, ◌>>◌, gives, place, begins, without, statics_of, is_static, begin_parameters, bound_to, Initial, placed, block_of_initial, start_statics}
 use Rattle.lt_ir.specs.Evaluation.{used, stored, store_one, store_parameters}
 use Rattle.lt_ir.specs.Starting.{Root, started, start_blocks, start_parameters, parameter_roots, static_roots, sets}
 use Rattle.lt_code.specs.Meaning.Expressions.{shape}

@@ -14,8 +14,8 @@ use Rattle.lt_model.specs.declared.run.End.{End}
 use Rattle.lt_model.specs.declared.run.End.TheVariants.{Undefined}
 use Rattle.lt_model.specs.Operators.{value_of}
 use Rattle.lt_model.specs.Memory.{Memory, load, store, copy_struct, checked_address, then_result, move_by, compare, subtract, not_null}
-use Rattle.lt_model.specs.State.{CellName, Footprint, Valued, clash, joined, meets}
-use Rattle.lt_ir.specs.Running.{Variable, Left, At, Answer, Gives, Ends, Step, gives, over, defined, absurdity, asked, changed, ◌>>=◌, ◌>>◌, spent, tick, living_block, with_block, place, took, next_value, stub_value}
+use Rattle.lt_model.specs.State.{CellName, Footprint, Valued, clash, joined, meets, Left, Gives, Ends}
+use Rattle.lt_ir.specs.Running.{Variable, At, Answer, Step, gives, over, defined, absurdity, asked, changed, ◌>>=◌, ◌>>◌, spent, tick, living_block, with_block, place, took, next_value, stub_value}
 use Rattle.lt_ir.specs.Evaluation.{number_in, address_in, used, is_some_address, truth_in, apart, cells_there, writes, target, free_target, aimed, loaded, stored, copied, with_reads, signed_count, moved, member_at, applied, counted, compared}
 use Rattle.lt_ir.specs.Graph.{How, to_integer, to_truth, to_pointer, to_void, as_it_is, Register, register_at, had, content_at, contents_from, convert_as}
 use Rattle.lt_code.proofs.Finishing.{Later, Keeps, Calm, later_same, later_still}

@@ -3,12 +3,12 @@ use Rattle.std.proofs.Common.{◌≡◌, ℕ, suc, ◌<◌, ◌≤◌, List, len
 use Rattle.std.specs.Prelude.{if◌then◌else◌}
 use Rattle.lt_model.specs.declared.cell.Content.{Content}
 use Rattle.lt_model.specs.declared.cell.Content.TheVariants as content
-use Rattle.lt_model.specs.State.{Valued}
+use Rattle.lt_model.specs.State.{Valued, Gives, Ends}
 use Rattle.lt_model.specs.declared.run.End.{End as RunEnd}
 use Rattle.lt_tree.specs.Typing.Types.{CType}
 use Rattle.lt_tree.specs.Typing.TypedTree.{Value, Values, Place}
 use Rattle.lt_tree.specs.Typing.Programs.{Program}
-use Rattle.lt_ir.specs.Running.{Variable, At, Answer, Gives, Ends, Step, Over, ◌>>=◌, gives}
+use Rattle.lt_ir.specs.Running.{Variable, At, Answer, Step, Over, ◌>>=◌, gives}
 use Rattle.lt_ir.specs.Evaluation.{valued, truth_in}
 use Rattle.lt_code.specs.Meaning.Expressions.{Calls, Around, eval, place_of, arguments_of as arguments_in}
 use Rattle.lt_ir.specs.Graph as g

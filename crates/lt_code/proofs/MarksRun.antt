@@ -3,7 +3,8 @@ use Rattle.std.proofs.Common.{◌≡◌, ℕ, List, [], ◌∷◌, Option, Some,
 use Rattle.lt_tree.specs.Typing.Types.{CType}
 use Rattle.lt_tree.specs.Typing.TypedTree as e
 use Rattle.lt_tree.specs.Typing.TypedTree.{Value, Marks, Mark, Bindings}
-use Rattle.lt_ir.specs.Running.{At, Over, Binding, ◌>>=◌, quietly, one_more, marked_with}
+use Rattle.lt_model.specs.State.{Binding}
+use Rattle.lt_ir.specs.Running.{At, Over, ◌>>=◌, quietly, one_more, marked_with}
 use Rattle.lt_ir.specs.Evaluation.{number_in, truth_in}
 use Rattle.lt_code.specs.Meaning.Expressions.{eval, is_pure, pure_only, bound_at, marked, marked_all}
 use Rattle.lt_ir.specs.Graph as g

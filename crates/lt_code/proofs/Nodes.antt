@@ -9,8 +9,8 @@ use Rattle.lt_model.specs.declared.scalar.DataModel.{DataModel}
 use Rattle.lt_model.specs.declared.scalar.Scalar.{Scalar}
 use Rattle.lt_model.specs.declared.operator.Op.{Op}
 use Rattle.lt_model.specs.Scalar.{convert_of}
-use Rattle.lt_model.specs.State.{Footprint, Valued, joined, settle, untouched}
-use Rattle.lt_ir.specs.Running.{Variable, At, Answer, Gives, Ends, Step, Over, gives, ◌>>=◌, place}
+use Rattle.lt_model.specs.State.{Footprint, Valued, joined, settle, untouched, Gives, Ends}
+use Rattle.lt_ir.specs.Running.{Variable, At, Answer, Step, Over, gives, ◌>>=◌, place}
 use Rattle.lt_ir.specs.Evaluation.{valued, number_in, address_in, used, truth_in, of_truth, apart, aimed, loaded, stored, copied, with_reads, moved, member_at, applied, counted, compared}
 use Rattle.lt_code.specs.Meaning.Expressions.{Calls, Around}
 use Rattle.lt_ir.specs.Graph as g

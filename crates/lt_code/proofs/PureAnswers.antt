@@ -3,8 +3,8 @@ use Rattle.std.proofs.Common.{◌≡◌, List, [], Bool, false, refl, sym, ap, �
 use Rattle.std.specs.Prelude.{◌++◌, if◌then◌else◌, Err}
 use Rattle.lt_model.specs.declared.cell.Content.{Content}
 use Rattle.lt_model.specs.declared.operator.Ub.TheVariants as U
-use Rattle.lt_model.specs.State.{CellName, Footprint, Valued, clash, joined, settle, untouched}
-use Rattle.lt_ir.specs.Running.{At, Answer, Gives, Ends, Step, ◌>>=◌, gives, defined, quietly}
+use Rattle.lt_model.specs.State.{CellName, Footprint, Valued, clash, joined, settle, untouched, Gives, Ends}
+use Rattle.lt_ir.specs.Running.{At, Answer, Step, ◌>>=◌, gives, defined, quietly}
 use Rattle.lt_ir.specs.Evaluation.{apart}
 
 -- an expression that wrote nothing

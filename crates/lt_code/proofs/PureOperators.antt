@@ -9,9 +9,9 @@ use Rattle.lt_model.specs.declared.scalar.DataModel.{DataModel}
 use Rattle.lt_model.specs.declared.scalar.Scalar.{Scalar}
 use Rattle.lt_model.specs.declared.operator.Op.{Op}
 use Rattle.lt_model.specs.declared.operator.Ub.{Ub}
-use Rattle.lt_model.specs.State.{Footprint, Valued, joined, untouched}
+use Rattle.lt_model.specs.State.{Footprint, Valued, joined, untouched, Gives, Ends}
 use Rattle.lt_model.specs.Memory.{Memory, load, checked_address}
-use Rattle.lt_ir.specs.Running.{Variable, At, Answer, Gives, Ends, Step, ◌>>=◌, gives, defined, asked, absurdity, place, living_block}
+use Rattle.lt_ir.specs.Running.{Variable, At, Answer, Step, ◌>>=◌, gives, defined, asked, absurdity, place, living_block}
 use Rattle.lt_ir.specs.Evaluation.{valued, number_in, address_in, truth_in, loaded, moved, member_at, applied, counted, compared, reads, cell_at, is_some_address}
 use Rattle.lt_ir.specs.Graph.{How, to_integer, to_truth, to_pointer, to_void, as_it_is, convert_as}
 use Rattle.lt_code.proofs.PureAnswers.{Quiet, quiet_joined, Stays, Same}

@@ -2,8 +2,8 @@
 use Rattle.std.proofs.Common.{◌≡◌, ◌≢◌, ℕ, zero, suc, ◌+◌, ◌<◌, ◌≤◌, List, [], ◌∷◌, length, Option, Some, Bool, true, false, ◌⊎◌, inl, inr, refl, sym, ap, ap₂, ◌∙◌, subst, arith}
 use Rattle.std.specs.Prelude.{slice_set}
 use Rattle.lt_model.specs.declared.cell.Content.{Content}
-use Rattle.lt_model.specs.State.{Footprint, Valued}
-use Rattle.lt_ir.specs.Running.{At, Step, Gives, gives, ◌>>=◌}
+use Rattle.lt_model.specs.State.{Footprint, Valued, Gives}
+use Rattle.lt_ir.specs.Running.{At, Step, gives, ◌>>=◌}
 use Rattle.lt_ir.specs.Evaluation.{valued}
 use Rattle.lt_ir.specs.Graph.{Register, register_at, had, contents_from}
 use Rattle.lt_code.proofs.Finishing.{After, AfterArguments}

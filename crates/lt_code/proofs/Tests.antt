@@ -4,13 +4,13 @@ use Rattle.std.specs.Ordering.{int_eq}
 use Rattle.lt_model.specs.declared.cell.Content.{Content}
 use Rattle.lt_model.specs.declared.cell.Content.TheVariants as content
 use Rattle.lt_model.specs.Operators.{truth}
-use Rattle.lt_model.specs.State.{Footprint, Valued, joined, settle}
+use Rattle.lt_model.specs.State.{Footprint, Valued, joined, settle, Gives, Ends}
 use Rattle.lt_tree.specs.declared.expression.LogicalOp.{LogicalOp}
 use Rattle.lt_tree.specs.declared.expression.LogicalOp.TheVariants as logical
 use Rattle.lt_tree.specs.Typing.Types.{CType}
 use Rattle.lt_tree.specs.Typing.TypedTree as e
 use Rattle.lt_tree.specs.Typing.TypedTree.{Value}
-use Rattle.lt_ir.specs.Running.{At, Answer, Gives, Ends, Step, Over, gives, ◌>>=◌, marks}
+use Rattle.lt_ir.specs.Running.{At, Answer, Step, Over, gives, ◌>>=◌, marks}
 use Rattle.lt_ir.specs.Evaluation.{valued, truth_in, of_truth}
 use Rattle.lt_code.specs.Meaning.Expressions.{second_truth, eval}
 use Rattle.lt_ir.specs.Graph as g

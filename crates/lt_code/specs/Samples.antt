@@ -12,7 +12,8 @@ use Rattle.lt_tree_laws.specs.Examples.{just, int, x, one, two, zero_constant, p
 use Rattle.lt_tree.specs.Typing.Programs.{Program, typed, broken}
 use Rattle.lt_tree.specs.Typing.UnitTyping.{typing}
 use Rattle.lt_tree_laws.specs.Typing.ExampleTexts.{name, number, object, function, declaration_of, takes_int}
-use Rattle.lt_ir.specs.Running.{Made, Over}
+use Rattle.lt_model.specs.State.{Made}
+use Rattle.lt_ir.specs.Running.{Over}
 use Rattle.lt_tree.specs.Typing.Entities.{Function}
 use Rattle.lt_model.specs.declared.input.Input.{Input}
 use Rattle.lt_code.specs.Meaning.Runs.{run, function_among}

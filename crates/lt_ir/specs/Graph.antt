@@ -13,8 +13,8 @@ use Rattle.lt_model.specs.declared.operator.Op.{Op}
 use Rattle.lt_model.specs.declared.run.End.{End as RunEnd}
 use Rattle.lt_model.specs.declared.run.End.TheVariants.{Returned, Stopped}
 use Rattle.lt_model.specs.Scalar.{convert_of}
-use Rattle.lt_model.specs.State.{Footprint, joined, settle, untouched}
-use Rattle.lt_ir.specs.Running.{Variable, Bound, Binding, At, Gives, Ends, Step, gives, absurdity, ◌>>=◌, ◌>>◌, tick, one_deeper, place, begins, ends, seals, stub_value, begin_parameters, statics_of, with_scope, is_static, Initial, marked_with, one_more, quietly, Over}
+use Rattle.lt_model.specs.State.{Footprint, joined, settle, untouched, Binding, Gives, Ends}
+use Rattle.lt_ir.specs.Running.{Variable, Bound, At, Step, gives, absurdity, ◌>>=◌, ◌>>◌, tick, one_deeper, place, begins, ends, seals, stub_value, begin_parameters, statics_of, with_scope, is_static, Initial, marked_with, one_more, quietly, Over}
 use Rattle.lt_ir.specs.Evaluation.{valued, number_in, address_in, used, truth_in, of_truth, apart, aimed, loaded, stored, copied, with_reads, moved, member_at, applied, counted, compared, store_parameters}
 use Rattle.lt_ir.specs.Starting.{started, nowhere}
 

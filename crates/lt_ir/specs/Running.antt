@@ -9,6 +9,8 @@ use Rattle.lt_model.specs.declared.cell.StoredCell.{StoredCell}
 use Rattle.lt_model.specs.declared.operator.Ub.{Ub}
 use Rattle.lt_model.specs.declared.run.End.{End}
 use Rattle.lt_model.specs.declared.run.End.TheVariants.{Stopped, Undefined, NoInput, Steps, Deep, Cells}
+use Rattle.lt_model.specs.State.{Binding, Made, Left, Gives, Ends}
+use Rattle.lt_model.specs.State as state
 use Rattle.lt_model.specs.Memory.{Memory, Block, create_shaped, end_block, seal_block, cells_alive, most_cells}
 
 -- An object as the code of a function names it: a parameter by its place, a local object by its number, one that is there from the start by
@@ -19,39 +21,15 @@ pub data Variable : Type 0 where
   static : (place : ℕ) → Variable
 
 -- a variable that is in scope, and its block
-pub record Bound : Type 0 where
-  pub variable : Variable
-  pub block : ℕ
+abbrev pub Bound : Type 0
+Bound = state.Bound Variable
 
--- a name that a mark bound, with its value
-pub record Binding : Type 0 where
-  pub name : List ℕ
-  pub value : ℤ
+-- where a run stands
+abbrev pub At : Type 0
+At = state.At Variable
 
--- a mark that was made: its label, whether its predicate was true, and what it bound
-pub record Made : Type 0 where
-  pub id : ℕ
-  pub truth : Bool
-  pub bound : List Binding
-
--- the values that are left for a function without a body
-pub record Left : Type 0 where
-  pub stub : List ℕ
-  pub values : List ℤ
-
--- Where a run stands: the blocks of the variables in scope, the innermost first; memory; the ticks left; the active calls; the values left for
--- functions without a body; the marks made, in order.
-pub record At : Type 0 where
-  pub scope : List Bound
-  pub memory : Memory
-  pub ticks : ℕ
-  pub depth : ℕ
-  pub stubs : List Left
-  pub marks : List Made
-
-pub data Answer (A : Type 0) : Type 0 where
-  Gives : A → At → Answer A
-  Ends : End → At → Answer A
+abbrev pub Answer : Type 0 → Type 0
+Answer A = state.Answer Variable A
 
 abbrev pub Step : Type 0 → Type 0
 Step A = At → Answer A

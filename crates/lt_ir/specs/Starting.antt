@@ -14,7 +14,8 @@ use Rattle.lt_model.specs.declared.input.StubSet.{StubSet}
 use Rattle.lt_model.specs.declared.input.BlockIn.{BlockIn}
 use Rattle.lt_model.specs.declared.input.Input.{Input}
 use Rattle.lt_model.specs.Memory.{Memory, Block, new_block}
-use Rattle.lt_ir.specs.Running.{parameter, Bound, Left, At, Gives, Step, gives, ◌>>=◌, ◌>>◌, Initial, start_statics, placed, begins, block_among}
+use Rattle.lt_model.specs.State.{Left, Gives}
+use Rattle.lt_ir.specs.Running.{parameter, Bound, At, Step, gives, ◌>>=◌, ◌>>◌, Initial, start_statics, placed, begins, block_among}
 
 -- a name of the input's files, and the block that it names
 pub record Root : Type 0 where

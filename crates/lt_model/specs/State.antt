@@ -4,26 +4,31 @@ use Rattle.std.specs.List.{list_any}
 use Rattle.lt_model.specs.declared.run.End.{End}
 use Rattle.lt_model.specs.Memory.{Memory}
 
--- a name in scope stands for an object: the number of its block
-pub record Bound : Type 0 where
-  pub name : List ℕ
+-- A variable in scope stands for an object: the number of its block. V says how variables are named.
+pub record Bound (V : Type 0) : Type 0 where
+  pub variable : V
   pub block : ℕ
 
--- a mark that was made: its label, whether its predicate was true, and the values that it bound
+-- a name that a mark bound, with its value
+pub record Binding : Type 0 where
+  pub name : List ℕ
+  pub value : ℤ
+
+-- a mark that was made: its label, whether its predicate was true, and what it bound
 pub record Made : Type 0 where
   pub id : ℕ
   pub truth : Bool
-  pub values : List ℤ
+  pub bound : List Binding
 
 -- the values that are left for a function without a body
 pub record Left : Type 0 where
   pub stub : List ℕ
   pub values : List ℤ
 
--- Where an evaluation stands: the objects of the names in scope, the innermost first; memory; the ticks left; the active
--- calls; the values left for functions without a body; the marks made, in order.
-pub record At : Type 0 where
-  pub scope : List Bound
+-- Where an evaluation stands: the objects of the variables in scope, the innermost first; memory; the ticks left; the
+-- active calls; the values left for functions without a body; the marks made, in order.
+pub record At (V : Type 0) : Type 0 where
+  pub scope : List (Bound V)
   pub memory : Memory
   pub ticks : ℕ
   pub depth : ℕ
@@ -47,12 +52,12 @@ pub record Valued (A : Type 0) : Type 0 where
   pub footprint : Footprint
 
 -- What an evaluation gives: a value and the state that follows, or the end of the run.
-pub data Answer (A : Type 0) : Type 0 where
-  Gives : A → At → Answer A
-  Ends : End → At → Answer A
+pub data Answer (V A : Type 0) : Type 0 where
+  Gives : A → At V → Answer V A
+  Ends : End → At V → Answer V A
 
 -- goes on with the value, unless the run is over
-abbrev pub bind : {A B : Type 0} → Answer A → (A → At → Answer B) → Answer B
+abbrev pub bind : {V A B : Type 0} → Answer V A → (A → At V → Answer V B) → Answer V B
 bind (Gives a at) go = go a at
 bind (Ends end at) go = Ends end at
 

@@ -6,11 +6,10 @@ use Rattle.std.proofs.lemmas.Slice.Eq.{bytes_eq-Decides}
 use Rattle.std.proofs.lemmas.List.{append-nil, map-append, length-map, length-replicate}
 use Rattle.std.proofs.lemmas.List.Elements.{All-head, All-tail, All-weaker}
 use Rattle.lt_model.specs.Memory.{Memory}
-use Rattle.lt_model.specs.State.{At, Bound, Answer}
 use Rattle.lt_model.specs.declared.cell.Content.TheVariants as content
 use Rattle.lt_tree.specs.SmallTree.{Label, Program, id_of, labels_in, names_in}
 use Rattle.lt_tree.specs.SmallMeaning as M
-use Rattle.lt_tree.specs.SmallMeaning.{object_of, with_params, with_locals, run, over}
+use Rattle.lt_tree.specs.SmallMeaning.{At, Bound, Answer, object_of, with_params, with_locals, run, over}
 use Rattle.lt_replay.specs.declared.code.Code.{Code}
 use Rattle.lt_replay.specs.Code.{steps_in}
 use Rattle.lt_replay.specs.Form.{variables, ids_in}
@@ -29,25 +28,25 @@ params_are : (names : List (List ℕ)) (values : List ℤ) (at : At) → with_pa
 params_are [] values at = ap (with at at.scope) (sym (append-nil at.memory))
 params_are (name ∷ names) [] at =
     let b = object (Some (pos 0)) in
-    params_are names [] (M.declared name (content.Number (pos 0)) at) ∙ ap (λ n. with at (bound_from (record { name = name; block = length at.memory } ∷ at.scope) n names) ((at.memory ++ b ∷ []) ++ memory_of (given (length names) []))) (one_more at.memory b)
+    params_are names [] (M.declared name (content.Number (pos 0)) at) ∙ ap (λ n. with at (bound_from (record { variable = name; block = length at.memory } ∷ at.scope) n names) ((at.memory ++ b ∷ []) ++ memory_of (given (length names) []))) (one_more at.memory b)
     ∙ ap (with at (bound_from at.scope (length at.memory) (name ∷ names))) (append_assoc at.memory (b ∷ []) (memory_of (given (length names) [])))
 params_are (name ∷ names) (z ∷ values) at =
     let b = object (Some z) in
-    params_are names values (M.declared name (content.Number z) at) ∙ ap (λ n. with at (bound_from (record { name = name; block = length at.memory } ∷ at.scope) n names) ((at.memory ++ b ∷ []) ++ memory_of (given (length names) values))) (one_more at.memory b)
+    params_are names values (M.declared name (content.Number z) at) ∙ ap (λ n. with at (bound_from (record { variable = name; block = length at.memory } ∷ at.scope) n names) ((at.memory ++ b ∷ []) ++ memory_of (given (length names) values))) (one_more at.memory b)
     ∙ ap (with at (bound_from at.scope (length at.memory) (name ∷ names))) (append_assoc at.memory (b ∷ []) (memory_of (given (length names) values)))
 
 locals_are : (names : List (List ℕ)) (at : At) → with_locals names at ≡ with at (bound_from at.scope (length at.memory) names) (at.memory ++ memory_of (replicate (length names) None))
 locals_are [] at = ap (with at at.scope) (sym (append-nil at.memory))
 locals_are (name ∷ names) at =
     let b = object None in
-    locals_are names (M.declared name content.Unset at) ∙ ap (λ n. with at (bound_from (record { name = name; block = length at.memory } ∷ at.scope) n names) ((at.memory ++ b ∷ []) ++ memory_of (replicate (length names) None))) (one_more at.memory b)
+    locals_are names (M.declared name content.Unset at) ∙ ap (λ n. with at (bound_from (record { variable = name; block = length at.memory } ∷ at.scope) n names) ((at.memory ++ b ∷ []) ++ memory_of (replicate (length names) None))) (one_more at.memory b)
     ∙ ap (with at (bound_from at.scope (length at.memory) (name ∷ names))) (append_assoc at.memory (b ∷ []) (memory_of (replicate (length names) None)))
 
 pub bound_append : (xs ys : List (List ℕ)) (scope : List Bound) (n : ℕ) → bound_from (bound_from scope n xs) (n + length xs) ys ≡ bound_from scope n (xs ++ ys)
 bound_append [] ys scope n = let none : n + 0 ≡ n = omega arith in ap (λ k. bound_from scope k ys) none
 bound_append (x ∷ xs) ys scope n =
     let more : n + suc (length xs) ≡ suc n + length xs = omega arith in
-    ap (λ k. bound_from (bound_from (record { name = x; block = n } ∷ scope) (suc n) xs) k ys) more ∙ bound_append xs ys (record { name = x; block = n } ∷ scope) (suc n)
+    ap (λ k. bound_from (bound_from (record { variable = x; block = n } ∷ scope) (suc n) xs) k ys) more ∙ bound_append xs ys (record { variable = x; block = n } ∷ scope) (suc n)
 
 given_length : (n : ℕ) (values : List ℤ) → length (given n values) ≡ n
 given_length zero values = refl
@@ -57,13 +56,13 @@ given_length (suc n) (z ∷ values) = ap suc (given_length n values)
 bound_has : (names : List (List ℕ)) (scope : List Bound) (n : ℕ) (name : List ℕ) → IsSome (object_of scope name) → IsSome (object_of (bound_from scope n names) name)
 bound_has [] scope n name has = has
 bound_has (x ∷ names) scope n name has =
-    bound_has names (record { name = x; block = n } ∷ scope) (suc n) name (elim (bytes_eq x name) as (λ t. IsSome (if t then Some (record { block = n; offset = 0 }) else object_of scope name)) [ true ↦ refl | false ↦ has ])
+    bound_has names (record { variable = x; block = n } ∷ scope) (suc n) name (elim (bytes_eq x name) as (λ t. IsSome (if t then Some (record { block = n; offset = 0 }) else object_of scope name)) [ true ↦ refl | false ↦ has ])
 
 pub bound_finds : (names : List (List ℕ)) (scope : List Bound) (n : ℕ) (name : List ℕ) → Contains names name → IsSome (object_of (bound_from scope n names) name)
 bound_finds [] scope n name (k, within, is) = absurd (omega (arith, within))
 bound_finds (x ∷ names) scope n name (zero, within, is) =
-    bound_has names (record { name = x; block = n } ∷ scope) (suc n) name (ap (λ t. is_some (if t then Some (record { block = n; offset = 0 }) else object_of scope name)) ((bytes_eq-Decides x name).1 is))
-bound_finds (x ∷ names) scope n name (suc k, within, is) = bound_finds names (record { name = x; block = n } ∷ scope) (suc n) name (k, omega (arith, within), is)
+    bound_has names (record { variable = x; block = n } ∷ scope) (suc n) name (ap (λ t. is_some (if t then Some (record { block = n; offset = 0 }) else object_of scope name)) ((bytes_eq-Decides x name).1 is))
+bound_finds (x ∷ names) scope n name (suc k, within, is) = bound_finds names (record { variable = x; block = n } ∷ scope) (suc n) name (k, omega (arith, within), is)
 
 known_all : (scope : List Bound) (names : List (List ℕ)) → All (λ name. IsSome (object_of scope name)) names → Known scope names
 known_all scope [] all = tt

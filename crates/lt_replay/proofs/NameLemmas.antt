@@ -9,18 +9,17 @@ use Rattle.std.proofs.lemmas.Slice.Eq.{bytes_eq-Decides}
 use Rattle.std.proofs.lemmas.Map.Text.{btree_map_updates_str}
 use Rattle.std.proofs.lemmas.List.Quantifiers.{all_pairs_push}
 use Rattle.lt_model.specs.declared.cell.Address.{Address}
-use Rattle.lt_model.specs.State.{Bound}
-use Rattle.lt_tree.specs.SmallMeaning.{object_of}
+use Rattle.lt_tree.specs.SmallMeaning.{Bound, object_of}
 use Rattle.lt_replay.specs.Resolving.{bound_from, place_in, number_of}
 use Rattle.lt_replay.specs.Numbers.{Numbers, found, number_by, IsScope}
 use Rattle.std.specs.Map.{lookup}
 use Rattle.std.proofs.Math.Path.{fun_ext}
 use Rattle.lt_replay.proofs.Beginning.{bound_append, bound_finds}
 
-scope_push : (names : List (List ℕ)) (name : List ℕ) → bound_from [] 0 (names ++ name ∷ []) ≡ record { name = name; block = length names } ∷ bound_from [] 0 names
+scope_push : (names : List (List ℕ)) (name : List ℕ) → bound_from [] 0 (names ++ name ∷ []) ≡ record { variable = name; block = length names } ∷ bound_from [] 0 names
 scope_push names name =
     let count : 0 + length names ≡ length names = omega arith in
-    sym (bound_append names (name ∷ []) [] 0) ∙ ap (λ n. record { name = name; block = n } ∷ bound_from [] 0 names) count
+    sym (bound_append names (name ∷ []) [] 0) ∙ ap (λ n. record { variable = name; block = n } ∷ bound_from [] 0 names) count
 
 abbrev block_of : Option Address → Option ℕ
 block_of o = option_map (λ (at : Address). at.block) o
@@ -33,7 +32,7 @@ head_or names x name n o false same has = inr has
 declared_or : (names : List (List ℕ)) (scope : List Bound) (n : ℕ) (name : List ℕ) → IsSome (object_of (bound_from scope n names) name) → Contains names name ⊎ IsSome (object_of scope name)
 declared_or [] scope n name has = inr has
 declared_or (x ∷ names) scope n name has =
-    ⊎_elim (λ (c : Contains names name). inl (suc c.0, omega (arith, c.1), c.2)) (λ here. head_or names x name n (object_of scope name) (bytes_eq x name) refl here) (declared_or names (record { name = x; block = n } ∷ scope) (suc n) name has)
+    ⊎_elim (λ (c : Contains names name). inl (suc c.0, omega (arith, c.1), c.2)) (λ here. head_or names x name n (object_of scope name) (bytes_eq x name) refl here) (declared_or names (record { variable = x; block = n } ∷ scope) (suc n) name has)
 
 pub declared : (names : List (List ℕ)) (name : List ℕ) → IsSome (object_of (bound_from [] 0 names) name) → Contains names name
 declared names name has = ⊎_elim (λ c. c) (λ none. let clash : false ≡ true = none in cc) (declared_or names [] 0 name has)

@@ -16,12 +16,12 @@ use Rattle.lt_model.specs.declared.scalar.DataModel.TheVariants.{Lp64}
 use Rattle.lt_model.specs.declared.scalar.Scalar.TheVariants.{Int}
 use Rattle.lt_model.specs.Operators.{truth, value_of}
 use Rattle.lt_model.specs.Memory.{Memory, then_result, load, store}
-use Rattle.lt_model.specs.State.{At, Bound, Made, Answer, Gives, Ends, bind}
+use Rattle.lt_model.specs.State.{Made, Gives, Ends, bind}
 use Rattle.lt_tree.specs.declared.expression.UnaryOp.TheVariants as prefix
 use Rattle.lt_tree.specs.Tree as t
 use Rattle.lt_tree.specs.SmallTree.{Label, predicate_of, id_of, labels_before, behind_labels, labels_in, labels_in_statement, names_in_expression, names_in_labels, names_in_test, names_in_assignment, names_evaluated, names_in_statement, names_in}
 use Rattle.lt_tree.specs.SmallMeaning as M
-use Rattle.lt_tree.specs.SmallMeaning.{object_of, number_in, int, holds, has_true, marked, marked_all}
+use Rattle.lt_tree.specs.SmallMeaning.{At, Bound, Answer, object_of, number_in, int, holds, has_true, marked, marked_all}
 use Rattle.lt_replay.specs.declared.running.Flow.TheVariants as F
 use Rattle.lt_replay.specs.Code.{Spot, Block, end}
 use Rattle.lt_replay.specs.Running as R
@@ -84,7 +84,7 @@ flags_length true hits n = length-set hits n true
 object_found : (scope : List Bound) (name : List ℕ) → IsSome (object_of scope name) → object_of scope name ≡ Some (record { block = number_of (object_of scope name); offset = 0 })
 object_found [] name known = let clash : false ≡ true = known in cc
 object_found (bound ∷ scope) name known =
-    elim (bytes_eq bound.name name) as (λ t. IsSome (if t then Some (record { block = bound.block; offset = 0 }) else object_of scope name) → (if t then Some (record { block = bound.block; offset = 0 }) else object_of scope name)
+    elim (bytes_eq bound.variable name) as (λ t. IsSome (if t then Some (record { block = bound.block; offset = 0 }) else object_of scope name) → (if t then Some (record { block = bound.block; offset = 0 }) else object_of scope name)
     ≡ Some (record { block = number_of (if t then Some (record { block = bound.block; offset = 0 }) else object_of scope name); offset = 0 })) [ true ↦ λ _. refl | false ↦ λ found. object_found scope name found ] known
 
 -- the state of a run, and that of its code
@@ -123,7 +123,7 @@ module _ (ids : List ℕ) (scope : List Bound) (apart : AllPairs (λ x y. x ≢ 
       let truth : Bool = holds (formula_value s.variables (numbered (place_in scope) (predicate_of label))) in
       let is : holds (M.value at (predicate_of label)) ≡ truth = ap holds (value_same scope at s.variables agrees.scope_is agrees.memory_is (predicate_of label) known) in
       let within : n < length s.hits = omega (arith, slice_get_within ids n (id_of label) stands, agrees.room) in
-      let made : Bool → Made = λ t. record { id = id_of label; truth = t; values = [] } in
+      let made : Bool → Made = λ t. record { id = id_of label; truth = t; bound = [] } in
       record {
         scope_is = agrees.scope_is;
         memory_is = agrees.memory_is;

@@ -4,11 +4,10 @@ use Rattle.std.specs.Prelude.{◌≡◌, ℕ, zero, suc, ◌+◌, ℤ, pos, List
 use Rattle.lt_model.specs.declared.cell.Address.{Address}
 use Rattle.lt_model.specs.declared.run.End.{End}
 use Rattle.lt_model.specs.declared.run.End.TheVariants as E
-use Rattle.lt_model.specs.State.{Bound}
 use Rattle.lt_tree.specs.declared.expression.UnaryOp.TheVariants as prefix
 use Rattle.lt_tree.specs.Tree as t
 use Rattle.lt_tree.specs.SmallTree.{IsSmallBody, Label, Program, number_of as number_written, predicate_of, id_of, labels_before, behind_labels, labels_in, labels_in_statement}
-use Rattle.lt_tree.specs.SmallMeaning.{object_of, run, has_true}
+use Rattle.lt_tree.specs.SmallMeaning.{Bound, object_of, run, has_true}
 use Rattle.lt_replay.specs.declared.code.Code.{Code}
 use Rattle.lt_tree.specs.declared.stop.Stop.{Stop}
 use Rattle.lt_tree.specs.declared.stop.Stop.TheVariants.{NotOfForm, NoMemory}
@@ -20,7 +19,7 @@ use Rattle.lt_replay.specs.Code.{Formula, Variable, Constant, Minus, Not, Binary
 -- names in scope, with numbers from n
 abbrev pub bound_from : List Bound → ℕ → List (List ℕ) → List Bound
 bound_from scope n [] = scope
-bound_from scope n (name ∷ names) = bound_from (record { name = name; block = n } ∷ scope) (suc n) names
+bound_from scope n (name ∷ names) = bound_from (record { variable = name; block = n } ∷ scope) (suc n) names
 
 abbrev pub scope_of : Program → List Bound
 scope_of f = bound_from [] 0 (variables f)

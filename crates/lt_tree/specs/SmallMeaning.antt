@@ -19,10 +19,21 @@ use Rattle.lt_model.specs.declared.run.End.{End}
 use Rattle.lt_model.specs.declared.run.End.TheVariants.{Returned, Stopped, Undefined, NoInput, Steps, Deep, Cells}
 use Rattle.lt_model.specs.Operators.{truth, value_of}
 use Rattle.lt_model.specs.Memory.{Block, then_result, load, store, create}
-use Rattle.lt_model.specs.State.{At, Bound, Made, Answer, Gives, Ends, bind}
+use Rattle.lt_model.specs.State.{Made, Gives, Ends, bind}
+use Rattle.lt_model.specs.State as state
 use Rattle.lt_tree.specs.declared.expression.UnaryOp.TheVariants as prefix
 use Rattle.lt_tree.specs.Tree as t
 use Rattle.lt_tree.specs.SmallTree.{Program, Label, number_of, predicate_of, id_of, labels_before, behind_labels}
+
+-- variables go by their names
+abbrev pub Bound : Type 0
+Bound = state.Bound (List ℕ)
+
+abbrev pub At : Type 0
+At = state.At (List ℕ)
+
+abbrev pub Answer : Type 0 → Type 0
+Answer A = state.Answer (List ℕ) A
 
 -- every object has one cell of type int
 abbrev pub int : CellType
@@ -31,7 +42,7 @@ int = Num Int
 -- the object of a name in scope, the innermost first
 abbrev pub object_of : List Bound → List ℕ → Option Address
 object_of [] name = None
-object_of (bound ∷ scope) name = if bytes_eq bound.name name then Some (record { block = bound.block; offset = 0 }) else object_of scope name
+object_of (bound ∷ scope) name = if bytes_eq bound.variable name then Some (record { block = bound.block; offset = 0 }) else object_of scope name
 
 -- the number that was loaded
 abbrev pub number_in : Content → Result ℤ Ub
@@ -60,7 +71,7 @@ holds (Err kind) = false
 
 -- a mark is made; it costs no tick
 abbrev pub marked : Label → At → At
-marked label at = record at { marks = at.marks ++ record { id = id_of label; truth = holds (value at (predicate_of label)); values = [] } ∷ [] }
+marked label at = record at { marks = at.marks ++ record { id = id_of label; truth = holds (value at (predicate_of label)); bound = [] } ∷ [] }
 
 abbrev pub marked_all : List Label → At → At
 marked_all [] at = at
@@ -136,7 +147,7 @@ int_object holds = record { alive = true; writable = true; size = 4; cells = rec
 
 -- a name gets an object of its own
 abbrev pub declared : List ℕ → Content → At → At
-declared name holds at = record at { scope = record { name = name; block = length at.memory } ∷ at.scope; memory = create at.memory (int_object holds) }
+declared name holds at = record at { scope = record { variable = name; block = length at.memory } ∷ at.scope; memory = create at.memory (int_object holds) }
 
 -- parameters have the values that they are given, and 0 where none is left
 abbrev pub with_params : List (List ℕ) → List ℤ → At → At

@@ -10,7 +10,7 @@ use Rattle.lt_model.specs.declared.scalar.Scalar.{Scalar}
 use Rattle.lt_model.specs.declared.scalar.Scalar.TheVariants as S
 use Rattle.lt_model.specs.declared.operator.Op.TheVariants as O
 use Rattle.lt_model.specs.Scalar.{convert_of}
-use Rattle.lt_model.specs.State.{Footprint, Valued, joined, settle, untouched}
+use Rattle.lt_model.specs.State.{Footprint, Valued, joined, settle, untouched, Gives, Binding}
 use Rattle.lt_tree.specs.declared.expression.LogicalOp.{LogicalOp}
 use Rattle.lt_tree.specs.declared.expression.LogicalOp.TheVariants as logical
 use Rattle.lt_tree.specs.Typing.Types.{CType, Num, Qualified, scalar_of, is_struct}
@@ -18,7 +18,7 @@ use Rattle.lt_tree.specs.Typing.Shapes.{shape_of, pointer_type}
 use Rattle.lt_tree.specs.Typing.Programs.{Program}
 use Rattle.lt_tree.specs.Typing.TypedTree as e
 use Rattle.lt_tree.specs.Typing.TypedTree.{Value, Values, Place, Marks, Mark, Bindings, Side, on_left, on_right, When, Conversion, type_of, no_values, a_value}
-use Rattle.lt_ir.specs.Running.{Variable, At, Gives, Step, gives, ◌>>=◌, place, Binding, marks, quietly, one_more, marked_with}
+use Rattle.lt_ir.specs.Running.{Variable, At, Step, gives, ◌>>=◌, place, marks, quietly, one_more, marked_with}
 use Rattle.lt_ir.specs.Evaluation.{valued, number_in, address_in, used, truth_in, of_truth, apart, aimed, loaded, stored, copied, with_reads, moved, member_at, applied, counted, compared}
 
 -- what calling a function of this name on these values gives; the flag says whether its value is taken

@@ -16,7 +16,8 @@ use Rattle.lt_tree.specs.Typing.Entities.{Function, Object, Life, literal, local
 use Rattle.lt_tree.specs.Typing.TypedTree as e
 use Rattle.lt_tree.specs.Typing.TypedTree.{Items, StartPart}
 use Rattle.lt_tree.specs.Typing.Programs.{Program}
-use Rattle.lt_ir.specs.Running.{Variable, parameter, local, static, At, Answer, Gives, Ends, Step, gives, over, ◌>>=◌, ◌>>◌, tick, one_deeper, seals, stub_value, begin_parameters, end_parameters, statics_of, with_scope, Initial, Over}
+use Rattle.lt_model.specs.State.{Gives, Ends}
+use Rattle.lt_ir.specs.Running.{Variable, parameter, local, static, At, Answer, Step, gives, over, ◌>>=◌, ◌>>◌, tick, one_deeper, seals, stub_value, begin_parameters, end_parameters, statics_of, with_scope, Initial, Over}
 use Rattle.lt_ir.specs.Evaluation.{store_parameters}
 use Rattle.lt_ir.specs.Starting.{started, nowhere}
 use Rattle.lt_code.specs.Meaning.Expressions.{Calls, shape}
