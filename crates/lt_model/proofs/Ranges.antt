@@ -1,13 +1,14 @@
 -- The ranges of the scalar types.
 use Rattle.std.proofs.Common.{arith, ◌≡◌, refl, ℕ, ℤ, pos, negsuc, ◌+ℤ◌, ◌-ℤ◌, ◌*ℤ◌, ◌≤ℤ◌, ◌<ℤ◌, ◌-◌, ◌^◌, ◌<◌, ◌≤◌, ◌*◌, ◌%◌, suc, zero, ◌∙◌, ap, true, false, lit<, to_z, of_z}
 use Rattle.std.specs.Int.{int_rem_euclid, w128}
-use Rattle.std.specs.Prelude.{unsigned_abs, int_div, int_rem, int_lt}
+use Rattle.std.specs.Prelude.{unsigned_abs, int_div, int_rem, int_lt, neg_ℤ, ◌/◌}
+use Rattle.std.proofs.Math.Nat.{div-le_self}
 use mir.Val.{SFits, hbits}
 use Rattle.std.proofs.lemmas.Int.{ints, to_z-of_z, to_z_pos, fits_signed_mul}
 use Rattle.std.proofs.lemmas.Nat.{one_shl, pow_below}
 use Rattle.lt_model.specs.Scalar.{is_signed, width_of, least_of, greatest_of, wrapped, convert_of, IsValue}
 use Rattle.lt_model.specs.declared.scalar.DataModel.{DataModel}
-use Rattle.lt_model.specs.declared.scalar.DataModel.TheVariants.{Ilp32, Lp64}
+use Rattle.lt_model.specs.declared.scalar.DataModel.TheVariants.{Ilp32, Lp64, Llp64, Ilp32U, Lp64U, Llp64U}
 use Rattle.lt_model.specs.declared.scalar.Scalar.{Scalar}
 use Rattle.lt_model.specs.declared.scalar.Scalar.TheVariants as S
 
@@ -24,7 +25,12 @@ pub record Bounds (m : DataModel) (s : Scalar) : Type 0 where
 
 pub bounds_of : (m : DataModel) (s : Scalar) → Bounds m s
 bounds_of m S.Bool = record { low = omega (arith, ints); not_above = omega (arith, ints); one = omega (arith, ints); high = omega (arith, ints); span = refl; power = omega arith; some = omega arith; width = omega arith }
-bounds_of m S.Char = record { low = omega (arith, ints); not_above = omega (arith, ints); one = omega (arith, ints); high = omega (arith, ints); span = refl; power = omega arith; some = omega arith; width = omega arith }
+bounds_of Ilp32 S.Char = record { low = omega (arith, ints); not_above = omega (arith, ints); one = omega (arith, ints); high = omega (arith, ints); span = refl; power = omega arith; some = omega arith; width = omega arith }
+bounds_of Lp64 S.Char = record { low = omega (arith, ints); not_above = omega (arith, ints); one = omega (arith, ints); high = omega (arith, ints); span = refl; power = omega arith; some = omega arith; width = omega arith }
+bounds_of Llp64 S.Char = record { low = omega (arith, ints); not_above = omega (arith, ints); one = omega (arith, ints); high = omega (arith, ints); span = refl; power = omega arith; some = omega arith; width = omega arith }
+bounds_of Ilp32U S.Char = record { low = omega (arith, ints); not_above = omega (arith, ints); one = omega (arith, ints); high = omega (arith, ints); span = refl; power = omega arith; some = omega arith; width = omega arith }
+bounds_of Lp64U S.Char = record { low = omega (arith, ints); not_above = omega (arith, ints); one = omega (arith, ints); high = omega (arith, ints); span = refl; power = omega arith; some = omega arith; width = omega arith }
+bounds_of Llp64U S.Char = record { low = omega (arith, ints); not_above = omega (arith, ints); one = omega (arith, ints); high = omega (arith, ints); span = refl; power = omega arith; some = omega arith; width = omega arith }
 bounds_of m S.SChar = record { low = omega (arith, ints); not_above = omega (arith, ints); one = omega (arith, ints); high = omega (arith, ints); span = refl; power = omega arith; some = omega arith; width = omega arith }
 bounds_of m S.UChar = record { low = omega (arith, ints); not_above = omega (arith, ints); one = omega (arith, ints); high = omega (arith, ints); span = refl; power = omega arith; some = omega arith; width = omega arith }
 bounds_of m S.Short = record { low = omega (arith, ints); not_above = omega (arith, ints); one = omega (arith, ints); high = omega (arith, ints); span = refl; power = omega arith; some = omega arith; width = omega arith }
@@ -33,15 +39,28 @@ bounds_of m S.Int = record { low = omega (arith, ints); not_above = omega (arith
 bounds_of m S.UInt = record { low = omega (arith, ints); not_above = omega (arith, ints); one = omega (arith, ints); high = omega (arith, ints); span = refl; power = omega arith; some = omega arith; width = omega arith }
 bounds_of Ilp32 S.Long = record { low = omega (arith, ints); not_above = omega (arith, ints); one = omega (arith, ints); high = omega (arith, ints); span = refl; power = omega arith; some = omega arith; width = omega arith }
 bounds_of Lp64 S.Long = record { low = omega (arith, ints); not_above = omega (arith, ints); one = omega (arith, ints); high = omega (arith, ints); span = refl; power = omega arith; some = omega arith; width = omega arith }
+bounds_of Llp64 S.Long = record { low = omega (arith, ints); not_above = omega (arith, ints); one = omega (arith, ints); high = omega (arith, ints); span = refl; power = omega arith; some = omega arith; width = omega arith }
+bounds_of Ilp32U S.Long = record { low = omega (arith, ints); not_above = omega (arith, ints); one = omega (arith, ints); high = omega (arith, ints); span = refl; power = omega arith; some = omega arith; width = omega arith }
+bounds_of Lp64U S.Long = record { low = omega (arith, ints); not_above = omega (arith, ints); one = omega (arith, ints); high = omega (arith, ints); span = refl; power = omega arith; some = omega arith; width = omega arith }
+bounds_of Llp64U S.Long = record { low = omega (arith, ints); not_above = omega (arith, ints); one = omega (arith, ints); high = omega (arith, ints); span = refl; power = omega arith; some = omega arith; width = omega arith }
 bounds_of Ilp32 S.ULong = record { low = omega (arith, ints); not_above = omega (arith, ints); one = omega (arith, ints); high = omega (arith, ints); span = refl; power = omega arith; some = omega arith; width = omega arith }
 bounds_of Lp64 S.ULong = record { low = omega (arith, ints); not_above = omega (arith, ints); one = omega (arith, ints); high = omega (arith, ints); span = refl; power = omega arith; some = omega arith; width = omega arith }
+bounds_of Llp64 S.ULong = record { low = omega (arith, ints); not_above = omega (arith, ints); one = omega (arith, ints); high = omega (arith, ints); span = refl; power = omega arith; some = omega arith; width = omega arith }
+bounds_of Ilp32U S.ULong = record { low = omega (arith, ints); not_above = omega (arith, ints); one = omega (arith, ints); high = omega (arith, ints); span = refl; power = omega arith; some = omega arith; width = omega arith }
+bounds_of Lp64U S.ULong = record { low = omega (arith, ints); not_above = omega (arith, ints); one = omega (arith, ints); high = omega (arith, ints); span = refl; power = omega arith; some = omega arith; width = omega arith }
+bounds_of Llp64U S.ULong = record { low = omega (arith, ints); not_above = omega (arith, ints); one = omega (arith, ints); high = omega (arith, ints); span = refl; power = omega arith; some = omega arith; width = omega arith }
 bounds_of m S.LLong = record { low = omega (arith, ints); not_above = omega (arith, ints); one = omega (arith, ints); high = omega (arith, ints); span = refl; power = omega arith; some = omega arith; width = omega arith }
 bounds_of m S.ULLong = record { low = omega (arith, ints); not_above = omega (arith, ints); one = omega (arith, ints); high = omega (arith, ints); span = refl; power = omega arith; some = omega arith; width = omega arith }
 
 -- the values of a signed type are below 2 ^ 63
-pub signed_high : (m : DataModel) (s : Scalar) → is_signed s ≡ true → greatest_of m s ≤ℤ pos (2 ^ 63 - 1)
+pub signed_high : (m : DataModel) (s : Scalar) → is_signed m s ≡ true → greatest_of m s ≤ℤ pos (2 ^ 63 - 1)
 signed_high m S.Bool t = cc
-signed_high m S.Char t = omega (arith, ints)
+signed_high Ilp32 S.Char t = omega (arith, ints)
+signed_high Lp64 S.Char t = omega (arith, ints)
+signed_high Llp64 S.Char t = omega (arith, ints)
+signed_high Ilp32U S.Char t = cc
+signed_high Lp64U S.Char t = cc
+signed_high Llp64U S.Char t = cc
 signed_high m S.SChar t = omega (arith, ints)
 signed_high m S.UChar t = cc
 signed_high m S.Short t = omega (arith, ints)
@@ -50,6 +69,10 @@ signed_high m S.Int t = omega (arith, ints)
 signed_high m S.UInt t = cc
 signed_high Ilp32 S.Long t = omega (arith, ints)
 signed_high Lp64 S.Long t = omega (arith, ints)
+signed_high Llp64 S.Long t = omega (arith, ints)
+signed_high Ilp32U S.Long t = omega (arith, ints)
+signed_high Lp64U S.Long t = omega (arith, ints)
+signed_high Llp64U S.Long t = omega (arith, ints)
 signed_high m S.ULong t = cc
 signed_high m S.LLong t = omega (arith, ints)
 signed_high m S.ULLong t = cc
@@ -95,7 +118,7 @@ convert_of-other m S.LLong z h = refl
 convert_of-other m S.ULLong z h = refl
 
 -- a value of a signed type is at most 2 ^ 63 from zero
-pub signed_abs : (m : DataModel) (s : Scalar) (z : ℤ) → is_signed s ≡ true → IsValue m s z → unsigned_abs z ≤ 2 ^ 63
+pub signed_abs : (m : DataModel) (s : Scalar) (z : ℤ) → is_signed m s ≡ true → IsValue m s z → unsigned_abs z ≤ 2 ^ 63
 signed_abs m s z t v =
     let b : Bounds m s = bounds_of m s in
     let h = signed_high m s t in
@@ -130,3 +153,17 @@ difference_fits m s a b p q =
     let u = IsSmall-value m s a p in
     let v = IsSmall-value m s b q in
     omega (arith, ints)
+
+negated_fits : (n : ℕ) → n ≤ 2 ^ 64 → SFits w128 (neg_ℤ (pos n))
+negated_fits zero h = omega (arith, ints)
+negated_fits (suc n) h = omega (arith, ints)
+
+-- a quotient is no further from zero than what is divided
+quotient_small : (a b : ℤ) → IsSmall a → SFits w128 (int_div a b)
+quotient_small (pos a) (pos b) h = let s = div-le_self a b in let high = h.high in omega (arith, ints)
+quotient_small (pos a) (negsuc b) h = let s = div-le_self a (suc b) in let high = h.high in negated_fits (a / suc b) (omega (arith, ints))
+quotient_small (negsuc a) (pos b) h = let s = div-le_self (suc a) b in let low = h.low in negated_fits (suc a / b) (omega (arith, ints))
+quotient_small (negsuc a) (negsuc b) h = let s = div-le_self (suc a) (suc b) in let low = h.low in omega (arith, ints)
+
+pub quotient_fits : (m : DataModel) (s : Scalar) (a b : ℤ) → IsValue m s a → SFits w128 (int_div a b)
+quotient_fits m s a b v = quotient_small a b (IsSmall-value m s a v)

@@ -30,7 +30,7 @@ either true m s x y p q = p
 either false m s x y p q = q
 
 settled_fits : (m : DataModel) (s : Scalar) (z : ℤ) → IfOk (settled m s z) (IsValue m s)
-settled_fits m s z = either (is_signed s) m s (exact_or Overflow m s z) (Ok (wrapped m s z)) (exact_or_fits Overflow m s z) (IsValue-wrapped m s z)
+settled_fits m s z = either (is_signed m s) m s (exact_or Overflow m s z) (Ok (wrapped m s z)) (exact_or_fits Overflow m s z) (IsValue-wrapped m s z)
 
 -- z lies between zero and a
 abbrev IsNearer : ℤ → ℤ → Type 0
@@ -61,7 +61,7 @@ division_fits m s a (negsuc n) z h = under_test Quotient m s (is_value m s (int_
 left_shift_fits : (m : DataModel) (s : Scalar) (a : ℤ) (k : ℕ) → IfOk (shifted_left m s a k) (IsValue m s)
 left_shift_fits m s a k =
     let z : ℤ = a *ℤ pos (2 ^ k) in
-    either (is_signed s) m s (if int_lt a (pos 0) then Err Shift else exact_or Shift m s z) (Ok (wrapped m s z)) (either (int_lt a (pos 0)) m s (Err Shift) (exact_or Shift m s z) tt (exact_or_fits Shift m s z)) (IsValue-wrapped m s z)
+    either (is_signed m s) m s (if int_lt a (pos 0) then Err Shift else exact_or Shift m s z) (Ok (wrapped m s z)) (either (int_lt a (pos 0)) m s (Err Shift) (exact_or Shift m s z) tt (exact_or_fits Shift m s z)) (IsValue-wrapped m s z)
 
 truth_fits : (m : DataModel) (s : Scalar) (b : Bool) → IsValue m s (truth b)
 truth_fits m s b =

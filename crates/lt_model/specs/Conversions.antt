@@ -50,7 +50,7 @@ higher a b = if nat_lt (rank_of a) (rank_of b) then b else a
 -- Two promoted types: of two signed or two unsigned ones that of greater rank.
 abbrev pub common : DataModel → Scalar → Scalar → Scalar
 common m a b =
-    if is_signed a then (if is_signed b then higher a b else mixed m a b) else (if is_signed b then mixed m b a else higher a b)
+    if is_signed m a then (if is_signed m b then higher a b else mixed m a b) else (if is_signed m b then mixed m b a else higher a b)
 
 -- the type of an operation on operands of these types
 abbrev pub usual_of : DataModel → Scalar → Scalar → Scalar

@@ -10,7 +10,7 @@ use Rattle.lt_model.specs.declared.ctype.CType.TheVariants as ctype
 use Rattle.lt_model.specs.declared.ctype.MemberType.{MemberType}
 use Rattle.lt_model.specs.declared.ctype.StructType.{StructType}
 use Rattle.lt_model.specs.declared.sizes.Extent.{Extent}
-use Rattle.lt_model.specs.Scalar.{width_of}
+use Rattle.lt_model.specs.Scalar.{width_of, pointer_width}
 
 -- what follows from a value, if there is one
 abbrev pub then_some : {A B : Type 0} → Option A → (A → Option B) → Option B
@@ -25,13 +25,19 @@ within n = if nat_lt n (2 ^ 64) then Some n else None
 abbrev pub rounded : ℕ → ℕ → Option ℕ
 rounded n alignment = if nat_lt 0 alignment then within (next_multiple_of n alignment) else None
 
--- the bytes that hold the bits of a type
-abbrev pub bytes_of : DataModel → Scalar → ℕ
-bytes_of m s = (width_of m s + 7) / 8
+-- the bytes that hold so many bits
+abbrev pub bytes_for : ℕ → ℕ
+bytes_for bits = (bits + 7) / 8
 
--- the alignment of a scalar or a pointer equals its size; a pointer has the size of `long`
+-- the alignment of a scalar or a pointer equals its size
+abbrev pub extent_for : ℕ → Extent
+extent_for bits = record { size = bytes_for bits; alignment = bytes_for bits }
+
 abbrev pub scalar_extent : DataModel → Scalar → Extent
-scalar_extent m s = record { size = bytes_of m s; alignment = bytes_of m s }
+scalar_extent m s = extent_for (width_of m s)
+
+abbrev pub pointer_extent : DataModel → Extent
+pointer_extent m = extent_for (pointer_width m)
 
 abbrev pub resized : Extent → Option ℕ → Option Extent
 resized e None = None
@@ -52,7 +58,7 @@ elements t = 1
 -- the extent of a type that is no array, where the extents of structs are known
 abbrev pub single_extent : DataModel → (ℕ → Option Extent) → CType → Option Extent
 single_extent m known (ctype.Num s) = Some (scalar_extent m s)
-single_extent m known (ctype.Pointer' p t) = Some (scalar_extent m S.Long)
+single_extent m known (ctype.Pointer' p t) = Some (pointer_extent m)
 single_extent m known (ctype.Struct k) = known k
 single_extent m known t = None
 

@@ -21,7 +21,7 @@ exact_or kind m s z = if is_value m s z then Ok z else Err kind
 
 -- a sum, a difference or a product
 abbrev pub settled : DataModel → Scalar → ℤ → Result ℤ Ub
-settled m s z = if is_signed s then exact_or Overflow m s z else Ok (wrapped m s z)
+settled m s z = if is_signed m s then exact_or Overflow m s z else Ok (wrapped m s z)
 
 -- z, where b may divide a
 abbrev pub after_division : DataModel → Scalar → ℤ → ℤ → ℤ → Result ℤ Ub
@@ -33,7 +33,7 @@ is_count m s b = int_le (pos 0) b && int_lt b (pos (width_of m s))
 
 abbrev pub shifted_left : DataModel → Scalar → ℤ → ℕ → Result ℤ Ub
 shifted_left m s a k =
-    if is_signed s then (if int_lt a (pos 0) then Err Shift else exact_or Shift m s (a *ℤ pos (2 ^ k))) else Ok (wrapped m s (a *ℤ pos (2 ^ k)))
+    if is_signed m s then (if int_lt a (pos 0) then Err Shift else exact_or Shift m s (a *ℤ pos (2 ^ k))) else Ok (wrapped m s (a *ℤ pos (2 ^ k)))
 
 -- the two's complement of z
 abbrev pub bits_of : DataModel → Scalar → ℤ → ℕ

@@ -24,7 +24,7 @@ fn settled(model: DataModel, ty: Scalar, z: i128) -> Result<i128, Ub>
     requires { FitsSigned w128 (z -ℤ least_of model ty) }
     ensures { result ≡ settled model ty z }
 {
-    if is_signed(ty) {
+    if is_signed(model, ty) {
         exact(Ub::Overflow, model, ty, z)
     } else {
         Ok(wrap(model, ty, z))
@@ -61,7 +61,7 @@ fn reduced_product(width: u32, a: u128, b: u128) -> u128
 
 // A product of an unsigned type.
 fn unsigned_product(model: DataModel, ty: Scalar, a: i128, b: i128) -> i128
-    requires unsigned { is_signed ty ≡ false }
+    requires unsigned { is_signed model ty ≡ false }
     requires left { (pos 0 ≤ℤ a) × (a <ℤ pos (2 ^ 64)) }
     requires right { (pos 0 ≤ℤ b) × (b <ℤ pos (2 ^ 64)) }
     ensures { result ≡ wrapped model ty (a *ℤ b) }
@@ -86,7 +86,7 @@ fn product(model: DataModel, ty: Scalar, a: i128, b: i128) -> Result<i128, Ub>
     requires right { IsValue model ty b }
     ensures { result ≡ settled model ty (a *ℤ b) }
 {
-    if is_signed(ty) {
+    if is_signed(model, ty) {
         exact(Ub::Overflow, model, ty, exact_product(a, b))
     } else {
         Ok(unsigned_product(model, ty, a, b))
@@ -160,7 +160,7 @@ fn shifted_left(model: DataModel, ty: Scalar, a: i128, count: u32) -> Result<i12
     requires count { count < width_of model ty }
     ensures { result ≡ shifted_left model ty a count }
 {
-    if !is_signed(ty) {
+    if !is_signed(model, ty) {
         Ok(unsigned_product(model, ty, a, power(count)))
     } else if a < 0 {
         Err(Ub::Shift)

@@ -105,7 +105,7 @@ fn higher(a: Scalar, b: Scalar) -> Scalar
 fn common(model: DataModel, a: Scalar, b: Scalar) -> Scalar
     ensures { result ≡ common model a b }
 {
-    match (is_signed(a), is_signed(b)) {
+    match (is_signed(model, a), is_signed(model, b)) {
         (true, false) => mixed(model, a, b),
         (false, true) => mixed(model, b, a),
         _ => higher(a, b),

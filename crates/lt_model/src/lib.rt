@@ -13,10 +13,6 @@ mod run;
 mod scalar;
 mod sequence;
 mod sizes;
-#[cfg(test)]
-mod tables;
-#[cfg(test)]
-mod tests;
 
 pub use arithmetic::apply;
 pub use cell::{Address, CellType, Content, Shape, ShapeCell, StoredCell};
@@ -30,6 +26,9 @@ pub use input::{
 pub use name::Name;
 pub use operator::{Op, Ub, ub_number};
 pub use run::{Binding, End, Mark, Run};
-pub use scalar::{DataModel, Scalar, greatest, is_signed, is_value, least, width};
+pub use scalar::{
+    DataModel, Scalar, char_is_signed, difference_type, greatest, is_signed, is_value, least,
+    long_width, pointer_width, size_type, width,
+};
 pub use sequence::Sequence;
 pub use sizes::{layout, nesting_law, size_of};

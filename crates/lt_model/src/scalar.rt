@@ -1,15 +1,21 @@
 ghost use Rattle.std.specs.Prelude.{◌≡◌, ◌↔◌, IsTrue};
+ghost use Rattle.lt_model.specs.Scalar as spec;
 ghost use Rattle.lt_model.specs.Scalar.{width_of, is_signed, least_of, greatest_of, IsValue};
 ghost use Rattle.lt_model.specs.Operators.{is_value};
 
-/// The sizes of `long` and of pointers: 4 bytes both, or 8 bytes both.
+/// The sizes of `long` and of pointers, 4 and 4 bytes, 8 and 8, or 4 and 8, and whether plain `char` is signed: it isn't in those whose name
+/// ends in `U`.
 #[derive(Clone, Copy, PartialEq, Eq, Debug)]
 pub enum DataModel {
     Ilp32,
     Lp64,
+    Llp64,
+    Ilp32U,
+    Lp64U,
+    Llp64U,
 }
 
-/// The integer types of C11 6.2.5. Plain `char` is signed.
+/// The integer types of C11 6.2.5.
 #[derive(Clone, Copy, PartialEq, Eq, Debug)]
 pub enum Scalar {
     Bool,
@@ -26,6 +32,55 @@ pub enum Scalar {
     ULLong,
 }
 
+/// The bits of `long`.
+pub fn long_width(model: DataModel) -> u32
+    ensures { result ≡ spec.long_width model }
+{
+    match model {
+        DataModel::Lp64 | DataModel::Lp64U => 64,
+        DataModel::Ilp32 | DataModel::Llp64 | DataModel::Ilp32U | DataModel::Llp64U => 32,
+    }
+}
+
+/// The bits of a pointer.
+pub fn pointer_width(model: DataModel) -> u32
+    ensures { result ≡ spec.pointer_width model }
+{
+    match model {
+        DataModel::Ilp32 | DataModel::Ilp32U => 32,
+        DataModel::Lp64 | DataModel::Llp64 | DataModel::Lp64U | DataModel::Llp64U => 64,
+    }
+}
+
+/// Whether plain `char` is signed, C11 6.2.5p15.
+pub fn char_is_signed(model: DataModel) -> bool
+    ensures { result ≡ spec.char_is_signed model }
+{
+    matches!(model, DataModel::Ilp32 | DataModel::Lp64 | DataModel::Llp64)
+}
+
+/// The type of `sizeof`, C11 6.5.3.4.
+pub fn size_type(model: DataModel) -> Scalar
+    ensures { result ≡ spec.size_type model }
+{
+    match model {
+        DataModel::Ilp32 | DataModel::Ilp32U => Scalar::UInt,
+        DataModel::Lp64 | DataModel::Lp64U => Scalar::ULong,
+        DataModel::Llp64 | DataModel::Llp64U => Scalar::ULLong,
+    }
+}
+
+/// The type of a difference of pointers, C11 6.5.6.
+pub fn difference_type(model: DataModel) -> Scalar
+    ensures { result ≡ spec.difference_type model }
+{
+    match model {
+        DataModel::Ilp32 | DataModel::Ilp32U => Scalar::Int,
+        DataModel::Lp64 | DataModel::Lp64U => Scalar::Long,
+        DataModel::Llp64 | DataModel::Llp64U => Scalar::LLong,
+    }
+}
+
 /// The bits of a type, 1 for `_Bool`.
 pub fn width(model: DataModel, ty: Scalar) -> u32
     ensures { result ≡ width_of model ty }
@@ -35,21 +90,18 @@ pub fn width(model: DataModel, ty: Scalar) -> u32
         Scalar::Char | Scalar::SChar | Scalar::UChar => 8,
         Scalar::Short | Scalar::UShort => 16,
         Scalar::Int | Scalar::UInt => 32,
-        Scalar::Long | Scalar::ULong => match model {
-            DataModel::Ilp32 => 32,
-            DataModel::Lp64 => 64,
-        },
+        Scalar::Long | Scalar::ULong => long_width(model),
         Scalar::LLong | Scalar::ULLong => 64,
     }
 }
 
 /// Whether a type has negative values.
-pub fn is_signed(ty: Scalar) -> bool
-    ensures { result ≡ is_signed ty }
+pub fn is_signed(model: DataModel, ty: Scalar) -> bool
+    ensures { result ≡ is_signed model ty }
 {
     match ty {
-        Scalar::Char | Scalar::SChar | Scalar::Short | Scalar::Int | Scalar::Long | Scalar::LLong =>
-            true,
+        Scalar::Char => char_is_signed(model),
+        Scalar::SChar | Scalar::Short | Scalar::Int | Scalar::Long | Scalar::LLong => true,
         Scalar::Bool
         | Scalar::UChar
         | Scalar::UShort
@@ -63,7 +115,7 @@ pub fn is_signed(ty: Scalar) -> bool
 pub fn least(model: DataModel, ty: Scalar) -> i128
     ensures { result ≡ least_of model ty }
 {
-    if is_signed(ty) {
+    if is_signed(model, ty) {
         -(1 << (width(model, ty) - 1))
     } else {
         0
@@ -74,7 +126,7 @@ pub fn least(model: DataModel, ty: Scalar) -> i128
 pub fn greatest(model: DataModel, ty: Scalar) -> i128
     ensures { result ≡ greatest_of model ty }
 {
-    if is_signed(ty) {
+    if is_signed(model, ty) {
         (1 << (width(model, ty) - 1)) - 1
     } else {
         (1 << width(model, ty)) - 1

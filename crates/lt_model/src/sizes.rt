@@ -1,9 +1,9 @@
 ghost use Rattle.std.specs.Prelude.{◌≡◌, ◌+◌, ◌*◌, ◌<◌, ◌≤◌, ◌^◌, min, slice_get, ℕ, length};
 ghost use Rattle.std.specs.Option.{option_copied};
-ghost use Rattle.lt_model.specs.Layout.{within, rounded, scalar_extent, resized, element, elements, single_extent, type_extent, member_offset, with_member, no_members, members_extent, struct_extent, extent_of, size_in, offset_behind, offset_among, offset_in, members_of, AreRanked};
+ghost use Rattle.lt_model.specs.Layout.{within, rounded, scalar_extent, pointer_extent, extent_for, resized, element, elements, single_extent, type_extent, member_offset, with_member, no_members, members_extent, struct_extent, extent_of, size_in, offset_behind, offset_among, offset_in, members_of, AreRanked};
 
 use crate::ctype::{CType, MemberType, StructType, Structs};
-use crate::scalar::{DataModel, Scalar, width};
+use crate::scalar::{DataModel, Scalar, pointer_width, width};
 
 /// The size and the alignment of a type, in bytes.
 #[derive(Clone, Copy, PartialEq, Eq, Debug)]
@@ -26,15 +26,30 @@ fn rounded(n: u64, alignment: u64) -> Option<u64>
     n.checked_next_multiple_of(alignment)
 }
 
-// The extent of a scalar.
-fn scalar_extent(model: DataModel, ty: Scalar) -> Extent
-    ensures { result ≡ scalar_extent model ty }
+// The extent of a scalar or a pointer of so many bits.
+fn extent_for(bits: u32) -> Extent
+    requires { bits ≤ 64 }
+    ensures { result ≡ extent_for bits }
 {
-    let bytes = u64::from((width(model, ty) + 7) / 8);
+    let bytes = u64::from((bits + 7) / 8);
     Extent {
         size: bytes,
         alignment: bytes,
     }
+}
+
+// The extent of a scalar.
+fn scalar_extent(model: DataModel, ty: Scalar) -> Extent
+    ensures { result ≡ scalar_extent model ty }
+{
+    extent_for(width(model, ty))
+}
+
+// The extent of a pointer.
+fn pointer_extent(model: DataModel) -> Extent
+    ensures { result ≡ pointer_extent model }
+{
+    extent_for(pointer_width(model))
 }
 
 // The extent, with another size.
@@ -137,7 +152,7 @@ fn single_extent(
 {
     match t {
         CType::Num(s) => Some(scalar_extent(model, *s)),
-        CType::Pointer(_) => Some(scalar_extent(model, Scalar::Long)),
+        CType::Pointer(_) => Some(pointer_extent(model)),
         CType::Struct(k) => struct_extent(model, structs, depth, *k),
         CType::Void
         | CType::Array(_, _)

@@ -30,3 +30,8 @@ pub mod MadeBits
 pub mod MadeQuotients
 pub mod Wholes
 pub mod Orders
+pub mod Below
+pub mod Ends
+pub mod Conversions
+pub mod Roundings
+pub mod Heights

@@ -8,7 +8,7 @@ use Rattle.std.proofs.Math.Nat.{dvd-zero, dvd_refl, le_of_dvd, eq-zero-or-pos, e
 use Rattle.lt_model.specs.declared.scalar.DataModel.{DataModel}
 use Rattle.lt_model.specs.declared.scalar.Scalar.{Scalar}
 use Rattle.lt_model.specs.Scalar.{is_signed, least_of, greatest_of, IsValue}
-use Rattle.lt_model.proofs.Ranges.{Bounds, bounds_of}
+use Rattle.lt_model.proofs.Ranges.{Bounds, bounds_of, signed_abs}
 use Rattle.lt_value.specs.Num.{Holds, IsExactly, IsEmpty}
 use Rattle.lt_value.specs.Entry.{Entry, entry_of, IsIn, IsCongruent, IsSettled, is_within, gcd_of, written, rest_of}
 use Rattle.lt_value.specs.Table.{product, sum_row, difference_row, product_row, product_step, least_corner, greatest_corner}
@@ -196,7 +196,7 @@ natural_corners a b p q = corners (unsigned_abs a.lo) (unsigned_abs a.hi) (unsig
 -- ---- rows that fit
 pub within_settled : (m : DataModel) (s : Scalar) (row : Entry) → least_of m s ≤ℤ row.lo → row.hi ≤ℤ greatest_of m s → (z : ℤ) → IsSettled m s row z ↔ IsIn row z
 within_settled m s row p q z =
-    let k = settled_kept m s row (is_signed s || is_within m s row) refl (either_true (is_signed s) (is_within m s row) (test_from_within m s row p q)) z in (
+    let k = settled_kept m s row (is_signed m s || is_within m s row) refl (either_true (is_signed m s) (is_within m s row) (test_from_within m s row p q)) z in (
       λ h. (k.0 h).0,
       λ h. k.1 (h, record { above = omega (arith, ints, h.above); below = omega (arith, ints, h.below) }),
     )
@@ -279,7 +279,7 @@ pub same_size : (z : ℤ) → unsigned_abs z ≤ 2 ^ 126 → unsigned_abs (to_z 
 same_size z h = subst (λ (k : ℤ). unsigned_abs k ≤ 2 ^ 126) (sym (to_z-of_z w128 z (small_fits z h))) h
 
 -- ---- numbers of an unsigned type
-pub natural : (m : DataModel) (s : Scalar) (z : ℤ) → is_signed s ≡ false → IsValue m s z → pos 0 ≤ℤ z
+pub natural : (m : DataModel) (s : Scalar) (z : ℤ) → is_signed m s ≡ false → IsValue m s z → pos 0 ≤ℤ z
 natural m s z e v = subst (λ (l : ℤ). l ≤ℤ z) (unsigned_least m s e) v.above
 
 pub lo_size : (n : Num) (k : ℕ) → k ≡ unsigned_abs (to_z w128 (of_z w128 n.lo)) → k ≡ unsigned_abs n.lo
@@ -298,3 +298,9 @@ pub natural_made : (a b : Num) (k l m n step : ℕ) → pos 0 ≤ℤ a.lo → po
 natural_made a b k l m n step p q e f g h s =
     let c = natural_corners a b p q in
     product_made a b (pos (k * l)) (pos (m * n)) step (ap pos (ap₂ mul e f) ∙ c.0) (ap pos (ap₂ mul g h) ∙ c.1) s
+
+-- a value of a signed type as the code reads it is at most 2 ^ 63 from zero
+pub signed_size : (m : DataModel) (s : Scalar) (z : ℤ) → is_signed m s ≡ true → IsValue m s z → unsigned_abs (to_z w128 (of_z w128 z)) ≤ 2 ^ 63
+signed_size m s z signed v =
+    let h : unsigned_abs z ≤ 2 ^ 63 = signed_abs m s z signed v in
+    subst (λ (k : ℤ). unsigned_abs k ≤ 2 ^ 63) (sym (to_z-of_z w128 z (small_fits z (omega arith)))) h

@@ -98,7 +98,7 @@ passed_code m s hi g e less =
     let b : Bounds m s = bounds_of m s in
     omega (arith, ints, abs_up g (omega (arith, ints, b.one)))
 
-pub unsigned_least : (m : DataModel) (s : Scalar) → is_signed s ≡ false → least_of m s ≡ pos 0
+pub unsigned_least : (m : DataModel) (s : Scalar) → is_signed m s ≡ false → least_of m s ≡ pos 0
 unsigned_least m s e = rw e refl
 
 or_is : (a b c : Bool) → a ≡ false → b ≡ c → (a || b) ≡ c
@@ -111,7 +111,7 @@ not_true false f = refl
 to_z_small : (n : ℕ) → n ≤ 2 ^ 64 → to_z w128 n ≡ pos n
 to_z_small n h = to_z_pos w128 n (omega arith)
 
-pub fit_settled : (m : DataModel) (s : Scalar) (n : Num) (lo hi : ℕ) (lo' hi' : ℤ) (step : ℕ) → is_signed s ≡ false → lo ≤ hi → pos hi ≤ℤ greatest_of m s → lo' ≡ to_z w128 lo → hi' ≡ to_z w128 hi → IsExactly (IsIn (entry_of lo' hi' step lo')) n → IsExactly (IsSettled m s (entry_of (pos lo) (pos hi) step (pos lo))) n
+pub fit_settled : (m : DataModel) (s : Scalar) (n : Num) (lo hi : ℕ) (lo' hi' : ℤ) (step : ℕ) → is_signed m s ≡ false → lo ≤ hi → pos hi ≤ℤ greatest_of m s → lo' ≡ to_z w128 lo → hi' ≡ to_z w128 hi → IsExactly (IsIn (entry_of lo' hi' step lo')) n → IsExactly (IsSettled m s (entry_of (pos lo) (pos hi) step (pos lo))) n
 fit_settled m s n lo hi lo' hi' step unsigned le top p q is =
     let b : Bounds m s = bounds_of m s in
     let f : lo' ≡ pos lo = p ∙ to_z_small lo (omega (arith, ints, b.high)) in
@@ -128,9 +128,9 @@ fit_settled m s n lo hi lo' hi' step unsigned le top p q is =
     e = entry_of (pos lo) (pos hi) step (pos lo)
 
     stays : (z : ℤ) → IsSettled m s e z ↔ IsKept m s e z
-    stays = settled_kept m s e (is_signed s || is_within m s e) refl (or_is (is_signed s) (is_within m s e) true unsigned (test_from_within m s e (omega (arith, ints, (bounds_of m s).not_above)) top))
+    stays = settled_kept m s e (is_signed m s || is_within m s e) refl (or_is (is_signed m s) (is_within m s e) true unsigned (test_from_within m s e (omega (arith, ints, (bounds_of m s).not_above)) top))
 
-pub unfit_settled : (m : DataModel) (s : Scalar) (lo hi step w : ℕ) (rest : ℤ) → is_signed s ≡ false → greatest_of m s <ℤ pos hi → w ≡ width_of m s → rest ≡ to_z w128 (lo % ((1 * 2 ^ w) % 2 ^ 128)) → (z : ℤ) → IsSettled m s (entry_of (pos lo) (pos hi) step (pos lo)) z ↔ IsReduced m s step rest z
+pub unfit_settled : (m : DataModel) (s : Scalar) (lo hi step w : ℕ) (rest : ℤ) → is_signed m s ≡ false → greatest_of m s <ℤ pos hi → w ≡ width_of m s → rest ≡ to_z w128 (lo % ((1 * 2 ^ w) % 2 ^ 128)) → (z : ℤ) → IsSettled m s (entry_of (pos lo) (pos hi) step (pos lo)) z ↔ IsReduced m s step rest z
 unfit_settled m s lo hi step w rest unsigned top e is z =
     let r = reduces z in (
       λ h. let k = r.0 h in (IsCongruent-trans g rest (pos lo) z (IsCongruent-sym g (pos lo) rest near) k.0, k.1),
@@ -150,7 +150,7 @@ unfit_settled m s lo hi step w rest unsigned top e is z =
     fails t = omega (arith, ints, (within_from_test m s row t).1)
 
     reduces : (z : ℤ) → IsSettled m s row z ↔ IsReduced m s step (pos lo) z
-    reduces = settled_reduced m s row (is_signed s || is_within m s row) refl (or_is (is_signed s) (is_within m s row) false unsigned (not_true (is_within m s row) fails))
+    reduces = settled_reduced m s row (is_signed m s || is_within m s row) refl (or_is (is_signed m s) (is_within m s row) false unsigned (not_true (is_within m s row) fails))
 
     size : lo % n ≤ 2 ^ 64
     size = omega (arith, mod-lt lo (bounds_of m s).some, (bounds_of m s).power)

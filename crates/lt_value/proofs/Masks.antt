@@ -7,7 +7,7 @@ use Rattle.std.proofs.Math.Pow.{pow_mono}
 use Rattle.std.proofs.lemmas.Int.{ints, by_lt_z}
 use Rattle.lt_model.specs.Scalar.{greatest_of}
 use Rattle.lt_model.specs.declared.scalar.DataModel.{DataModel}
-use Rattle.lt_model.specs.declared.scalar.DataModel.TheVariants.{Ilp32, Lp64}
+use Rattle.lt_model.specs.declared.scalar.DataModel.TheVariants.{Ilp32, Lp64, Llp64, Ilp32U, Lp64U, Llp64U}
 use Rattle.lt_model.specs.declared.scalar.Scalar.{Scalar}
 use Rattle.lt_model.specs.declared.scalar.Scalar.TheVariants as S
 use Rattle.lt_value.specs.Table.{mask_of}
@@ -15,7 +15,12 @@ use Rattle.lt_value.specs.Table.{mask_of}
 -- the greatest value of a type is one of these
 pub greatest_power : (m : DataModel) (s : Scalar) → (j : ℕ) × (greatest_of m s ≡ pos (2 ^ j - 1)) × (j ≤ 64)
 greatest_power m S.Bool = (1, refl, omega arith)
-greatest_power m S.Char = (7, refl, omega arith)
+greatest_power Ilp32 S.Char = (7, refl, omega arith)
+greatest_power Lp64 S.Char = (7, refl, omega arith)
+greatest_power Llp64 S.Char = (7, refl, omega arith)
+greatest_power Ilp32U S.Char = (8, refl, omega arith)
+greatest_power Lp64U S.Char = (8, refl, omega arith)
+greatest_power Llp64U S.Char = (8, refl, omega arith)
 greatest_power m S.SChar = (7, refl, omega arith)
 greatest_power m S.UChar = (8, refl, omega arith)
 greatest_power m S.Short = (15, refl, omega arith)
@@ -24,8 +29,16 @@ greatest_power m S.Int = (31, refl, omega arith)
 greatest_power m S.UInt = (32, refl, omega arith)
 greatest_power Ilp32 S.Long = (31, refl, omega arith)
 greatest_power Lp64 S.Long = (63, refl, omega arith)
+greatest_power Llp64 S.Long = (31, refl, omega arith)
+greatest_power Ilp32U S.Long = (31, refl, omega arith)
+greatest_power Lp64U S.Long = (63, refl, omega arith)
+greatest_power Llp64U S.Long = (31, refl, omega arith)
 greatest_power Ilp32 S.ULong = (32, refl, omega arith)
 greatest_power Lp64 S.ULong = (64, refl, omega arith)
+greatest_power Llp64 S.ULong = (32, refl, omega arith)
+greatest_power Ilp32U S.ULong = (32, refl, omega arith)
+greatest_power Lp64U S.ULong = (64, refl, omega arith)
+greatest_power Llp64U S.ULong = (32, refl, omega arith)
 greatest_power m S.LLong = (63, refl, omega arith)
 greatest_power m S.ULLong = (64, refl, omega arith)
 

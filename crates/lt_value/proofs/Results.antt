@@ -41,7 +41,7 @@ divided m s x (negsuc n) z v e = by_test (is_value m s (int_div x (negsuc n))) Q
     by_test false kind z v e = cc
 
 shifted : (m : DataModel) (s : Scalar) (x y v : ℤ) → value_of m O.Shl s x y ≡ Ok v → given Shift m s (x *ℤ pos (power y)) ≡ Ok v
-shifted m s x y v e = by_tests (is_count m s y) (is_signed s) (int_lt x (pos 0)) e
+shifted m s x y v e = by_tests (is_count m s y) (is_signed m s) (int_lt x (pos 0)) e
   where
     z : ℤ
     z = x *ℤ pos (power y)

@@ -66,7 +66,7 @@ either_way false false false A B C D less f g h x = h x
 -- what is left grows with the entry
 pub settled_wider : (m : DataModel) (s : Scalar) (e f : Entry) (z : ℤ) → IsWider e f → IsSettled m s e z → IsSettled m s f z
 settled_wider m s e f z w =
-    either_way (is_signed s) (is_within m s e) (is_within m s f) (IsIn e z × IsValue m s z) (IsCongruent (gcd_of e.step n) e.rest z × IsValue m s z) (IsIn f z × IsValue m s z) (IsCongruent (gcd_of f.step n) f.rest z × IsValue m s z)
+    either_way (is_signed m s) (is_within m s e) (is_within m s f) (IsIn e z × IsValue m s z) (IsCongruent (gcd_of e.step n) e.rest z × IsValue m s z) (IsIn f z × IsValue m s z) (IsCongruent (gcd_of f.step n) f.rest z × IsValue m s z)
     (both_within m s e f w)
     (λ h. (in_wider e f z w h.0, h.1))
     (λ h. (congruent_by f.step (gcd_of f.step n) f.rest f.rest z small (IsCongruent-same (gcd_of f.step n) f.rest f.rest refl) (in_wider e f z w h.0).congruent, h.1))
@@ -113,7 +113,7 @@ wrapped_congruent m s z =
 
 -- a signed result that is given, and an unsigned one as it is reduced
 abbrev pub given : Ub → DataModel → Scalar → ℤ → Result ℤ Ub
-given kind m s z = if is_signed s then exact_or kind m s z else Ok (wrapped m s z)
+given kind m s z = if is_signed m s then exact_or kind m s z else Ok (wrapped m s z)
 
 exact_given : (kind : Ub) (m : DataModel) (s : Scalar) (z v : ℤ) → exact_or kind m s z ≡ Ok v → (v ≡ z) × IsValue m s z
 exact_given kind m s z v e = by_test (is_value m s z) refl e
@@ -125,7 +125,7 @@ exact_given kind m s z v e = by_test (is_value m s z) refl e
     by_test false t e = cc
 
 pub settled_given : (kind : Ub) (m : DataModel) (s : Scalar) (e : Entry) (z v : ℤ) → IsIn e z → given kind m s z ≡ Ok v → IsSettled m s e v
-settled_given kind m s e z v h g = by_tests (is_signed s) (is_within m s e) refl g
+settled_given kind m s e z v h g = by_tests (is_signed m s) (is_within m s e) refl g
   where
     n : ℕ
     n = 2 ^ width_of m s
@@ -151,7 +151,7 @@ settled_given kind m s e z v h g = by_tests (is_signed s) (is_within m s e) refl
 
 -- a value among the entry's numbers is kept
 pub settled_value : (m : DataModel) (s : Scalar) (e : Entry) (z : ℤ) → IsIn e z → IsValue m s z → IsSettled m s e z
-settled_value m s e z h value = by_test (is_signed s || is_within m s e)
+settled_value m s e z h value = by_test (is_signed m s || is_within m s e)
   where
     n : ℕ
     n = 2 ^ width_of m s

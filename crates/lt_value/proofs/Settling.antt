@@ -143,15 +143,15 @@ none_reduced m s lo hi rest step g p q d none z h =
     none z (record { above = omega (arith, ints, h.1.above); below = omega (arith, ints, h.1.below); congruent = subst (λ (k : ℕ). IsCongruent k rest z) (sym (gcd_is step (2 ^ width_of m s) g d)) h.0 })
 
 -- what isn't reduced, and what is
-pub settled_kept : (m : DataModel) (s : Scalar) (e : Entry) (t : Bool) → (t ≡ (is_signed s || is_within m s e)) → t ≡ true → (z : ℤ) → IsSettled m s e z ↔ IsKept m s e z
-settled_kept m s e t is yes' z = by_test (is_signed s || is_within m s e) (sym is ∙ yes')
+pub settled_kept : (m : DataModel) (s : Scalar) (e : Entry) (t : Bool) → (t ≡ (is_signed m s || is_within m s e)) → t ≡ true → (z : ℤ) → IsSettled m s e z ↔ IsKept m s e z
+settled_kept m s e t is yes' z = by_test (is_signed m s || is_within m s e) (sym is ∙ yes')
   where
     by_test : (u : Bool) → u ≡ true → MatchBool u (IsKept m s e z) (IsReduced m s e.step e.rest z) ↔ IsKept m s e z
     by_test true h = (λ k. k, λ k. k)
     by_test false h = cc
 
-pub settled_reduced : (m : DataModel) (s : Scalar) (e : Entry) (t : Bool) → (t ≡ (is_signed s || is_within m s e)) → t ≡ false → (z : ℤ) → IsSettled m s e z ↔ IsReduced m s e.step e.rest z
-settled_reduced m s e t is no' z = by_test (is_signed s || is_within m s e) (sym is ∙ no')
+pub settled_reduced : (m : DataModel) (s : Scalar) (e : Entry) (t : Bool) → (t ≡ (is_signed m s || is_within m s e)) → t ≡ false → (z : ℤ) → IsSettled m s e z ↔ IsReduced m s e.step e.rest z
+settled_reduced m s e t is no' z = by_test (is_signed m s || is_within m s e) (sym is ∙ no')
   where
     by_test : (u : Bool) → u ≡ false → MatchBool u (IsKept m s e z) (IsReduced m s e.step e.rest z) ↔ IsReduced m s e.step e.rest z
     by_test true h = cc

@@ -80,7 +80,7 @@ count_of m s y r z e = by_test (is_count m s y) refl e
     by_test false t e = cc
 
 shiftable : (m : DataModel) (s : Scalar) (x y z : ℤ) → IsValue m s x → value_of m O.Shl s x y ≡ Ok z → pos 0 ≤ℤ x
-shiftable m s x y z v e = by_tests (is_count m s y) (is_signed s) (int_lt x (pos 0)) refl refl e
+shiftable m s x y z v e = by_tests (is_count m s y) (is_signed m s) (int_lt x (pos 0)) refl refl e
   where
     k : ℤ
     k = x *ℤ pos (power y)
@@ -88,7 +88,7 @@ shiftable m s x y z v e = by_tests (is_count m s y) (is_signed s) (int_lt x (pos
     natural : int_lt x (pos 0) ≡ false → pos 0 ≤ℤ x
     natural e = omega (arith, ints)
 
-    by_tests : (t u w : Bool) → is_signed s ≡ u → int_lt x (pos 0) ≡ w → (if t then (if u then (if w then Err Shift else exact_or Shift m s k) else Ok (wrapped m s k)) else Err Shift) ≡ Ok z → pos 0 ≤ℤ x
+    by_tests : (t u w : Bool) → is_signed m s ≡ u → int_lt x (pos 0) ≡ w → (if t then (if u then (if w then Err Shift else exact_or Shift m s k) else Ok (wrapped m s k)) else Err Shift) ≡ Ok z → pos 0 ≤ℤ x
     by_tests true true true p q e = cc
     by_tests true true false p q e = natural q
     by_tests true false w p q e = subst (λ (l : ℤ). l ≤ℤ x) (unsigned_least m s p) v.above

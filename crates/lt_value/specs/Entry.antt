@@ -60,7 +60,7 @@ IsReduced m s step rest z = IsCongruent (gcd_of step (2 ^ width_of m s)) rest z 
 
 -- A signed result is met with the type's range, and an unsigned one that doesn't fit is reduced.
 abbrev pub IsSettled : DataModel → Scalar → Entry → ℤ → Type 0
-IsSettled m s e z = MatchBool (is_signed s || is_within m s e) (IsKept m s e z) (IsReduced m s e.step e.rest z)
+IsSettled m s e z = MatchBool (is_signed m s || is_within m s e) (IsKept m s e z) (IsReduced m s e.step e.rest z)
 
 -- the least number from lo on that is congruent to the rest is skip above lo
 pub record IsSkip (lo : ℤ) (step : ℕ) (rest : ℤ) (skip : ℕ) : Type 0 where

@@ -5,3 +5,5 @@ pub mod Offsets
 pub mod Entry
 pub mod Table
 pub mod Forward
+pub mod Conversion
+pub mod Rounding

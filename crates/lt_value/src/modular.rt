@@ -62,7 +62,7 @@ pub(crate) fn inverse_of(a: u128, m: u128) -> Inverse
 }
 
 /// Zero divides zero alone.
-fn divides(step: u128, n: u128) -> bool
+pub(crate) fn divides(step: u128, n: u128) -> bool
     ensures { result ≡ true ↔ (step ∣ n) }
 {
     if step == 0 { n == 0 } else { n % step == 0 }

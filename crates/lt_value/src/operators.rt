@@ -7,7 +7,7 @@ mod arithmetic;
 mod bits;
 mod division;
 pub(crate) mod operand;
-mod settle;
+pub(crate) mod settle;
 mod shift;
 mod span;
 mod truth;

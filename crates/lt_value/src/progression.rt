@@ -14,7 +14,7 @@ pub(crate) fn distance(from: i128, to: i128) -> u128
 }
 
 /// What a number leaves by a step.
-fn rest_by(step: u128, z: i128) -> u128
+pub(crate) fn rest_by(step: u128, z: i128) -> u128
     requires { step < 2 ^ 66 }
     ensures leaves { Leaves step result z }
     ensures none { step ≡ 0 → result ≡ 0 }

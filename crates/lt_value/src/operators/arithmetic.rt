@@ -57,7 +57,7 @@ fn product(x: i128, y: i128) -> i128
 
 /// Products of a signed type lie between the products of ends.
 fn signed_products(model: DataModel, ty: Scalar, a: &Num, b: &Num) -> Option<Num>
-    requires signed { is_signed ty ≡ true }
+    requires signed { is_signed model ty ≡ true }
     requires taken { AreTaken model Mul ty a.now b.now }
     ensures some { IfSome result (IsExactly (IsResult model Mul ty a.now b.now)) }
     ensures none { IfNone result (IsEmpty (IsResult model Mul ty a.now b.now)) }
@@ -72,7 +72,7 @@ fn signed_products(model: DataModel, ty: Scalar, a: &Num, b: &Num) -> Option<Num
 
 /// Products of an unsigned type go from that of the least members to that of the greatest.
 fn unsigned_products(model: DataModel, ty: Scalar, a: &Num, b: &Num) -> Option<Num>
-    requires unsigned { is_signed ty ≡ false }
+    requires unsigned { is_signed model ty ≡ false }
     requires taken { AreTaken model Mul ty a.now b.now }
     ensures some { IfSome result (IsExactly (IsResult model Mul ty a.now b.now)) }
     ensures none { IfNone result (IsEmpty (IsResult model Mul ty a.now b.now)) }
@@ -88,7 +88,7 @@ pub(crate) fn products(model: DataModel, ty: Scalar, a: &Num, b: &Num) -> Option
     ensures some { IfSome result (IsExactly (IsResult model Mul ty a.now b.now)) }
     ensures none { IfNone result (IsEmpty (IsResult model Mul ty a.now b.now)) }
 {
-    if is_signed(ty) {
+    if is_signed(model, ty) {
         signed_products(model, ty, a, b)
     } else {
         unsigned_products(model, ty, a, b)

@@ -71,7 +71,7 @@ fn kept(model: DataModel, ty: Scalar, lo: i128, hi: i128, step: u128) -> Option<
 }
 
 /// The values of a type that are congruent to the rest modulo the common divisor of a step and 2 ^ w.
-fn reduced(model: DataModel, ty: Scalar, step: u128, rest: i128) -> Option<Num>
+pub(crate) fn reduced(model: DataModel, ty: Scalar, step: u128, rest: i128) -> Option<Num>
     requires { unsigned_abs rest ≤ 2 ^ 126 }
     ensures some { IfSome result (IsExactly (IsReduced model ty step rest)) }
     ensures none { IfNone result (IsEmpty (IsReduced model ty step rest)) }
@@ -82,9 +82,9 @@ fn reduced(model: DataModel, ty: Scalar, step: u128, rest: i128) -> Option<Num>
 
 /// Whether a result from `lo` to `hi` isn't reduced.
 fn stays(model: DataModel, ty: Scalar, lo: i128, hi: i128) -> bool
-    ensures { result ≡ (is_signed ty || is_within model ty (entry_of lo hi 0 lo)) }
+    ensures { result ≡ (is_signed model ty || is_within model ty (entry_of lo hi 0 lo)) }
 {
-    is_signed(ty) || (least(model, ty) <= lo && hi <= greatest(model, ty))
+    is_signed(model, ty) || (least(model, ty) <= lo && hi <= greatest(model, ty))
 }
 
 /// What is left in a type of the numbers from `lo` to `hi` by a step: a signed result is met with the type's range, and
@@ -110,7 +110,7 @@ pub(crate) fn settle_unsigned(
     hi: u128,
     step: u128,
 ) -> Option<Num>
-    requires unsigned { is_signed ty ≡ false }
+    requires unsigned { is_signed model ty ≡ false }
     requires ordered { lo ≤ hi }
     ensures some { IfSome result (IsExactly (IsSettled model ty (entry_of (pos lo) (pos hi) step (pos lo)))) }
     ensures none { IfNone result (IsEmpty (IsSettled model ty (entry_of (pos lo) (pos hi) step (pos lo)))) }

@@ -42,7 +42,7 @@ pub(crate) fn left_shifts(model: DataModel, ty: Scalar, a: &Num, b: &Num) -> Opt
     let step = left_step(a, b, low);
     let lo = a.lo.unsigned_abs() * low;
     let hi = a.hi.unsigned_abs() * high;
-    if is_signed(ty) {
+    if is_signed(model, ty) {
         settle(model, ty, lo as i128, hi as i128, step)
     } else {
         settle_unsigned(model, ty, lo, hi, step)

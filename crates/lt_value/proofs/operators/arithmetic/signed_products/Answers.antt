@@ -1,8 +1,32 @@
 use Rattle.lt_model.proofs.Ranges.{signed_abs}
 use Rattle.lt_value.specs.Entry.{written}
 use Rattle.lt_value.specs.Table.{product, product_row}
-use Rattle.lt_value.proofs.Made.{AreFour, made_some, made_none, product_made, product_step_small, step_narrow, value_size, small_fits, least_span, greatest_span, least_small, same_size}
+use Rattle.lt_value.proofs.Made.{AreFour, made_some, made_none, product_made, product_step_small, step_narrow, signed_size, value_size, small_fits, least_span, greatest_span, least_small, same_size}
 use Rattle.lt_value.proofs.operators.arithmetic.signed_products.Goals as goal
+
+pub product-first-requires-clause-left : goal.product-first-requires-clause-left
+product-first-requires-clause-left c = signed_size c.args.model c.args.ty c.args.a.now.lo c.requires.signed c.requires.taken.left_lo
+
+pub product-first-requires-clause-right : goal.product-first-requires-clause-right
+product-first-requires-clause-right c = signed_size c.args.model c.args.ty c.args.b.now.lo c.requires.signed c.requires.taken.right_lo
+
+pub product-second-requires-clause-left : goal.product-second-requires-clause-left
+product-second-requires-clause-left c = signed_size c.args.model c.args.ty c.args.a.now.lo c.requires.signed c.requires.taken.left_lo
+
+pub product-second-requires-clause-right : goal.product-second-requires-clause-right
+product-second-requires-clause-right c = signed_size c.args.model c.args.ty c.args.b.now.hi c.requires.signed c.requires.taken.right_hi
+
+pub product-third-requires-clause-left : goal.product-third-requires-clause-left
+product-third-requires-clause-left c = signed_size c.args.model c.args.ty c.args.a.now.hi c.requires.signed c.requires.taken.left_hi
+
+pub product-third-requires-clause-right : goal.product-third-requires-clause-right
+product-third-requires-clause-right c = signed_size c.args.model c.args.ty c.args.b.now.lo c.requires.signed c.requires.taken.right_lo
+
+pub product-fourth-requires-clause-left : goal.product-fourth-requires-clause-left
+product-fourth-requires-clause-left c = signed_size c.args.model c.args.ty c.args.a.now.hi c.requires.signed c.requires.taken.left_hi
+
+pub product-fourth-requires-clause-right : goal.product-fourth-requires-clause-right
+product-fourth-requires-clause-right c = signed_size c.args.model c.args.ty c.args.b.now.hi c.requires.signed c.requires.taken.right_hi
 
 pub product_step-requires-clause-left_step : goal.product_step-requires-clause-left_step
 product_step-requires-clause-left_step c = step_narrow c.args.model c.args.ty c.args.a.now c.requires.taken.left_lo c.requires.taken.left_hi

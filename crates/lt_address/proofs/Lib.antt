@@ -1,0 +1,4 @@
+pub mod Pointing
+pub mod Merging
+pub mod Comparing
+pub mod Parts
