@@ -4,7 +4,7 @@ use Rattle.lt_tree.specs.declared.terminal.Terminal.TheVariants as t
 use Rattle.lt_tree.specs.Tree as c
 use Rattle.lt_tree.specs.Symbols.{Symbol, sign, start_of}
 use Rattle.lt_tree.specs.Scope.{Scope, after_specifiers, after_declarator, after_initialiser, makes_types}
-use Rattle.lt_tree.specs.Ahead.{Naming, naming_behind, same_terminal, sees, takes_none}
+use Rattle.lt_tree.specs.Ahead.{Naming, named, naming_behind, same_terminal, sees, takes_none}
 use Rattle.lt_tree.specs.Grammar as g
 use Rattle.lt_tree.specs.Declarations as dc
 use Rattle.lt_tree.specs.Declarations.{IsInitialiser, AreInitialisers, IsOptionalInitialiser, AreDeclarators, IsDeclaration}
@@ -151,22 +151,22 @@ pub record Declarators (scope : Scope) (naming : Naming) (type : Bool) (ts : Lis
   pub short : length after ≤ length ts
   pub no_semicolon : takes_none naming ≡ false → sees t.Semicolon ts ≡ false
   pub no_brace : sees t.OpenBrace after ≡ false
-  pub behind_read : Read (λ n. read.declarators n scope naming type first) walk_behind 2 after ds rest between more first_read.now
+  pub behind_read : Read (λ n. read.declarators n scope type first) walk_behind 2 after ds rest between more first_read.now
   pub whole : (w : Walked) → walk_declarators ds w ≡ walk_declarator first (walk_behind ds w)
 
-last_behind_read : (n : ℕ) (scope : Scope) (naming : Naming) (type : Bool) (at : ℕ) (us rest : List Symbol) (d : c.Declarator) (i : Option c.Initialiser) (ends now : List ℕ)
+last_behind_read : (n : ℕ) (scope : Scope) (type : Bool) (at : ℕ) (us rest : List Symbol) (d : c.Declarator) (i : Option c.Initialiser) (ends now : List ℕ)
     → read.optional_initialiser n (after_declarator type d scope) (us, ends) ≡ Some (i, (sign t.Semicolon at ∷ rest, now))
-    → read.declarators (suc n) scope naming type d (us, ends) ≡ Some (record { declarator = d; initialiser = i } ∷ [], (rest, now))
+    → read.declarators (suc n) scope type d (us, ends) ≡ Some (record { declarator = d; initialiser = i } ∷ [], (rest, now))
 unfolding read.optional_initialiser same_terminal
-last_behind_read n scope naming type at us rest d i ends now is = rw is refl
+last_behind_read n scope type at us rest d i ends now is = rw is refl
 
-more_behind_read : (n : ℕ) (scope : Scope) (naming : Naming) (type : Bool) (at : ℕ) (us vs ws rest : List Symbol) (d f : c.Declarator) (i : Option c.Initialiser) (ds : List c.InitDeclarator) (ends m1 m2 now : List ℕ)
+more_behind_read : (n : ℕ) (scope : Scope) (type : Bool) (at : ℕ) (us vs ws rest : List Symbol) (d f : c.Declarator) (i : Option c.Initialiser) (ds : List c.InitDeclarator) (ends m1 m2 now : List ℕ)
     → read.optional_initialiser n (after_declarator type d scope) (us, ends) ≡ Some (i, (sign t.Comma at ∷ vs, m1))
-    → ex.declarator n (after_initialiser i (after_declarator type d scope)) naming (vs, m1) ≡ Some (f, (ws, m2))
-    → read.declarators n (after_initialiser i (after_declarator type d scope)) naming type f (ws, m2) ≡ Some (ds, (rest, now))
-    → read.declarators (suc n) scope naming type d (us, ends) ≡ Some (record { declarator = d; initialiser = i } ∷ ds, (rest, now))
+    → ex.declarator n (after_initialiser i (after_declarator type d scope)) named (vs, m1) ≡ Some (f, (ws, m2))
+    → read.declarators n (after_initialiser i (after_declarator type d scope)) type f (ws, m2) ≡ Some (ds, (rest, now))
+    → read.declarators (suc n) scope type d (us, ends) ≡ Some (record { declarator = d; initialiser = i } ∷ ds, (rest, now))
 unfolding read.optional_initialiser same_terminal
-more_behind_read n scope naming type at us vs ws rest d f i ds ends m1 m2 now first second others = rw (first, second, others) refl
+more_behind_read n scope type at us vs ws rest d f i ds ends m1 m2 now first second others = rw (first, second, others) refl
 
 last_declarator_complete : (scope : Scope) (naming : Naming) (type : Bool) (at : ℕ) (ts us rest : List Symbol) (d : c.Declarator) (i : Option c.Initialiser) (spots between more ends : List ℕ)
     → length us ≤ length ts → (takes_none naming ≡ false → sees t.Semicolon ts ≡ false) → sees t.OpenBrace us ≡ false
@@ -183,7 +183,7 @@ last_declarator_complete scope naming type at ts us rest d i spots between more 
       short = short;
       no_semicolon = no_semicolon;
       no_brace = no_brace;
-      behind_read = once y.now y.walked (omega arith) (λ n big. last_behind_read n scope naming type at us rest d i x.now y.now (y.reads n (omega arith)));
+      behind_read = once y.now y.walked (omega arith) (λ n big. last_behind_read n scope type at us rest d i x.now y.now (y.reads n (omega arith)));
       whole = λ w. refl;
     }
 
@@ -191,7 +191,7 @@ more_declarators_complete : (scope : Scope) (naming : Naming) (type : Bool) (at 
     → length us ≤ length ts → suc (length vs) ≤ length us → (takes_none naming ≡ false → sees t.Semicolon ts ≡ false) → sees t.OpenBrace us ≡ false
     → Read (λ n. ex.declarator n scope naming) walk_declarator 5 ts d us spots one ends
     → ((now : List ℕ) → OptionalInitialiser (after_declarator type d scope) us i (sign t.Comma at ∷ vs) one two now)
-    → ((now : List ℕ) → Declarators (after_initialiser i (after_declarator type d scope)) naming type vs ds rest two more now)
+    → ((now : List ℕ) → Declarators (after_initialiser i (after_declarator type d scope)) named type vs ds rest two more now)
     → Declarators scope naming type ts (record { declarator = d; initialiser = i } ∷ ds) rest spots more ends
 more_declarators_complete scope naming type at ts us vs rest d i ds spots one two more ends short shorter no_semicolon no_brace x cb cd =
     let y = cb x.now in
@@ -208,7 +208,7 @@ more_declarators_complete scope naming type at ts us vs rest d i ds spots one tw
       behind_read =
           once z.behind_read.now
           (ap (walk_optional_initialiser i) (z.whole (z.behind_read.now, more) ∙ ap (walk_declarator z.first) z.behind_read.walked ∙ z.first_read.walked) ∙ y.walked) (omega arith)
-          (λ n big. more_behind_read n scope naming type at us vs z.after rest d z.first i ds x.now y.now z.first_read.now z.behind_read.now
+          (λ n big. more_behind_read n scope type at us vs z.after rest d z.first i ds x.now y.now z.first_read.now z.behind_read.now
           (y.reads n (omega arith)) (z.first_read.reads n (omega arith)) (z.behind_read.reads n (omega arith)));
       whole = λ w. refl;
     }
@@ -244,7 +244,7 @@ alone_read n scope at ts rest ss ends now is = rw is refl
 declares_read : (n : ℕ) (scope : Scope) (ts us vs rest : List Symbol) (ss : c.Specifiers) (d : c.Declarator) (ds : List c.InitDeclarator) (ends m1 m2 now : List ℕ) → sees t.Semicolon us ≡ false
     → ex.specifiers n scope (ts, ends) ≡ Some (ss, (us, m1))
     → ex.declarator n (after_specifiers ss scope) (naming_behind ss) (us, m1) ≡ Some (d, (vs, m2))
-    → read.declarators n (after_specifiers ss scope) (naming_behind ss) (makes_types ss) d (vs, m2) ≡ Some (ds, (rest, now))
+    → read.declarators n (after_specifiers ss scope) (makes_types ss) d (vs, m2) ≡ Some (ds, (rest, now))
     → read.declaration (suc n) scope (ts, ends) ≡ Some (record { specifiers = ss; declarators = ds }, (rest, now))
 unfolding read.optional_initialiser
 declares_read n scope ts us vs rest ss d ds ends m1 m2 now front first second others = rw (first, front, second, others) refl

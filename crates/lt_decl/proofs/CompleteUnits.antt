@@ -40,7 +40,7 @@ alone_read n scope at ts rest ss ends now is = rw is refl
 declares_read : (n : ℕ) (scope : Scope) (ts us vs rest : List Symbol) (ss : c.Specifiers) (d : c.Declarator) (ds : List c.InitDeclarator) (ends m1 m2 now : List ℕ) → sees t.Semicolon us ≡ false → sees t.OpenBrace vs ≡ false
     → ex.specifiers (suc n) scope (ts, ends) ≡ Some (ss, (us, m1))
     → ex.declarator (suc n) (after_specifiers ss scope) (naming_behind ss) (us, m1) ≡ Some (d, (vs, m2))
-    → read.declarators n (after_specifiers ss scope) (naming_behind ss) (makes_types ss) d (vs, m2) ≡ Some (ds, (rest, now))
+    → read.declarators n (after_specifiers ss scope) (makes_types ss) d (vs, m2) ≡ Some (ds, (rest, now))
     → read.external (suc (suc n)) scope (ts, ends) ≡ Some (c.Declared (record { specifiers = ss; declarators = ds }), (rest, start_of ts ∷ now))
 unfolding read.external
 declares_read n scope ts us vs rest ss d ds ends m1 m2 now front no_brace first second others = rw (first, front, second, no_brace, others) refl

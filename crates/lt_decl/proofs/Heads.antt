@@ -5,10 +5,10 @@ use Rattle.lt_tree.specs.Tree as c
 use Rattle.lt_tree.specs.Scope.{Scope, after_optional, after_start}
 use Rattle.lt_expr.specs.Front.{Rest}
 use Rattle.lt_expr.specs.Parsing.{Parsing, scope_of, rest_of, GoesOn, Hides}
-use Rattle.lt_decl.specs.Declares.{Declares}
+use Rattle.lt_expr.specs.Parsing.{Declares}
 use Rattle.lt_decl.specs.Singles.{Head, head, after_head}
 use Rattle.lt_decl.specs.Reading as reading
-use Rattle.lt_decl.proofs.Scopes.{same_scope, read_there, within_here, within_on, within_hides, within_declares, declares}
+use Rattle.lt_expr.proofs.Scopes.{same_scope, read_there, within_here, within_on, within_hides, within_declares, declares}
 
 three_read : (n : ℕ) (scope : Scope) (r u v w : Rest) (f : c.ForStart) (e s : Option c.Expression)
     → reading.for_start n scope r ≡ Some (f, u) → reading.optional n (after_start f scope) t.Semicolon u ≡ Some (e, v) → reading.optional n (after_optional e (after_start f scope)) t.CloseParen v ≡ Some (s, w)

@@ -1,12 +1,9 @@
 pub mod Fronts
 pub mod Joins
-pub mod Scopes
-pub mod Loops
 pub mod Heads
 pub mod OnMarks
 pub mod Turns
 pub mod NameRows
-pub mod Failures
 pub mod WalkRows
 pub mod Parses
 pub mod Walks

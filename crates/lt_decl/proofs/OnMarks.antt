@@ -11,7 +11,7 @@ use Rattle.lt_expr.specs.Parsing.{Parsing, scope_of, rest_of, GoesOn}
 use Rattle.lt_expr.specs.Reading as ex
 use Rattle.lt_decl.specs.Items.{marks_by}
 use Rattle.lt_decl.specs.Reading as reading
-use Rattle.lt_decl.proofs.Scopes.{same_scope, read_there}
+use Rattle.lt_expr.proofs.Scopes.{same_scope, read_there}
 
 through_put : {A B : Type 0} (put : A → A) (read : Option (A × Rest)) (k : A × Rest → Option B) → (read >>= λ m. k (put m.0, m.1)) ≡ (after put read >>= k)
 through_put put None k = refl

@@ -4,7 +4,7 @@ use Rattle.lt_tree.specs.declared.terminal.Terminal.TheVariants as t
 use Rattle.lt_tree.specs.Tree as c
 use Rattle.lt_tree.specs.Symbols.{Symbol, start_of}
 use Rattle.lt_tree.specs.Scope.{Scope, after_specifiers, after_declarator, after_initialiser, makes_types}
-use Rattle.lt_tree.specs.Ahead.{Naming, naming_behind}
+use Rattle.lt_tree.specs.Ahead.{Naming, named, naming_behind}
 use Rattle.lt_tree.specs.Grammar as g
 use Rattle.lt_tree.specs.Declarations as d
 use Rattle.lt_tree.specs.Declarations.{IsInitialiser, AreInitialisers, IsOptionalInitialiser, AreDeclarators, IsDeclaration}
@@ -62,7 +62,7 @@ last_declarator_rule seen h k = d.last_declarator h k
 
 more_declarators_rule : {scope : Scope} {naming : Naming} {type : Bool} {ts us vs rest : List Symbol} {x : c.Declarator} {i : Option c.Initialiser} {ds : List c.InitDeclarator} {spots first second more : List ℕ}
     → Sees t.Comma vs → g.IsDeclarator scope naming ts x us spots first → IsOptionalInitialiser (after_declarator type x scope) us i vs first second
-    → AreDeclarators (after_initialiser i (after_declarator type x scope)) naming type (drop 1 vs) ds rest second more
+    → AreDeclarators (after_initialiser i (after_declarator type x scope)) named type (drop 1 vs) ds rest second more
     → AreDeclarators scope naming type ts (record { declarator = x; initialiser = i } ∷ ds) rest spots more
 more_declarators_rule seen h k l = d.more_declarators h k l
 
@@ -111,10 +111,10 @@ declarators_step n optional declarators scope naming type x from r h =
     both (read.optional_initialiser n (after_declarator type x scope) r) (optional (after_declarator type x scope) r) (λ i k.
     seeing t.Comma i.1.0 (λ q. cc)
     (λ s.
-    both (e.declarator n (after_initialiser i.0 (after_declarator type x scope)) naming (behind i.1))
-    ((sound n).declarator (after_initialiser i.0 (after_declarator type x scope)) naming (behind i.1)) (λ y l.
-    both (read.declarators n (after_initialiser i.0 (after_declarator type x scope)) naming type y.0 y.1)
-    (declarators (after_initialiser i.0 (after_declarator type x scope)) naming type y.0 (behind i.1) y.1 l) (λ z m.
+    both (e.declarator n (after_initialiser i.0 (after_declarator type x scope)) named (behind i.1))
+    ((sound n).declarator (after_initialiser i.0 (after_declarator type x scope)) named (behind i.1)) (λ y l.
+    both (read.declarators n (after_initialiser i.0 (after_declarator type x scope)) type y.0 y.1)
+    (declarators (after_initialiser i.0 (after_declarator type x scope)) named type y.0 (behind i.1) y.1 l) (λ z m.
     given (three (λ spots first second more a b f. more_declarators_rule s a b f) h k m))))
     (λ last.
     expecting t.Semicolon i.1 _ (λ q. cc) (λ s.
@@ -128,7 +128,7 @@ declaration_step n declarators scope r =
     (λ alone. given (by_rule (λ spots more k. alone_rule alone k) h))
     (λ not.
     both (e.declarator n (after_specifiers s.0 scope) (naming_behind s.0) s.1) ((sound n).declarator (after_specifiers s.0 scope) (naming_behind s.0) s.1) (λ x k.
-    both (read.declarators n (after_specifiers s.0 scope) (naming_behind s.0) (makes_types s.0) x.0 x.1)
+    both (read.declarators n (after_specifiers s.0 scope) (makes_types s.0) x.0 x.1)
     (declarators (after_specifiers s.0 scope) (naming_behind s.0) (makes_types s.0) x.0 s.1 x.1 k) (λ ds l.
     given (two (λ spots middle more a b. d.with_declarators a b) h l)))))
 

@@ -43,7 +43,7 @@ OptionalInitialiserSound n = (scope : Scope) (r : Rest)
 abbrev pub DeclaratorsSound : ℕ → Type 0
 DeclaratorsSound n = (scope : Scope) (naming : Naming) (type : Bool) (d : c.Declarator) (from r : Rest)
     → Spotted (walk_declarator d) r.1 from.1 (g.IsDeclarator scope naming from.0 d r.0)
-    → Yields (read.declarators n scope naming type d r) (λ x. Spotted (walk_declarators x.0) x.1.1 from.1 (AreDeclarators scope naming type from.0 x.0 x.1.0))
+    → Yields (read.declarators n scope type d r) (λ x. Spotted (walk_declarators x.0) x.1.1 from.1 (AreDeclarators scope naming type from.0 x.0 x.1.0))
 
 abbrev pub DeclarationSound : ℕ → Type 0
 DeclarationSound n = (scope : Scope) (r : Rest) → Yields (read.declaration n scope r) (λ x. Spotted (walk_declaration x.0) x.1.1 r.1 (IsDeclaration scope r.0 x.0 x.1.0))

@@ -109,7 +109,7 @@ behind_declarator_sound (suc n) scope from ss d us r h k =
     both (read.items n (in_body ss d scope) (behind r)) ((statements_sound n).items (in_body ss d scope) (behind r)) (λ y l.
     given (node_of_three (λ spots one two more a b f. definition_rule s a b f) h k l)))
     (λ not.
-    both (read.declarators n (after_specifiers ss scope) (naming_behind ss) (makes_types ss) d r)
+    both (read.declarators n (after_specifiers ss scope) (makes_types ss) d r)
     ((declaration_sound n).1 (after_specifiers ss scope) (naming_behind ss) (makes_types ss) d us r k) (λ ds l.
     given (node_of_two (λ spots one middle a b. record { before = λ unit more z. un.declaration (dc.with_declarators a b) z }) h l)))
 

@@ -13,7 +13,7 @@ use Rattle.lt_tree.specs.UnitView.{initialiser_of, initialisers_in, init_declara
 use Rattle.lt_tree.specs.View.{expression_of}
 use Rattle.lt_tree.specs.Symbols.{start_of}
 use Rattle.lt_tree.specs.Scope.{Scope, after_expression, after_declarator, after_declarators, after_start, after_optional, after_specifiers, makes_types, after_labels, after_external}
-use Rattle.lt_tree.specs.Ahead.{Naming, naming_behind, sees, begins_specifier}
+use Rattle.lt_tree.specs.Ahead.{named, naming_behind, sees, begins_specifier}
 use Rattle.lt_expr.specs.Front.{Rest, ◌>>=◌, behind, ended, expect, begins_mark}
 use Rattle.lt_expr.specs.Fronts.{after}
 use Rattle.lt_expr.specs.Reading as ex
@@ -88,51 +88,51 @@ initialisers_closed front x n scope r u one comma close =
 abbrev one_of : c.Declarator → Option c.Initialiser → c.InitDeclarator
 one_of d i = record { declarator = d; initialiser = i }
 
-abbrev behind_one : ℕ → Scope → Naming → Bool → c.InitDeclarator → Rest → Option (List c.InitDeclarator × Rest)
-behind_one n scope naming type d r =
+abbrev behind_one : ℕ → Scope → Bool → c.InitDeclarator → Rest → Option (List c.InitDeclarator × Rest)
+behind_one n scope type d r =
     cond (sees t.Comma r.0)
-    (ex.declarator n (after_one type d scope) naming (behind r) >>= λ e. reading.declarators n (after_one type d scope) naming type e.0 e.1 >>= λ y. Some (d ∷ y.0, y.1))
+    (ex.declarator n (after_one type d scope) named (behind r) >>= λ e. reading.declarators n (after_one type d scope) type e.0 e.1 >>= λ y. Some (d ∷ y.0, y.1))
     (expect t.Semicolon r >>= λ us. Some (d ∷ [], us))
 
-declarators_is : (n : ℕ) (scope : Scope) (naming : Naming) (type : Bool) (d : c.Declarator) (r u : Rest) (x : c.InitDeclarator) → one_declarator n scope type d r ≡ Some (x, u)
-    → reading.declarators (suc n) scope naming type d r ≡ behind_one n scope naming type x u
+declarators_is : (n : ℕ) (scope : Scope) (type : Bool) (d : c.Declarator) (r u : Rest) (x : c.InitDeclarator) → one_declarator n scope type d r ≡ Some (x, u)
+    → reading.declarators (suc n) scope type d r ≡ behind_one n scope type x u
 unfolding reading.optional_initialiser
-declarators_is n scope naming type d r u x one =
-    chained (reading.optional_initialiser n (after_declarator type d scope) r) (λ i. (one_of d i.0, i.1)) (λ o. behind_one n scope naming type o.0 o.1)
-    ∙ ap (λ read. read >>= λ o. behind_one n scope naming type o.0 o.1) one
+declarators_is n scope type d r u x one =
+    chained (reading.optional_initialiser n (after_declarator type d scope) r) (λ i. (one_of d i.0, i.1)) (λ o. behind_one n scope type o.0 o.1)
+    ∙ ap (λ read. read >>= λ o. behind_one n scope type o.0 o.1) one
 
-pub declarators_more : (front : List InitDeclarator) (x : InitDeclarator) (n : ℕ) (scope : Scope) (naming : Naming) (type : Bool) (d e : c.Declarator) (r u v : Rest)
-    → one_declarator n scope type d r ≡ Some (init_declarator_of x, u) → sees t.Comma u.0 ≡ true → ex.declarator n (after_one type (init_declarator_of x) scope) naming (behind u) ≡ Some (e, v)
-    → after (λ rest. map init_declarator_of (front ++ x ∷ []) ++ rest) (reading.declarators n (after_one type (init_declarator_of x) scope) naming type e v)
-    ≡ after (λ rest. map init_declarator_of front ++ rest) (reading.declarators (suc n) scope naming type d r)
-declarators_more front x n scope naming type d e r u v one comma next =
-    more_listed init_declarator_of front x (reading.declarators n (after_one type (init_declarator_of x) scope) naming type e v)
+pub declarators_more : (front : List InitDeclarator) (x : InitDeclarator) (n : ℕ) (scope : Scope) (type : Bool) (d e : c.Declarator) (r u v : Rest)
+    → one_declarator n scope type d r ≡ Some (init_declarator_of x, u) → sees t.Comma u.0 ≡ true → ex.declarator n (after_one type (init_declarator_of x) scope) named (behind u) ≡ Some (e, v)
+    → after (λ rest. map init_declarator_of (front ++ x ∷ []) ++ rest) (reading.declarators n (after_one type (init_declarator_of x) scope) type e v)
+    ≡ after (λ rest. map init_declarator_of front ++ rest) (reading.declarators (suc n) scope type d r)
+declarators_more front x n scope type d e r u v one comma next =
+    more_listed init_declarator_of front x (reading.declarators n (after_one type (init_declarator_of x) scope) type e v)
     ∙ ap (after (λ rest. map init_declarator_of front ++ rest))
     (sym
-    (declarators_is n scope naming type d r u (init_declarator_of x) one
-    ∙ ap (λ b. cond b (ex.declarator n (after_one type (init_declarator_of x) scope) naming (behind u) >>= λ e. reading.declarators n (after_one type (init_declarator_of x) scope) naming type e.0 e.1 >>= λ y. Some (init_declarator_of x ∷ y.0, y.1))
+    (declarators_is n scope type d r u (init_declarator_of x) one
+    ∙ ap (λ b. cond b (ex.declarator n (after_one type (init_declarator_of x) scope) named (behind u) >>= λ e. reading.declarators n (after_one type (init_declarator_of x) scope) type e.0 e.1 >>= λ y. Some (init_declarator_of x ∷ y.0, y.1))
     (expect t.Semicolon u >>= λ us. Some (init_declarator_of x ∷ [], us))) comma
-    ∙ ap (λ read. read >>= λ e. reading.declarators n (after_one type (init_declarator_of x) scope) naming type e.0 e.1 >>= λ y. Some (init_declarator_of x ∷ y.0, y.1)) next))
+    ∙ ap (λ read. read >>= λ e. reading.declarators n (after_one type (init_declarator_of x) scope) type e.0 e.1 >>= λ y. Some (init_declarator_of x ∷ y.0, y.1)) next))
 
-pub declarators_last : (front : List InitDeclarator) (x : InitDeclarator) (n : ℕ) (scope : Scope) (naming : Naming) (type : Bool) (d : c.Declarator) (r u us : Rest)
+pub declarators_last : (front : List InitDeclarator) (x : InitDeclarator) (n : ℕ) (scope : Scope) (type : Bool) (d : c.Declarator) (r u us : Rest)
     → one_declarator n scope type d r ≡ Some (init_declarator_of x, u) → sees t.Comma u.0 ≡ false → expect t.Semicolon u ≡ Some us
-    → after (λ rest. map init_declarator_of front ++ rest) (reading.declarators (suc n) scope naming type d r) ≡ Some (map init_declarator_of (front ++ x ∷ []), us)
-declarators_last front x n scope naming type d r u us one no_comma end =
+    → after (λ rest. map init_declarator_of front ++ rest) (reading.declarators (suc n) scope type d r) ≡ Some (map init_declarator_of (front ++ x ∷ []), us)
+declarators_last front x n scope type d r u us one no_comma end =
     ap (after (λ rest. map init_declarator_of front ++ rest))
-    (declarators_is n scope naming type d r u (init_declarator_of x) one
-    ∙ ap (λ b. cond b (ex.declarator n (after_one type (init_declarator_of x) scope) naming (behind u) >>= λ e. reading.declarators n (after_one type (init_declarator_of x) scope) naming type e.0 e.1 >>= λ y. Some (init_declarator_of x ∷ y.0, y.1))
+    (declarators_is n scope type d r u (init_declarator_of x) one
+    ∙ ap (λ b. cond b (ex.declarator n (after_one type (init_declarator_of x) scope) named (behind u) >>= λ e. reading.declarators n (after_one type (init_declarator_of x) scope) type e.0 e.1 >>= λ y. Some (init_declarator_of x ∷ y.0, y.1))
     (expect t.Semicolon u >>= λ us. Some (init_declarator_of x ∷ [], us))) no_comma
     ∙ ap (λ read. read >>= λ us. Some (init_declarator_of x ∷ [], us)) end)
     ∙ last_listed init_declarator_of front x us
 
-pub declarators_fail : (x : InitDeclarator) (n : ℕ) (scope : Scope) (naming : Naming) (type : Bool) (d : c.Declarator) (r u : Rest)
-    → one_declarator n scope type d r ≡ Some (init_declarator_of x, u) → sees t.Comma u.0 ≡ true → ex.declarator n (after_one type (init_declarator_of x) scope) naming (behind u) ≡ None
-    → reading.declarators (suc n) scope naming type d r ≡ None
-declarators_fail x n scope naming type d r u one comma none =
-    declarators_is n scope naming type d r u (init_declarator_of x) one
-    ∙ ap (λ b. cond b (ex.declarator n (after_one type (init_declarator_of x) scope) naming (behind u) >>= λ e. reading.declarators n (after_one type (init_declarator_of x) scope) naming type e.0 e.1 >>= λ y. Some (init_declarator_of x ∷ y.0, y.1))
+pub declarators_fail : (x : InitDeclarator) (n : ℕ) (scope : Scope) (type : Bool) (d : c.Declarator) (r u : Rest)
+    → one_declarator n scope type d r ≡ Some (init_declarator_of x, u) → sees t.Comma u.0 ≡ true → ex.declarator n (after_one type (init_declarator_of x) scope) named (behind u) ≡ None
+    → reading.declarators (suc n) scope type d r ≡ None
+declarators_fail x n scope type d r u one comma none =
+    declarators_is n scope type d r u (init_declarator_of x) one
+    ∙ ap (λ b. cond b (ex.declarator n (after_one type (init_declarator_of x) scope) named (behind u) >>= λ e. reading.declarators n (after_one type (init_declarator_of x) scope) type e.0 e.1 >>= λ y. Some (init_declarator_of x ∷ y.0, y.1))
     (expect t.Semicolon u >>= λ us. Some (init_declarator_of x ∷ [], us))) comma
-    ∙ ap (λ read. read >>= λ e. reading.declarators n (after_one type (init_declarator_of x) scope) naming type e.0 e.1 >>= λ y. Some (init_declarator_of x ∷ y.0, y.1)) none
+    ∙ ap (λ read. read >>= λ e. reading.declarators n (after_one type (init_declarator_of x) scope) type e.0 e.1 >>= λ y. Some (init_declarator_of x ∷ y.0, y.1)) none
 
 pub after_more : (type : Bool) (front : List InitDeclarator) (x : InitDeclarator) (scope : Scope) → after_declarators type (map init_declarator_of (front ++ x ∷ [])) scope ≡ after_one type (init_declarator_of x) (after_declarators type (map init_declarator_of front) scope)
 after_more type [] x scope = refl
@@ -349,5 +349,5 @@ scope_behind_definition n names scope start ss d r same y u is =
 pub scope_behind_declared : (n : ℕ) (names scope : Scope) (start : ℕ) (ss : c.Specifiers) (d : c.Declarator) (r : Rest) → names ≡ after_specifiers ss scope
     → (y : c.External) (u : Rest) → declared_on n names start ss d r ≡ Some (y, u) → behind_external y names ≡ after_external y scope
 scope_behind_declared n names scope start ss d r same y u is =
-    answered (reading.declarators n names (naming_behind ss) (makes_types ss) d r) (λ ds. (c.Declared (record { specifiers = ss; declarators = ds.0 }), ended start ds.1)) (λ y. behind_external y names ≡ after_external y scope)
+    answered (reading.declarators n names (makes_types ss) d r) (λ ds. (c.Declared (record { specifiers = ss; declarators = ds.0 }), ended start ds.1)) (λ y. behind_external y names ≡ after_external y scope)
     (λ a. ap (after_declarators (makes_types ss) a.0) same) y u is

@@ -12,7 +12,7 @@ use Rattle.lt_tree.specs.declared.terminal.Terminal.TheVariants as t
 use Rattle.lt_tree.specs.Tree as c
 use Rattle.lt_tree.specs.Symbols.{Symbol, start_of}
 use Rattle.lt_tree.specs.Scope.{Scope, after_expression, after_optional, after_specifiers, after_declarator, after_initialiser, after_start, after_labels, after_statement, after_external, in_body, makes_types}
-use Rattle.lt_tree.specs.Ahead.{Naming, naming_behind, sees, begins_specifier}
+use Rattle.lt_tree.specs.Ahead.{named, naming_behind, sees, begins_specifier}
 use Rattle.lt_expr.specs.Front.{Reader, ◌>>=◌, behind, ended, expect, begins_mark}
 use Rattle.lt_expr.specs.Reading.{enough, expression, parts, assignment, conditional, mark, marks, specifiers, declarator}
 use Rattle.lt_decl.specs.Items.{Item, declared, stated, marked, item_before, after_item, start_by, initialisers_by, marks_by, at_end}
@@ -47,14 +47,14 @@ unfoldable mutual
       else Some (None, r)
 
   -- behind a declarator: ('=' init)? (',' declarator ('=' init)?)* ';'
-  pub declarators : ℕ → Scope → Naming → Bool → c.Declarator → Reader (List c.InitDeclarator)
-  declarators zero scope naming type d r = None
-  declarators (suc n) scope naming type d r =
+  pub declarators : ℕ → Scope → Bool → c.Declarator → Reader (List c.InitDeclarator)
+  declarators zero scope type d r = None
+  declarators (suc n) scope type d r =
       optional_initialiser n (after_declarator type d scope) r >>= λ i.
       if sees t.Comma i.1.0
       then
-      (declarator n (after_initialiser i.0 (after_declarator type d scope)) naming (behind i.1) >>= λ e.
-      declarators n (after_initialiser i.0 (after_declarator type d scope)) naming type e.0 e.1 >>= λ y.
+      (declarator n (after_initialiser i.0 (after_declarator type d scope)) named (behind i.1) >>= λ e.
+      declarators n (after_initialiser i.0 (after_declarator type d scope)) type e.0 e.1 >>= λ y.
       Some (record { declarator = d; initialiser = i.0 } ∷ y.0, y.1))
       else (expect t.Semicolon i.1 >>= λ us. Some (record { declarator = d; initialiser = i.0 } ∷ [], us))
 
@@ -67,7 +67,7 @@ unfoldable mutual
       then Some (record { specifiers = s.0; declarators = [] }, behind s.1)
       else
       (declarator n (after_specifiers s.0 scope) (naming_behind s.0) s.1 >>= λ d.
-      declarators n (after_specifiers s.0 scope) (naming_behind s.0) (makes_types s.0) d.0 d.1 >>= λ ds.
+      declarators n (after_specifiers s.0 scope) (makes_types s.0) d.0 d.1 >>= λ ds.
       Some (record { specifiers = s.0; declarators = ds.0 }, ds.1))
 
 -- ---- what stands in statements, C11 6.8
@@ -260,7 +260,7 @@ unfoldable mutual
       if sees t.OpenBrace r.0
       then (items n (in_body ss d scope) (behind r) >>= λ y. Some (c.Defines ss d y.0, ended start y.1))
       else
-      (declarators n (after_specifiers ss scope) (naming_behind ss) (makes_types ss) d r >>= λ ds.
+      (declarators n (after_specifiers ss scope) (makes_types ss) d r >>= λ ds.
       Some (c.Declared (record { specifiers = ss; declarators = ds.0 }), ended start ds.1))
 
 -- external*, with external = specs declarator compound | declaration | ';', up to the end

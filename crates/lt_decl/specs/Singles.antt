@@ -4,7 +4,7 @@ use Rattle.lt_tree.specs.declared.terminal.Terminal.TheVariants as t
 use Rattle.lt_tree.specs.Tree as c
 use Rattle.lt_tree.specs.Symbols.{Symbol, start_of}
 use Rattle.lt_tree.specs.Scope.{Scope, after_expression, after_optional, after_declarator, after_declarators, after_initialiser, after_start, after_labels, after_statement, after_first_part, makes_types}
-use Rattle.lt_tree.specs.Ahead.{naming_behind, sees}
+use Rattle.lt_tree.specs.Ahead.{sees}
 use Rattle.lt_expr.specs.Front.{Reader, ◌>>=◌, behind, ended, expect}
 use Rattle.lt_expr.specs.Reading.{conditional}
 use Rattle.lt_decl.specs.Reading.{optional_initialiser, declarators, optional, for_start, labels, statement, items}
@@ -70,7 +70,7 @@ definition n scope start ss d r =
 
 abbrev pub declared_on : ℕ → Scope → ℕ → c.Specifiers → c.Declarator → Reader c.External
 declared_on n scope start ss d r =
-    declarators n scope (naming_behind ss) (makes_types ss) d r >>= λ ds.
+    declarators n scope (makes_types ss) d r >>= λ ds.
     Some (c.Declared (record { specifiers = ss; declarators = ds.0 }), ended start ds.1)
 
 -- the scope behind an external, where its specifiers' names are in scope

@@ -5,7 +5,7 @@ ghost use Rattle.lt_tree.specs.View.{expression_of};
 ghost use Rattle.lt_tree.specs.UnitView.{start_of as start_shown, label_of};
 ghost use Rattle.lt_tree.specs.Scope.{after_start, after_labels};
 ghost use Rattle.lt_expr.specs.Parsing.{rest_of, scope_of, Gives};
-ghost use Rattle.lt_decl.specs.Declares.{GivesNames};
+ghost use Rattle.lt_expr.specs.Parsing.{GivesNames};
 ghost use Rattle.lt_decl.specs.HeadView.{head_of};
 ghost use Rattle.lt_decl.specs.Singles.{begins_label, one_label, after_label, head, after_head};
 ghost use Rattle.lt_decl.specs.Reading as reading;

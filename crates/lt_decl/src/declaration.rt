@@ -4,9 +4,8 @@ ghost use Rattle.std.specs.Prelude.{map, option_map};
 ghost use Rattle.lt_tree.specs.Records.{declarator_of};
 ghost use Rattle.lt_tree.specs.UnitView.{initialiser_of, init_declarator_of, declaration_of};
 ghost use Rattle.lt_tree.specs.Scope.{after_declarators, after_declaration};
-ghost use Rattle.lt_expr.specs.Namings.{naming_of};
 ghost use Rattle.lt_expr.specs.Parsing.{rest_of, scope_of, Gives};
-ghost use Rattle.lt_decl.specs.Declares.{GivesNames};
+ghost use Rattle.lt_expr.specs.Parsing.{GivesNames};
 ghost use Rattle.lt_decl.specs.Singles.{one_declarator, after_one};
 ghost use Rattle.lt_decl.specs.Reading as reading;
 
@@ -52,11 +51,10 @@ fn init_declarator(
 pub(crate) fn declarators(
     parser: &mut Parser,
     mut depth: usize,
-    naming: Naming,
     is_type: bool,
     first: Declarator,
 ) -> Result<Vec<InitDeclarator>, Stop>
-    ensures { GivesNames (λ xs. map init_declarator_of xs.items) (λ ds. after_declarators is_type ds (scope_of parser.old)) parser.old parser.new result (reading.declarators depth (scope_of parser.old) (naming_of naming) is_type (declarator_of first) (rest_of parser.old)) }
+    ensures { GivesNames (λ xs. map init_declarator_of xs.items) (λ ds. after_declarators is_type ds (scope_of parser.old)) parser.old parser.new result (reading.declarators depth (scope_of parser.old) is_type (declarator_of first) (rest_of parser.old)) }
 {
     let mut list = Vec::new(parser.alloc());
     let mut declarator = first;
@@ -69,7 +67,7 @@ pub(crate) fn declarators(
             return Ok(list);
         }
         parser.advance();
-        declarator = parser.declarator(depth, naming)?;
+        declarator = parser.declarator(depth, Naming::Named)?;
     }
 }
 
@@ -92,7 +90,7 @@ pub(crate) fn declaration(parser: &mut Parser, depth: usize) -> Result<Declarati
     let naming = naming_behind(&specifiers);
     let is_type = makes_types(&specifiers);
     let first = parser.declarator(depth, naming)?;
-    let declarators = declarators(parser, depth, naming, is_type, first)?;
+    let declarators = declarators(parser, depth, is_type, first)?;
     Ok(Declaration {
         specifiers,
         declarators,

@@ -5,7 +5,8 @@ ghost use Rattle.lt_tree.specs.Records.{specifiers_of, declarator_of};
 ghost use Rattle.lt_tree.specs.UnitView.{items_in, external_of};
 ghost use Rattle.lt_tree.specs.Scope.{after_external};
 ghost use Rattle.lt_expr.specs.Parsing.{rest_of, scope_of, Gives};
-ghost use Rattle.lt_decl.specs.Declares.{GivesNames, GivesUnit};
+ghost use Rattle.lt_expr.specs.Parsing.{GivesNames};
+ghost use Rattle.lt_decl.specs.Declares.{GivesUnit};
 ghost use Rattle.lt_decl.specs.Items.{at_end};
 ghost use Rattle.lt_decl.specs.Singles.{in_function, definition, declared_on, behind_external};
 ghost use Rattle.lt_decl.specs.Reading as reading;
@@ -60,9 +61,8 @@ fn declared(
 ) -> Result<External, Stop>
     ensures { GivesNames external_of (λ x. behind_external x (scope_of parser.old)) parser.old parser.new result (declared_on depth (scope_of parser.old) start (specifiers_of specifiers) (declarator_of declarator) (rest_of parser.old)) }
 {
-    let naming = naming_behind(&specifiers);
     let is_type = makes_types(&specifiers);
-    let declarators = declarators(parser, depth, naming, is_type, declarator)?;
+    let declarators = declarators(parser, depth, is_type, declarator)?;
     parser.end(start)?;
     Ok(External::Declaration(Declaration {
         specifiers,

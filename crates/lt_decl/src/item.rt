@@ -4,7 +4,7 @@ ghost use Rattle.std.specs.Prelude.{◌≡◌};
 ghost use Rattle.lt_tree.specs.View.{mark_of};
 ghost use Rattle.lt_tree.specs.UnitView.{declaration_of, statement_of};
 ghost use Rattle.lt_expr.specs.Parsing.{rest_of, scope_of};
-ghost use Rattle.lt_decl.specs.Declares.{GivesNames};
+ghost use Rattle.lt_expr.specs.Parsing.{GivesNames};
 ghost use Rattle.lt_decl.specs.Items as read;
 ghost use Rattle.lt_decl.specs.Items.{after_item};
 ghost use Rattle.lt_decl.specs.ItemView.{item_of};

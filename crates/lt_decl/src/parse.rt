@@ -37,7 +37,6 @@ fn whole(parser: &mut Parser) -> Result<Vec<External>, Stop>
 /// The unit, C11 6.9, that these tokens are.
 ///
 /// `Syntax(at)` comes exactly where they are none.
-#[tactic(auto, using(crate::proofs::Parses::nothing))]
 pub fn parse_unit(alloc: Global, tokens: &Tokens) -> Result<Parsed, ParseStop>
     ensures { MatchResult result (λ p. Derives (tokens_of tokens.now) (unit_of p.unit) p.spots.items) (StopsParsing tokens.now) }
 {

@@ -4,7 +4,7 @@ ghost use Rattle.lt_tree.specs.View.{expression_of};
 ghost use Rattle.lt_tree.specs.UnitView.{statement_of, items_in, cases_in};
 ghost use Rattle.lt_tree.specs.Scope.{after_expression};
 ghost use Rattle.lt_expr.specs.Parsing.{rest_of, scope_of, Gives};
-ghost use Rattle.lt_decl.specs.Declares.{GivesNames};
+ghost use Rattle.lt_expr.specs.Parsing.{GivesNames};
 ghost use Rattle.lt_decl.specs.Items.{after_item};
 ghost use Rattle.lt_decl.specs.ItemView.{item_of, case_of};
 ghost use Rattle.lt_decl.specs.Singles.{one_case, after_case};

@@ -82,7 +82,7 @@ direct_begins : {scope : Scope} {naming : Naming} {ts rest : List Symbol} {outer
 unfolding same_terminal
 direct_begins (g.by_name x xs) is e = refl
 direct_begins (g.by_nothing a b xs) is e = suffixes_begin xs is e
-direct_begins (g.nested a x xs) is e = refl
+direct_begins (g.nested inner a x i xs) is e = refl
 
 pointers_begin : {scope : Scope} {naming : Naming} {ts rest : List Symbol} {outer parts : c.Parts} {w : Option (List ℕ)} {spots more : List ℕ}
     → ArePointers scope naming ts outer w parts rest spots more → outer ≡ c.no_parts → is_missing w parts ≡ false → begins_declarator ts ≡ true
@@ -96,7 +96,7 @@ named_direct : {scope : Scope} {naming : Naming} {ts rest : List Symbol} {outer 
 unfolding same_terminal
 named_direct takes (g.by_name x xs) = refl
 named_direct takes (g.by_nothing a b xs) = absurd cc
-named_direct takes (g.nested a x xs) = refl
+named_direct takes (g.nested inner a x i xs) = refl
 
 named_pointers : {scope : Scope} {naming : Naming} {ts rest : List Symbol} {outer parts : c.Parts} {w : Option (List ℕ)} {spots more : List ℕ}
     → takes_none naming ≡ false → ArePointers scope naming ts outer w parts rest spots more → sees t.Semicolon ts ≡ false
@@ -240,7 +240,7 @@ mutual
   complete_member_declarators (g.last_member_declarator x z) takes ends = parameters.last_declarator_complete _ _ _ _ _ _ _ _ _ _ _ ends (named_declarator takes x) (declarator_short x) (complete_declarator x ends) (complete_after_sign z)
   complete_member_declarators (g.more_member_declarators x z w) takes ends =
       parameters.more_declarators_complete _ _ _ _ _ _ _ _ _ _ _ _ _ _ _ _ ends (named_declarator takes x) (declarator_short x) (omega (arith, after_sign_short z))
-      (complete_declarator x ends) (complete_after_sign z) (complete_member_declarators w takes)
+      (complete_declarator x ends) (complete_after_sign z) (complete_member_declarators w refl)
 
   complete_after_sign : {scope : Scope} {k : Terminal} {ts rest : List Symbol} {e : c.Maybe} {spots more : List ℕ} → IsAfterSign scope k ts e rest spots more → (ends : List ℕ) → structs.AfterSign scope k ts e rest spots more ends
   complete_after_sign (g.left_out i) ends = structs.left_out_complete _ _ _ _ ends i
@@ -266,7 +266,7 @@ mutual
       → IsDirect scope naming ts outer w parts rest spots more → (ends : List ℕ) → declarators.Direct scope naming ts outer w parts rest spots more ends
   complete_direct (g.by_name i x) ends = declarators.by_name_complete _ _ _ _ _ _ _ _ _ _ ends i (complete_suffixes x ends)
   complete_direct (g.by_nothing i j x) ends = declarators.by_nothing_complete _ _ _ _ _ _ _ _ ends i j (complete_suffixes x ends)
-  complete_direct (g.nested i x z) ends = declarators.nested_complete _ _ _ _ _ _ _ _ _ _ _ _ _ _ ends i (omega (arith, pointers_short x)) (complete_pointers x ends) (complete_suffixes z)
+  complete_direct (g.nested inner i x is z) ends = declarators.nested_complete _ _ _ _ _ _ _ _ _ inner _ _ _ _ _ ends i is (omega (arith, pointers_short x)) (complete_pointers x ends) (complete_suffixes z)
 
   complete_suffixes : {scope : Scope} {ts rest : List Symbol} {outer parts : c.Parts} {spots more : List ℕ} → AreSuffixes scope ts outer parts rest spots more → (ends : List ℕ) → Suffixes scope ts outer parts rest spots more ends
   complete_suffixes (g.no_suffix i) ends = declarators.no_suffix_complete _ _ _ _ ends i

@@ -6,16 +6,17 @@ use Rattle.lt_tree.specs.declared.terminal.Terminal.{Terminal}
 use Rattle.lt_tree.specs.declared.terminal.Terminal.TheVariants as t
 use Rattle.lt_tree.specs.Tree as c
 use Rattle.lt_tree.specs.Symbols.{Symbol, name, constant, literal, sign, start_of}
-use Rattle.lt_tree.specs.Scope.{Scope}
-use Rattle.lt_tree.specs.Ahead.{Naming, named, untyped, nameless, either, takes_name, takes_none, opens_parameters, begins_parameters, begins_direct, begins_declarator, begins_suffix, same_terminal, sees}
+use Rattle.lt_tree.specs.Scope.{Scope, after_expression, after_parts}
+use Rattle.lt_tree.specs.Ahead.{Naming, named, untyped, nameless, either, behind_star, takes_name, takes_none, opens_parameters, begins_parameters, begins_direct, begins_declarator, begins_suffix, same_terminal, sees}
 use Rattle.lt_tree.specs.Grammar as g
-use Rattle.lt_tree.specs.Grammar.{AreQualifiers, is_missing}
+use Rattle.lt_tree.specs.Grammar.{AreQualifiers, is_missing, joined}
 use Rattle.lt_expr.specs.Front.{qualifiers, own_name, begins_nested}
 use Rattle.lt_expr.specs.Reading as r
-use Rattle.lt_expr.specs.Reading.{joined, NameAndParts, as_declarator, list_end}
+use Rattle.lt_expr.specs.Reading.{NameAndParts, as_declarator, list_end}
 use Rattle.lt_expr.specs.Walk.{walk, walk_declarator, walk_parts, walk_parameters}
 use Rattle.lt_expr.proofs.CompleteFronts.{same_is}
 use Rattle.lt_expr.proofs.Walks.{joined_none, joined_joined, walk_joined, written_walk}
+use Rattle.lt_expr.proofs.HiddenNames.{length_hidden, joined_same}
 use Rattle.lt_expr.proofs.CompleteForms.{Reads, Suffixes, Read, once, twice, node_of, Complete}
 use Rattle.lt_expr.proofs.CompleteOperators.{conditional_read}
 
@@ -58,7 +59,7 @@ unfolding r.expression same_terminal
 suffix_function n scope a ts us ps ends now is = rw is refl
 
 suffixes_go : (n : ℕ) (scope : Scope) (ts us rest : List Symbol) (one parts : c.Parts) (ends middle now : List ℕ) → begins_suffix ts ≡ true
-    → r.suffix n scope (ts, ends) ≡ Some (one, (us, middle)) → r.suffixes n scope (us, middle) ≡ Some (parts, (rest, now))
+    → r.suffix n scope (ts, ends) ≡ Some (one, (us, middle)) → r.suffixes n (after_parts one scope) (us, middle) ≡ Some (parts, (rest, now))
     → r.suffixes (suc n) scope (ts, ends) ≡ Some (joined one parts, (rest, now))
 unfolding r.expression
 suffixes_go n scope ts us rest one parts ends middle now front first others = rw (front, first, others) refl
@@ -83,7 +84,7 @@ unsized_complete scope a b ts rest outer parts spots more ends d =
 pub array_complete : (scope : Scope) (a b : ℕ) (ts us rest : List Symbol) (outer parts : c.Parts) (e : c.Expression) (spots between more ends : List ℕ)
     → sees t.CloseIndex ts ≡ false → length us < length ts
     → Complete g.conditional scope ts e (sign t.CloseIndex b ∷ us) spots between ends
-    → ((now : List ℕ) → Suffixes scope us outer parts rest between more now)
+    → ((now : List ℕ) → Suffixes (after_expression e scope) us outer parts rest between more now)
     → Suffixes scope (sign t.OpenIndex a ∷ ts) outer (c.Array (c.present e) parts) rest spots more ends
 array_complete scope a b ts us rest outer parts e spots between more ends front short ce cb =
     let x = conditional_read scope ts (sign t.CloseIndex b ∷ us) e spots between ends (ce (omega arith)) in
@@ -94,7 +95,8 @@ array_complete scope a b ts us rest outer parts e spots between more ends front 
       whole = ap (c.Array (c.present e)) d.whole;
       read_as = twice y.now (ap (walk e) y.walked ∙ x.walked) (omega arith)
           (λ n big. suffixes_go (suc n) scope (sign t.OpenIndex a ∷ ts) us rest (c.Array (c.present e) c.no_parts) d.own ends x.now y.now (begins_index a ts)
-          (suffix_sized n scope a b ts us e ends x.now front (x.reads n (omega arith))) (y.reads (suc n) (omega arith)));
+          (suffix_sized n scope a b ts us e ends x.now front (x.reads n (omega arith)))
+          (ap (λ (names : Scope). r.suffixes (suc n) names (us, x.now)) (length_hidden e scope) ∙ y.reads (suc n) (omega arith)));
     }
 
 pub function_complete : (scope : Scope) (a : ℕ) (ts us rest : List Symbol) (outer parts : c.Parts) (inside : c.Parameters) (spots between more ends : List ℕ) → length us < length ts
@@ -122,7 +124,7 @@ direct_goes n scope naming ts us rest w parts ends now front is others = rw (fro
 
 direct_nested : (n : ℕ) (scope : Scope) (naming : Naming) (a b : ℕ) (ts us rest : List Symbol) (w : Option (List ℕ)) (inner parts : c.Parts) (ends middle now : List ℕ)
     → opens_parameters naming scope ts ≡ false → r.pointers n scope naming (ts, ends) ≡ Some ((w, inner), (sign t.CloseParen b ∷ us, middle))
-    → r.suffixes n scope (us, middle) ≡ Some (parts, (rest, now))
+    → r.suffixes n (after_parts inner scope) (us, middle) ≡ Some (parts, (rest, now))
     → r.direct (suc n) scope naming (sign t.OpenParen a ∷ ts, ends) ≡ Some ((w, joined inner parts), (rest, now))
 unfolding r.expression same_terminal
 direct_nested n scope naming a b ts us rest w inner parts ends middle now front is others = rw (front, is, others) refl
@@ -181,20 +183,22 @@ by_nothing_complete scope naming ts rest outer parts spots more ends takes e d =
           (λ n big. direct_goes n scope naming ts ts rest None d.own ends x.now (nothing_nested naming scope ts takes e) (nothing_named naming scope ts ends takes e) (x.reads n (omega arith)));
     }
 
-pub nested_complete : (scope : Scope) (naming : Naming) (a b : ℕ) (ts us rest : List Symbol) (outer suffixed parts : c.Parts) (w : Option (List ℕ)) (spots between more ends : List ℕ)
-    → opens_parameters naming scope ts ≡ false → length us < length ts
+pub nested_complete : (scope : Scope) (naming : Naming) (a b : ℕ) (ts us rest : List Symbol) (outer suffixed inner parts : c.Parts) (w : Option (List ℕ)) (spots between more ends : List ℕ)
+    → opens_parameters naming scope ts ≡ false → parts ≡ joined inner suffixed → length us < length ts
     → Pointers scope naming ts suffixed w parts (sign t.CloseParen b ∷ us) spots between ends
-    → ((now : List ℕ) → Suffixes scope us outer suffixed rest between more now)
+    → ((now : List ℕ) → Suffixes (after_parts inner scope) us outer suffixed rest between more now)
     → Direct scope naming (sign t.OpenParen a ∷ ts) outer w parts rest spots more ends
-nested_complete scope naming a b ts us rest outer suffixed parts w spots between more ends e short p cb =
+nested_complete scope naming a b ts us rest outer suffixed inner parts w spots between more ends e is short p cb =
     let x = p.read_as in
     let d = cb x.now in
     let y = d.read_as in
+    let own : p.own ≡ inner = joined_same p.own inner suffixed (p.whole ∙ is) in
     record {
       own = joined p.own d.own;
       whole = joined_joined p.own d.own outer ∙ ap (joined p.own) d.whole ∙ p.whole;
       read_as = once y.now (walk_joined p.own d.own (y.now, more) ∙ ap (walk_parts p.own) y.walked ∙ x.walked) (omega arith)
-          (λ n big. direct_nested n scope naming a b ts us rest w p.own d.own ends x.now y.now e (x.reads n (omega arith)) (y.reads n (omega arith)));
+          (λ n big. direct_nested n scope naming a b ts us rest w p.own d.own ends x.now y.now e (x.reads n (omega arith))
+          (ap (λ (q : c.Parts). r.suffixes n (after_parts q scope) (us, x.now)) own ∙ y.reads n (omega arith)));
     }
 
 -- ---- pointers
@@ -212,7 +216,7 @@ qualifiers_read (g.constant d) = rw (qualifiers_read d) refl
 qualifiers_read (g.volatile d) = rw (qualifiers_read d) refl
 
 pointers_go : (n : ℕ) (scope : Scope) (naming : Naming) (at : ℕ) (ts us rest : List Symbol) (q : c.Qualifiers) (w : Option (List ℕ)) (parts : c.Parts) (ends now : List ℕ)
-    → qualifiers ts ≡ (q, us) → r.pointers n scope naming (us, ends) ≡ Some ((w, parts), (rest, now))
+    → qualifiers ts ≡ (q, us) → r.pointers n scope (behind_star naming) (us, ends) ≡ Some ((w, parts), (rest, now))
     → r.pointers (suc n) scope naming (sign t.Star at ∷ ts, ends) ≡ Some ((w, joined parts (c.Pointer q c.no_parts)), (rest, now))
 unfolding r.expression same_terminal
 pointers_go n scope naming at ts us rest q w parts ends now is others = rw (is, others) refl
@@ -223,7 +227,7 @@ pointers_stop n scope naming ts ends e = rw e refl
 
 pub pointer_complete : (scope : Scope) (naming : Naming) (at : ℕ) (ts us rest : List Symbol) (outer parts : c.Parts) (q : c.Qualifiers) (w : Option (List ℕ)) (spots more ends : List ℕ)
     → AreQualifiers ts q us → length us ≤ length ts
-    → Pointers scope naming us (c.Pointer q outer) w parts rest spots more ends
+    → Pointers scope (behind_star naming) us (c.Pointer q outer) w parts rest spots more ends
     → Pointers scope naming (sign t.Star at ∷ ts) outer w parts rest spots more ends
 pointer_complete scope naming at ts us rest outer parts q w spots more ends quals short p =
     let x = p.read_as in

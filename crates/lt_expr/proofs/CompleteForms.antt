@@ -6,10 +6,10 @@ use Rattle.lt_tree.specs.Symbols.{Symbol, start_of}
 use Rattle.lt_tree.specs.Scope.{Scope}
 use Rattle.lt_tree.specs.Ahead.{sees}
 use Rattle.lt_tree.specs.Grammar as g
-use Rattle.lt_tree.specs.Grammar.{Level}
+use Rattle.lt_tree.specs.Grammar.{Level, joined}
 use Rattle.lt_expr.specs.Front.{Rest, Reader, ◌>>=◌}
 use Rattle.lt_expr.specs.Reading as r
-use Rattle.lt_expr.specs.Reading.{joined, NameAndParts}
+use Rattle.lt_expr.specs.Reading.{NameAndParts}
 use Rattle.lt_expr.specs.Walk.{Walked, node, walk, walk_all, walk_parts}
 use Rattle.lt_expr.proofs.CompleteFronts.{follows}
 

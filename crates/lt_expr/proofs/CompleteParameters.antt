@@ -5,8 +5,8 @@ use Rattle.lt_tree.specs.declared.terminal.Terminal.{Terminal}
 use Rattle.lt_tree.specs.declared.terminal.Terminal.TheVariants as t
 use Rattle.lt_tree.specs.Tree as c
 use Rattle.lt_tree.specs.Symbols.{Symbol, name, constant, literal, sign}
-use Rattle.lt_tree.specs.Scope.{Scope, after_specifiers, after_parameter}
-use Rattle.lt_tree.specs.Ahead.{Naming, nameless, either, begins_specifier, is_specifier_word, is_void_alone, same_terminal, sees}
+use Rattle.lt_tree.specs.Scope.{Scope, after_specifiers, after_inside, after_member_declarator, after_parameter}
+use Rattle.lt_tree.specs.Ahead.{Naming, named, nameless, either, begins_specifier, is_specifier_word, is_void_alone, same_terminal, sees}
 use Rattle.lt_expr.specs.Front.{Rest, goes_on_with_parameter}
 use Rattle.lt_expr.specs.Specifier.{one_specifier}
 use Rattle.lt_expr.specs.Reading as r
@@ -56,14 +56,14 @@ void_front (sign k at ∷ ts) e = absurd cc
 -- ---- the names of types
 
 type_name_reads : (n : ℕ) (scope : Scope) (ts us rest : List Symbol) (ss : c.Specifiers) (d : c.Declarator) (ends middle now : List ℕ)
-    → r.specifiers n scope (ts, ends) ≡ Some (ss, (us, middle)) → r.declarator n scope nameless (us, middle) ≡ Some (d, (rest, now))
+    → r.specifiers n scope (ts, ends) ≡ Some (ss, (us, middle)) → r.declarator n (after_specifiers ss scope) nameless (us, middle) ≡ Some (d, (rest, now))
     → r.type_name (suc n) scope (ts, ends) ≡ Some ((ss, d), (rest, now))
 unfolding r.expression
 type_name_reads n scope ts us rest ss d ends middle now first second = rw (first, second) refl
 
 pub type_name_complete : (scope : Scope) (ts us rest : List Symbol) (ss : c.Specifiers) (d : c.Declarator) (spots between more ends : List ℕ) → length us < length ts
     → Specifiers scope ts ss us spots between ends
-    → ((now : List ℕ) → Declared scope nameless us d rest between more now)
+    → ((now : List ℕ) → Declared (after_specifiers ss scope) nameless us d rest between more now)
     → Read (λ n. r.type_name n scope) walk_name 4 ts (ss, d) rest spots more ends
 type_name_complete scope ts us rest ss d spots between more ends short x cb =
     let y = cb x.now in
@@ -179,14 +179,14 @@ open_list_complete scope a b d ts rest ps spots more ends front cl =
 -- ---- the declarators of members
 
 declarators_last : (n : ℕ) (scope : Scope) (naming : Naming) (at : ℕ) (ts us rest : List Symbol) (d : c.Declarator) (width : c.Maybe) (ends middle now : List ℕ)
-    → r.declarator n scope naming (ts, ends) ≡ Some (d, (us, middle)) → r.after_sign n scope t.Colon (us, middle) ≡ Some (width, (sign t.Semicolon at ∷ rest, now))
+    → r.declarator n scope naming (ts, ends) ≡ Some (d, (us, middle)) → r.after_sign n (after_inside d scope) t.Colon (us, middle) ≡ Some (width, (sign t.Semicolon at ∷ rest, now))
     → r.member_declarators (suc n) scope naming (ts, ends) ≡ Some (c.a_declarator d width c.no_declarators, (rest, now))
 unfolding r.expression same_terminal
 declarators_last n scope naming at ts us rest d width ends middle now first second = rw (first, second) refl
 
 declarators_more : (n : ℕ) (scope : Scope) (naming : Naming) (at : ℕ) (ts us vs rest : List Symbol) (d : c.Declarator) (width : c.Maybe) (ds : c.MemberDeclarators) (ends m1 m2 now : List ℕ)
-    → r.declarator n scope naming (ts, ends) ≡ Some (d, (us, m1)) → r.after_sign n scope t.Colon (us, m1) ≡ Some (width, (sign t.Comma at ∷ vs, m2))
-    → r.member_declarators n scope naming (vs, m2) ≡ Some (ds, (rest, now))
+    → r.declarator n scope naming (ts, ends) ≡ Some (d, (us, m1)) → r.after_sign n (after_inside d scope) t.Colon (us, m1) ≡ Some (width, (sign t.Comma at ∷ vs, m2))
+    → r.member_declarators n (after_member_declarator d width scope) named (vs, m2) ≡ Some (ds, (rest, now))
     → r.member_declarators (suc n) scope naming (ts, ends) ≡ Some (c.a_declarator d width ds, (rest, now))
 unfolding r.expression same_terminal
 declarators_more n scope naming at ts us vs rest d width ds ends m1 m2 now first second others = rw (first, second, others) refl
@@ -194,7 +194,7 @@ declarators_more n scope naming at ts us vs rest d width ds ends m1 m2 now first
 pub last_declarator_complete : (scope : Scope) (naming : Naming) (at : ℕ) (ts us rest : List Symbol) (d : c.Declarator) (width : c.Maybe) (spots between more ends : List ℕ)
     → sees t.Semicolon ts ≡ false → length us ≤ length ts
     → Declared scope naming ts d us spots between ends
-    → ((now : List ℕ) → AfterSign scope t.Colon us width (sign t.Semicolon at ∷ rest) between more now)
+    → ((now : List ℕ) → AfterSign (after_inside d scope) t.Colon us width (sign t.Semicolon at ∷ rest) between more now)
     → Declarators scope naming ts (c.a_declarator d width c.no_declarators) rest spots more ends
 last_declarator_complete scope naming at ts us rest d width spots between more ends front short x cb =
     let y = cb x.now (omega arith) in (
@@ -206,8 +206,8 @@ last_declarator_complete scope naming at ts us rest d width spots between more e
 pub more_declarators_complete : (scope : Scope) (naming : Naming) (at : ℕ) (ts us vs rest : List Symbol) (d e : c.Declarator) (width wide : c.Maybe) (ds : c.MemberDeclarators) (spots first second more ends : List ℕ)
     → sees t.Semicolon ts ≡ false → length us ≤ length ts → length vs < length us
     → Declared scope naming ts d us spots first ends
-    → ((now : List ℕ) → AfterSign scope t.Colon us width (sign t.Comma at ∷ vs) first second now)
-    → ((now : List ℕ) → Declarators scope naming vs (c.a_declarator e wide ds) rest second more now)
+    → ((now : List ℕ) → AfterSign (after_inside d scope) t.Colon us width (sign t.Comma at ∷ vs) first second now)
+    → ((now : List ℕ) → Declarators (after_member_declarator d width scope) named vs (c.a_declarator e wide ds) rest second more now)
     → Declarators scope naming ts (c.a_declarator d width (c.a_declarator e wide ds)) rest spots more ends
 more_declarators_complete scope naming at ts us vs rest d e width wide ds spots first second more ends front short shorter x cb cd =
     let y = cb x.now (omega arith) in

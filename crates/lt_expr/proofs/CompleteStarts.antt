@@ -151,7 +151,7 @@ mutual
       → IsDirect scope naming ts outer name parts rest spots more → length rest ≤ length ts
   direct_short (g.by_name e d) = omega (arith, suffixes_short d)
   direct_short (g.by_nothing a b d) = suffixes_short d
-  direct_short (g.nested e a b) = omega (arith, pointers_short a, suffixes_short b)
+  direct_short (g.nested inner e a i b) = omega (arith, pointers_short a, suffixes_short b)
 
   pub suffixes_short : {scope : Scope} {ts rest : List Symbol} {outer parts : c.Parts} {spots more : List ℕ} → AreSuffixes scope ts outer parts rest spots more → length rest ≤ length ts
   suffixes_short (g.no_suffix e) = omega arith

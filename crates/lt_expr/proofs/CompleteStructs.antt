@@ -4,7 +4,7 @@ use Rattle.lt_tree.specs.declared.terminal.Terminal.{Terminal}
 use Rattle.lt_tree.specs.declared.terminal.Terminal.TheVariants as t
 use Rattle.lt_tree.specs.Tree as c
 use Rattle.lt_tree.specs.Symbols.{Symbol, name, sign, start_of}
-use Rattle.lt_tree.specs.Scope.{Scope}
+use Rattle.lt_tree.specs.Scope.{Scope, after_specifiers, after_member, after_enumerator}
 use Rattle.lt_tree.specs.Ahead.{Naming, naming_behind, same_terminal, sees}
 use Rattle.lt_tree.specs.Grammar as g
 use Rattle.lt_expr.specs.Front.{name_at}
@@ -106,7 +106,7 @@ unfolding r.expression same_terminal
 members_stop n scope at rest ends = refl
 
 members_go : (n : ℕ) (scope : Scope) (ts us rest : List Symbol) (m : c.StructMember) (ms : c.Members) (ends middle now : List ℕ) → sees t.CloseBrace ts ≡ false
-    → r.member n scope (ts, ends) ≡ Some (m, (us, middle)) → r.members n scope (us, middle) ≡ Some (ms, (rest, now))
+    → r.member n scope (ts, ends) ≡ Some (m, (us, middle)) → r.members n (after_member m scope) (us, middle) ≡ Some (ms, (rest, now))
     → r.members (suc n) scope (ts, ends) ≡ Some (c.a_member m ms, (rest, now))
 unfolding r.expression
 members_go n scope ts us rest m ms ends middle now front first others = rw (front, first, others) refl
@@ -118,7 +118,7 @@ unfolding r.expression same_terminal
 member_alone n scope at ts us ss ends now is = rw is refl
 
 member_declares : (n : ℕ) (scope : Scope) (ts us vs : List Symbol) (ss : c.Specifiers) (ds : c.MemberDeclarators) (ends middle now : List ℕ) → sees t.Semicolon us ≡ false
-    → r.specifiers n scope (ts, ends) ≡ Some (ss, (us, middle)) → r.member_declarators n scope (naming_behind ss) (us, middle) ≡ Some (ds, (vs, now))
+    → r.specifiers n scope (ts, ends) ≡ Some (ss, (us, middle)) → r.member_declarators n (after_specifiers ss scope) (naming_behind ss) (us, middle) ≡ Some (ds, (vs, now))
     → r.member (suc n) scope (ts, ends) ≡ Some (c.member ss ds, (vs, start_of ts ∷ now))
 unfolding r.expression
 member_declares n scope ts us vs ss ds ends middle now front is others = rw (is, front, others) refl
@@ -129,7 +129,7 @@ no_more_members_complete scope at rest more ends = once ends refl (omega arith) 
 -- one member
 member_complete : (scope : Scope) (ts us vs : List Symbol) (ss : c.Specifiers) (ds : c.MemberDeclarators) (spots first second ends : List ℕ) → length us < length ts
     → Specifiers scope ts ss us spots first ends
-    → ((now : List ℕ) → Declarators scope (naming_behind ss) us ds vs first second now)
+    → ((now : List ℕ) → Declarators (after_specifiers ss scope) (naming_behind ss) us ds vs first second now)
     → Read (λ n. r.member n scope) walk_member 4 ts (c.member ss ds) vs (start_of ts ∷ spots) second ends
 member_complete scope ts us vs ss c.no_declarators spots first second ends short x cb =
     let d = cb x.now in
@@ -144,8 +144,8 @@ member_complete scope ts us vs ss (c.a_declarator d width ds) spots first second
 pub one_more_member_complete : (scope : Scope) (ts us vs rest : List Symbol) (ss : c.Specifiers) (ds : c.MemberDeclarators) (ms : c.Members) (spots first second more ends : List ℕ)
     → sees t.CloseBrace ts ≡ false → length us < length ts → length vs < length us
     → Specifiers scope ts ss us spots first ends
-    → ((now : List ℕ) → Declarators scope (naming_behind ss) us ds vs first second now)
-    → ((now : List ℕ) → Members scope vs ms rest second more now)
+    → ((now : List ℕ) → Declarators (after_specifiers ss scope) (naming_behind ss) us ds vs first second now)
+    → ((now : List ℕ) → Members (after_member (c.member ss ds) scope) vs ms rest second more now)
     → Members scope ts (c.a_member (c.member ss ds) ms) rest (start_of ts ∷ spots) more ends
 one_more_member_complete scope ts us vs rest ss ds ms spots first second more ends front short shorter x cb cm =
     let y = member_complete scope ts us vs ss ds spots first second ends short x cb in
@@ -188,7 +188,7 @@ unfolding r.expression same_terminal name_at
 enumerator_comma n scope a b d w ts rest value ends now is = rw is refl
 
 enumerator_more : (n : ℕ) (scope : Scope) (a b : ℕ) (w : List ℕ) (ts us rest : List Symbol) (value : c.Maybe) (es : c.Enumerators) (ends middle now : List ℕ) → sees t.CloseBrace us ≡ false
-    → r.after_sign n scope t.Equal (ts, ends) ≡ Some (value, (sign t.Comma b ∷ us, middle)) → r.enumerators n scope (us, a ∷ middle) ≡ Some (es, (rest, now))
+    → r.after_sign n scope t.Equal (ts, ends) ≡ Some (value, (sign t.Comma b ∷ us, middle)) → r.enumerators n (after_enumerator w value scope) (us, a ∷ middle) ≡ Some (es, (rest, now))
     → r.enumerators (suc n) scope (name w a ∷ ts, ends) ≡ Some (c.an_enumerator w value es, (rest, now))
 unfolding r.expression same_terminal name_at
 enumerator_more n scope a b w ts us rest value es ends middle now front is others = rw (is, front, others) refl
@@ -210,7 +210,7 @@ last_enumerator_and_comma_complete scope a b d w ts rest value spots more ends c
 pub more_enumerators_complete : (scope : Scope) (a b : ℕ) (w : List ℕ) (ts us rest : List Symbol) (value : c.Maybe) (es : c.Enumerators) (spots between more ends : List ℕ)
     → sees t.CloseBrace us ≡ false → length us < length ts
     → AfterSign scope t.Equal ts value (sign t.Comma b ∷ us) spots between ends
-    → ((now : List ℕ) → Enumerators scope us es rest between more now)
+    → ((now : List ℕ) → Enumerators (after_enumerator w value scope) us es rest between more now)
     → Enumerators scope (name w a ∷ ts) (c.an_enumerator w value es) rest (a ∷ spots) more ends
 more_enumerators_complete scope a b w ts us rest value es spots between more ends front short cv cb =
     let x = cv (omega arith) in

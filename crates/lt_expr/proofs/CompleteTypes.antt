@@ -6,11 +6,11 @@ use Rattle.lt_tree.specs.declared.specifier.TypeWord.{TypeWord}
 use Rattle.lt_tree.specs.declared.terminal.Terminal.{Terminal}
 use Rattle.lt_tree.specs.Tree as c
 use Rattle.lt_tree.specs.Symbols.{Symbol, name, sign}
-use Rattle.lt_tree.specs.Scope.{Scope, is_type}
+use Rattle.lt_tree.specs.Scope.{Scope, is_type, after_type}
 use Rattle.lt_tree.specs.TypeWords.{gathered}
 use Rattle.lt_tree.specs.Ahead.{same_terminal, begins_specifier}
 use Rattle.lt_tree.specs.Grammar.{no_words}
-use Rattle.lt_expr.specs.Specifier.{Specifier, of_type, Found, none_found, with_specifier, names_type, specifiers_of, one_specifier}
+use Rattle.lt_expr.specs.Specifier.{Specifier, storage_class, inline_word, noreturn_word, const_word, volatile_word, of_type, Found, none_found, with_specifier, names_type, after_specifier, specifiers_of, one_specifier}
 use Rattle.lt_expr.specs.Reading as r
 use Rattle.lt_expr.specs.Reading.{by_tag, enumerators_by}
 use Rattle.lt_expr.specs.Walk.{Walked, walk_specifiers, walk_types, walk_type}
@@ -40,7 +40,7 @@ unfolding r.expression
 further_stops n scope typed ts ends e = rw e refl
 
 further_goes : (n : ℕ) (scope : Scope) (typed : Bool) (ts us rest : List Symbol) (s : Specifier) (found : Found) (ends middle now : List ℕ) → begins_specifier scope typed ts ≡ true
-    → r.specifier n scope (ts, ends) ≡ Some (s, (us, middle)) → r.further n scope (typed || names_type s) (us, middle) ≡ Some (found, (rest, now))
+    → r.specifier n scope (ts, ends) ≡ Some (s, (us, middle)) → r.further n (after_specifier s scope) (typed || names_type s) (us, middle) ≡ Some (found, (rest, now))
     → r.further (suc n) scope typed (ts, ends) ≡ Some (with_specifier s found, (rest, now))
 unfolding r.expression
 further_goes n scope typed ts us rest s found ends middle now front first others = rw (front, first, others) refl
@@ -54,6 +54,15 @@ specifier_name : (n : ℕ) (scope : Scope) (w : List ℕ) (at : ℕ) (ts : List 
     → r.specifier (suc n) scope (name w at ∷ ts, ends) ≡ Some (of_type (c.Named w), (ts, ends))
 unfolding r.expression one_specifier same_terminal
 specifier_name n scope w at ts ends = refl
+
+-- a word that is no type hides nothing
+word_hidden : (s : Specifier) (scope : Scope) → names_type s ≡ false → after_specifier s scope ≡ scope
+word_hidden (storage_class class) scope e = refl
+word_hidden inline_word scope e = refl
+word_hidden noreturn_word scope e = refl
+word_hidden const_word scope e = refl
+word_hidden volatile_word scope e = refl
+word_hidden (of_type type) scope e = absurd cc
 
 or_false : (typed : Bool) → (typed || false) ≡ typed
 or_false true = refl
@@ -71,20 +80,21 @@ pub word_complete : (scope : Scope) (typed : Bool) (k : Terminal) (at : ℕ) (s 
 word_complete scope typed k at s ts rest words all types spots more ends w no_type is x =
     twice x.now x.walked (omega arith)
     (λ n big. further_goes (suc n) scope typed (sign k at ∷ ts) ts rest s (found_of words types) ends ends x.now w.begins (specifier_word n scope k at ts s ends w)
-    (ap (λ (b : Bool). r.further (suc n) scope b (ts, ends)) (ap (λ (b : Bool). typed || b) no_type ∙ or_false typed) ∙ x.reads (suc n) (omega arith))
+    (ap (λ (names : Scope). r.further (suc n) names (typed || names_type s) (ts, ends)) (word_hidden s scope no_type)
+    ∙ ap (λ (b : Bool). r.further (suc n) scope b (ts, ends)) (ap (λ (b : Bool). typed || b) no_type ∙ or_false typed) ∙ x.reads (suc n) (omega arith))
     ∙ ap (λ (f : Found). Some (f, (rest, x.now))) is)
 
 -- a type, before others
 pub type_complete : (scope : Scope) (typed : Bool) (ts us rest : List Symbol) (type : c.TypeSpecifier) (words : c.Words) (types : c.TypeSpecifiers) (spots between more ends : List ℕ)
     → begins_specifier scope typed ts ≡ true → length us < length ts
     → Read (λ n. r.specifier n scope) walk_specifier 1 ts (of_type type) us spots between ends
-    → ((now : List ℕ) → Further scope true us words types rest between more now)
+    → ((now : List ℕ) → Further (after_type type scope) true us words types rest between more now)
     → Further scope typed ts words (c.a_type type types) rest spots more ends
 type_complete scope typed ts us rest type words types spots between more ends front short x cb =
     let y = cb x.now in
     once y.now (ap (walk_type type) y.walked ∙ x.walked) (omega arith)
     (λ n big. further_goes n scope typed ts us rest (of_type type) (found_of words types) ends x.now y.now front (x.reads n (omega arith))
-    (ap (λ (b : Bool). r.further n scope b (us, x.now)) (or_right typed true refl) ∙ y.reads n (omega arith)))
+    (ap (λ (b : Bool). r.further n (after_type type scope) b (us, x.now)) (or_right typed true refl) ∙ y.reads n (omega arith)))
 
 pub type_word_complete : (scope : Scope) (typed : Bool) (k : Terminal) (at : ℕ) (word : TypeWord) (ts rest : List Symbol) (words : c.Words) (types : c.TypeSpecifiers) (spots more ends : List ℕ)
     → IsWord k (of_type (c.Word word)) → ((now : List ℕ) → Further scope true ts words types rest spots more now)

@@ -28,6 +28,17 @@ below_declaring : (type : Bool) (name : Option (List ℕ)) (a b : Scope) → Bel
 below_declaring type None a b below = below
 below_declaring type (Some w) a b below = below_through a b (record { name = w; is_type = type } ∷ b) below (below_first (record { name = w; is_type = type }) b)
 
+named_once : (type : Bool) (name : Option (List ℕ)) (p : Parsing) (new : Scope) → new ≡ declaring type name p.inner → Hides p (record p { inner = new }) (declaring type name (scope_of p))
+named_once type name p new is =
+    hides_when (declaring type name (scope_of p)) new p (ap (λ names. names ++ p.outer) is ∙ declaring_around type name p.inner p.outer)
+    (subst (Below p.inner) (sym is) (below_declaring type name p.inner p.inner (below_same p.inner p.inner refl)))
+
+-- the name of a declarator, or an enumerator
+pub named : {X : Type 0} (type : Bool) (name : Option (List ℕ)) (before p : Parsing) (new : Scope) (result : Result X AllocError) → p ≡ before
+    → IfOk result (λ _. new ≡ declaring type name p.inner) → IfOk result (λ _. Hides before (record p { inner = new }) (declaring type name (scope_of before)))
+named type name before p new (Ok x) same is = subst (λ (q : Parsing). Hides q (record p { inner = new }) (declaring type name (scope_of q))) same (named_once type name p new is)
+named type name before p new (Err e) same is = is
+
 declared_once : (type : Bool) (name : Option (List ℕ)) (parts : t.Parts) (p : Parsing) (new : Scope) → new ≡ after_declarator type (t.declarator name parts) p.inner
     → Hides p (record p { inner = new }) (after_declarator type (t.declarator name parts) (scope_of p))
 declared_once type name parts p new is =

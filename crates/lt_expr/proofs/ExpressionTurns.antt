@@ -15,7 +15,7 @@ use Rattle.lt_expr.specs.Reading as reading
 use Rattle.lt_expr.specs.Parsing.{Parsing, rest_of, scope_of, GoesOn}
 use Rattle.lt_expr.proofs.Joins.{more_expressions, last_expressions}
 use Rattle.lt_expr.proofs.Commas.{comma_of_parts}
-use Rattle.lt_expr.proofs.Turns.{same_scope}
+use Rattle.lt_expr.proofs.Scopes.{same_scope}
 
 -- ---- the parts of a comma expression
 

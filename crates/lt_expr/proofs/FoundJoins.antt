@@ -22,7 +22,7 @@ or_false : (b : Bool) → (b || false) ≡ b
 or_false true = refl
 or_false false = refl
 
-types_all : (front : c.TypeSpecifiers) → types_before front c.no_types ≡ front
+pub types_all : (front : c.TypeSpecifiers) → types_before front c.no_types ≡ front
 types_all c.no_types = refl
 types_all (c.a_type first front) = ap (c.a_type first) (types_all front)
 

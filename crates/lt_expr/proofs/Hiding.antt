@@ -39,23 +39,7 @@ hides_names now p inner ws is hides =
       below = subst (Below p.inner) (sym hides) (below_hiding ws p.inner);
     })
 
--- a name behind others
-declares_behind : (ws : List (List ℕ)) (w : List ℕ) (s : Scope) → hiding (ws ++ w ∷ []) s ≡ declaring false (Some w) (hiding ws s)
-declares_behind ws w s = hiding_both ws (w ∷ []) s
-
-declares_names : (now p : Parsing) (inner : Scope) (ws : List (List ℕ)) (name : Option (List ℕ)) → p ≡ now → inner ≡ declaring false name (hiding ws p.inner)
-    → Hides now (record p { inner = inner }) (declaring false name (hiding ws (scope_of now)))
-declares_names now p inner ws None is hides = hides_names now p inner ws is hides
-declares_names now p inner ws (Some w) is hides =
-    subst (Hides now (record p { inner = inner })) (declares_behind ws w (scope_of now))
-    (hides_names now p inner (ws ++ w ∷ []) is (hides ∙ sym (declares_behind ws w p.inner)))
-
 pub specifiers_hidden : {A E : Type 0} (r : Result A E) (now p : Parsing) (inner : Scope) (ws : List (List ℕ)) → p ≡ now → IfOk r (λ _. inner ≡ hiding ws p.inner)
     → IfOk r (λ _. Hides now (record p { inner = inner }) (hiding ws (scope_of now)))
 specifiers_hidden (Ok x) now p inner ws is hides = hides_names now p inner ws is hides
 specifiers_hidden (Err e) now p inner ws is hides = hides
-
-pub declarator_hidden : {A E : Type 0} (r : Result A E) (now p : Parsing) (inner : Scope) (ws : List (List ℕ)) (name : Option (List ℕ)) → p ≡ now → IfOk r (λ _. inner ≡ declaring false name (hiding ws p.inner))
-    → IfOk r (λ _. Hides now (record p { inner = inner }) (declaring false name (hiding ws (scope_of now))))
-declarator_hidden (Ok x) now p inner ws name is hides = declares_names now p inner ws name is hides
-declarator_hidden (Err e) now p inner ws name is hides = hides

@@ -15,7 +15,8 @@ use Rattle.lt_tree.specs.View.{expression_of, mark_of, member_of, part_before}
 use Rattle.lt_tree.specs.Records.{expressions_in, marks_in, bindings_in, members_in, member_declarators_in, enumerators_in, parameter_list_in, parts_in, specifiers_of, declarator_of, maybe_in}
 use Rattle.lt_expr.specs.Front.{Rest, ◌>>=◌}
 use Rattle.lt_expr.specs.Fronts.{after, marks_before, bindings_before, members_before, member_declarators_before, enumerators_before, parameters_before}
-use Rattle.lt_expr.specs.Reading.{joined, NameAndParts}
+use Rattle.lt_tree.specs.Grammar.{joined}
+use Rattle.lt_expr.specs.Reading.{NameAndParts}
 use Rattle.lt_expr.specs.Namings.{part_alone}
 
 -- what is put before what is read, put together
@@ -227,12 +228,20 @@ pub parts_push : (front : List DeclaratorPart) (p : DeclaratorPart) → parts_in
 parts_push [] p = refl
 parts_push (x ∷ front) p = ap (part_before x) (parts_push front p) ∙ sym (part_joins x (parts_in front) (part_alone p))
 
+-- a list behind another
+pub parts_append : (front back : List DeclaratorPart) → parts_in (front ++ back) ≡ joined (parts_in front) (parts_in back)
+parts_append [] back = refl
+parts_append (x ∷ front) back = ap (part_before x) (parts_append front back) ∙ sym (part_joins x (parts_in front) (parts_in back))
+
 parts_then : (front : List DeclaratorPart) (p : DeclaratorPart) (rest : c.Parts) → joined (parts_in (front ++ p ∷ [])) rest ≡ joined (parts_in front) (joined (part_alone p) rest)
 parts_then [] p rest = refl
 parts_then (x ∷ front) p rest = part_joins x (parts_in (front ++ p ∷ [])) rest ∙ ap (part_before x) (parts_then front p rest) ∙ sym (part_joins x (parts_in front) (joined (part_alone p) rest))
 
 pub more_parts : (front : List DeclaratorPart) (p : DeclaratorPart) (read : Option (c.Parts × Rest)) → after (joined (parts_in (front ++ p ∷ []))) read ≡ after (joined (parts_in front)) (read >>= λ y. Some (joined (part_alone p) y.0, y.1))
 more_parts front p read = after_turn (joined (parts_in (front ++ p ∷ []))) (joined (parts_in front)) (joined (part_alone p)) (parts_then front p) read
+
+pub no_parts : (read : Option (c.Parts × Rest)) → after (joined c.no_parts) read ≡ read
+no_parts read = after_same (joined c.no_parts) (λ x. refl) read
 
 pub all_parts : (front : List DeclaratorPart) (r : Rest) → after (joined (parts_in front)) (Some (c.no_parts, r)) ≡ Some (parts_in front, r)
 all_parts front r = ap (λ x. Some (x, r)) (joined_none (parts_in front))

@@ -33,7 +33,10 @@ pub mod WalkRows
 pub mod Qualifiers
 pub mod Missing
 pub mod Scopes
+pub mod Failures
+pub mod Loops
 pub mod Hiding
+pub mod HiddenNames
 pub mod HideRows
 pub mod FoundJoins
 pub mod Joins

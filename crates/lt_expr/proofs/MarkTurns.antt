@@ -14,7 +14,7 @@ use Rattle.lt_expr.specs.Ends.{bound_name}
 use Rattle.lt_expr.specs.Reading as reading
 use Rattle.lt_expr.specs.Parsing.{Parsing, rest_of, scope_of, GoesOn}
 use Rattle.lt_expr.proofs.Joins.{more_marks, last_marks, more_bindings, last_bindings}
-use Rattle.lt_expr.proofs.Turns.{same_scope}
+use Rattle.lt_expr.proofs.Scopes.{same_scope}
 
 -- ---- marks
 

@@ -12,20 +12,21 @@ use Rattle.lt_tree.specs.Scope.{Scope}
 use Rattle.lt_tree.specs.Grammar.{IsWhole}
 use Rattle.lt_expr.specs.Reading.{whole}
 use Rattle.lt_expr.specs.Walk.{Walked, walk}
+use Rattle.std.specs.Global.{Global}
 use Rattle.lt_expr.specs.Parsing.{Parsing, scope_of, rest_of, GoesOn}
 use Rattle.lt_expr.specs.Parsed.{IsBetween}
 use Rattle.lt_expr.proofs.Sound.{read_is_derived}
 use Rattle.lt_expr.proofs.CompleteWhole.{nothing_derived}
 
 -- a parser before it has read anything
-abbrev pub begins : List Symbol → ℕ → Scope → Parsing
-begins ts from scope = record { symbols = ts; passed = from; ends = []; inner = []; outer = scope }
+abbrev pub begins : Global → List Symbol → ℕ → Scope → Parsing
+begins alloc ts from scope = record { alloc = alloc; symbols = ts; passed = from; ends = []; inner = []; outer = scope }
 
 -- what was read stands there, with the spots of its walk
-pub between : (scope : Scope) (ts : List Symbol) (from : ℕ) (e : c.Expression) (old new : Parsing) (next : ℕ) (walked : Walked) (ends spots : List ℕ)
-    → old ≡ begins ts from scope → whole (scope_of old) (rest_of old) ≡ Some (e, rest_of new) → GoesOn old new → next ≡ new.passed → next ≤ length new.symbols
+pub between : (alloc : Global) (scope : Scope) (ts : List Symbol) (from : ℕ) (e : c.Expression) (old new : Parsing) (next : ℕ) (walked : Walked) (ends spots : List ℕ)
+    → old ≡ begins alloc ts from scope → whole (scope_of old) (rest_of old) ≡ Some (e, rest_of new) → GoesOn old new → next ≡ new.passed → next ≤ length new.symbols
     → ends ≡ new.ends → walked ≡ walk e (ends, []) → spots ≡ walked.1 → IsBetween scope ts from e next spots
-between scope ts from e old new next walked ends spots made read on goes within same walks is =
+between alloc scope ts from e old new next walked ends spots made read on goes within same walks is =
     let kept : new.symbols ≡ ts = on.symbols ∙ ap (λ (p : Parsing). p.symbols) made in
     let front : whole scope (drop from ts, []) ≡ Some (e, (drop next ts, ends)) =
     ap (λ (p : Parsing). whole (scope_of p) (rest_of p)) (sym made) ∙ read
@@ -38,9 +39,9 @@ between scope ts from e old new next walked ends spots made read on goes within 
     )
 
 -- where nothing was read nothing stands
-pub nothing : (scope : Scope) (ts : List Symbol) (from : ℕ) (old : Parsing) → old ≡ begins ts from scope → whole (scope_of old) (rest_of old) ≡ None
+pub nothing : (alloc : Global) (scope : Scope) (ts : List Symbol) (from : ℕ) (old : Parsing) → old ≡ begins alloc ts from scope → whole (scope_of old) (rest_of old) ≡ None
     → (rest : List Symbol) (e : c.Expression) (spots : List ℕ) → IsWhole scope (drop from ts) e rest spots [] → ⊥
-nothing scope ts from old made none rest e spots w =
+nothing alloc scope ts from old made none rest e spots w =
     nothing_derived scope (drop from ts) [] (ap (λ (p : Parsing). whole (scope_of p) (rest_of p)) (sym made) ∙ none) rest e spots [] w
 
 -- a token's place is one

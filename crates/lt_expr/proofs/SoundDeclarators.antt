@@ -5,15 +5,16 @@ use Rattle.lt_tree.specs.declared.terminal.Terminal.{Terminal}
 use Rattle.lt_tree.specs.declared.terminal.Terminal.TheVariants as t
 use Rattle.lt_tree.specs.Tree as c
 use Rattle.lt_tree.specs.Symbols.{Symbol, name, constant, literal, sign, start_of}
-use Rattle.lt_tree.specs.Scope.{Scope, after_specifiers, after_parameter}
+use Rattle.lt_tree.specs.Scope.{Scope, after_expression, after_specifiers, after_parts, after_parameter}
 use Rattle.lt_tree.specs.Grammar as g
-use Rattle.lt_tree.specs.Grammar.{is_missing}
-use Rattle.lt_tree.specs.Ahead.{Naming, named, untyped, nameless, either, takes_name, takes_none, opens_parameters, begins_direct, same_terminal, sees, begins_declarator, begins_suffix, is_void_alone}
+use Rattle.lt_tree.specs.Grammar.{is_missing, joined}
+use Rattle.lt_tree.specs.Ahead.{Naming, named, untyped, nameless, either, behind_star, takes_name, takes_none, opens_parameters, begins_direct, same_terminal, sees, begins_declarator, begins_suffix, is_void_alone}
 use Rattle.lt_expr.specs.Front.{Rest, behind, begins_nested, own_name, goes_on_with_parameter, qualifiers}
 use Rattle.lt_expr.specs.Walk.{Walked, node, walk_declarator, walk_parts}
 use Rattle.lt_expr.specs.Reading as read
-use Rattle.lt_expr.specs.Reading.{NameAndParts, joined, as_declarator, list_end}
+use Rattle.lt_expr.specs.Reading.{NameAndParts, as_declarator, list_end}
 use Rattle.lt_expr.proofs.Walks.{joined_none, joined_joined, walk_joined}
+use Rattle.lt_expr.proofs.HiddenNames.{length_hidden}
 use Rattle.lt_expr.proofs.SoundSteps.{Yields, nothing, given, weaker, both, chosen}
 use Rattle.lt_expr.proofs.SoundFronts.{other_of, Sees, seen, see, seeing, expecting}
 use Rattle.lt_expr.proofs.SoundSpots.{Spotted, no_spot, by_rule, same_walk, two, three, one_node}
@@ -48,15 +49,16 @@ are_qualifiers (s ∷ ts) =
 -- ---- the rules, by what is seen
 
 pointer_rule : {scope : Scope} {naming : Naming} {ts rest : List Symbol} {outer parts : c.Parts} {name : Option (List ℕ)} {spots more : List ℕ}
-    → Sees t.Star ts → g.ArePointers scope naming (qualifiers (drop 1 ts)).1 (c.Pointer (qualifiers (drop 1 ts)).0 outer) name parts rest spots more
+    → Sees t.Star ts → g.ArePointers scope (behind_star naming) (qualifiers (drop 1 ts)).1 (c.Pointer (qualifiers (drop 1 ts)).0 outer) name parts rest spots more
     → g.ArePointers scope naming ts outer name parts rest spots more
 pointer_rule (seen {ts = us}) d = g.pointer (are_qualifiers us) d
 
-nested_rule : {scope : Scope} {naming : Naming} {ts us rest : List Symbol} {outer suffixed parts : c.Parts} {name : Option (List ℕ)} {spots middle more : List ℕ}
+nested_rule : {scope : Scope} {naming : Naming} {ts us rest : List Symbol} {outer suffixed parts : c.Parts} {name : Option (List ℕ)} {spots middle more : List ℕ} (inner : c.Parts)
     → Sees t.OpenParen ts → Sees t.CloseParen us → opens_parameters naming scope (drop 1 ts) ≡ false
-    → g.ArePointers scope naming (drop 1 ts) suffixed name parts us spots middle → g.AreSuffixes scope (drop 1 us) outer suffixed rest middle more
+    → g.ArePointers scope naming (drop 1 ts) suffixed name parts us spots middle → parts ≡ joined inner suffixed
+    → g.AreSuffixes (after_parts inner scope) (drop 1 us) outer suffixed rest middle more
     → g.IsDirect scope naming ts outer name parts rest spots more
-nested_rule seen seen o d e = g.nested o d e
+nested_rule inner seen seen o d is e = g.nested inner o d is e
 
 unsized_rule : {scope : Scope} {ts rest : List Symbol} {outer parts : c.Parts} {spots more : List ℕ}
     → Sees t.OpenIndex ts → Sees t.CloseIndex (drop 1 ts) → g.AreSuffixes scope (drop 1 (drop 1 ts)) outer parts rest spots more
@@ -65,7 +67,7 @@ unsized_rule seen seen d = g.unsized_array d
 
 array_rule : {scope : Scope} {ts us rest : List Symbol} {outer parts : c.Parts} {e : c.Expression} {spots middle more : List ℕ}
     → Sees t.OpenIndex ts → Sees t.CloseIndex us → g.IsExpression scope g.conditional (drop 1 ts) e us spots middle
-    → g.AreSuffixes scope (drop 1 us) outer parts rest middle more
+    → g.AreSuffixes (after_expression e scope) (drop 1 us) outer parts rest middle more
     → g.AreSuffixes scope ts outer (c.Array (c.present e) parts) rest spots more
 array_rule seen seen d e = g.array d e
 
@@ -157,7 +159,7 @@ unfolding read.expression
 pointers_sound n direct pointers scope naming r =
     seeing t.Star r.0 (λ q. cc)
     (λ s.
-    both (read.pointers n scope naming ((qualifiers (drop 1 r.0)).1, r.1)) (pointers scope naming ((qualifiers (drop 1 r.0)).1, r.1)) (λ x d.
+    both (read.pointers n scope (behind_star naming) ((qualifiers (drop 1 r.0)).1, r.1)) (pointers scope (behind_star naming) ((qualifiers (drop 1 r.0)).1, r.1)) (λ x d.
     given (same_walk (walk_joined x.0.1 (c.Pointer (qualifiers (drop 1 r.0)).0 c.no_parts))
     (by_rule (λ spots more h. record {
       before = λ outer.
@@ -176,12 +178,12 @@ direct_sound n pointers suffixes scope naming r =
     let o = not-true (opens_parameters naming scope (drop 1 r.0)) (and_parts (sees t.OpenParen r.0) _ b).1 in
     both (read.pointers n scope naming (behind r)) (pointers scope naming (behind r)) (λ x d.
     expecting t.CloseParen x.1 _ (λ q. cc) (λ close.
-    both (read.suffixes n scope (behind x.1)) (suffixes scope (behind x.1)) (λ y e.
+    both (read.suffixes n (after_parts x.0.1 scope) (behind x.1)) (suffixes (after_parts x.0.1 scope) (behind x.1)) (λ y e.
     given (same_walk (walk_joined x.0.1 y.0)
     (two (λ spots middle more h k. record {
       before = λ outer.
           subst (λ (p : c.Parts). g.IsDirect scope naming r.0 outer x.0.0 p y.1.0 spots more) (sym (joined_joined x.0.1 y.0 outer))
-          (nested_rule s close o (h.before (joined y.0 outer)) (k.before outer));
+          (nested_rule x.0.1 s close o (h.before (joined y.0 outer)) refl (k.before outer));
     }) d e))))))
     (λ b.
     both (own_name naming scope r) (own_is scope naming r b) (λ w i.
@@ -195,7 +197,7 @@ suffixes_sound n suffix suffixes scope r =
     chosen (begins_suffix r.0)
     (λ b.
     both (read.suffix n scope r) (suffix scope r b) (λ x d.
-    both (read.suffixes n scope x.1) (suffixes scope x.1) (λ y e.
+    both (read.suffixes n (after_parts x.0 scope) x.1) (suffixes (after_parts x.0 scope) x.1) (λ y e.
     given (same_walk (walk_joined x.0 y.0)
     (two (λ spots middle more h k. record {
       before = λ outer.
@@ -218,7 +220,10 @@ suffix_sound n parameters conditional scope r begins =
     (λ sized.
     both (read.conditional n scope (behind r)) (conditional scope (behind r)) (λ x d.
     expecting t.CloseIndex x.1 _ (λ q. cc) (λ close.
-    given (by_rule (λ spots middle h. record { before = λ outer others end more k. array_rule s close h k }) d)))))
+    given (by_rule (λ spots middle h. record {
+      before = λ outer others end more k.
+          array_rule s close h (subst (λ (names : Scope). g.AreSuffixes names (drop 1 x.1.0) outer others end middle more) (length_hidden x.0 scope) k);
+    }) d)))))
 
 pub parameters_sound : (n : ℕ) → ParameterListSound n → ParametersSound (suc n)
 unfolding read.expression

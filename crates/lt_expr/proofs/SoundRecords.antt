@@ -4,9 +4,9 @@ use Rattle.lt_tree.specs.declared.terminal.Terminal.{Terminal}
 use Rattle.lt_tree.specs.declared.terminal.Terminal.TheVariants as t
 use Rattle.lt_tree.specs.Tree as c
 use Rattle.lt_tree.specs.Symbols.{Symbol, start_of}
-use Rattle.lt_tree.specs.Scope.{Scope}
+use Rattle.lt_tree.specs.Scope.{Scope, after_specifiers, after_inside, after_member_declarator, after_member, after_enumerator}
 use Rattle.lt_tree.specs.Grammar as g
-use Rattle.lt_tree.specs.Ahead.{Naming, naming_behind, sees}
+use Rattle.lt_tree.specs.Ahead.{Naming, named, naming_behind, sees}
 use Rattle.lt_expr.specs.Front.{Rest, behind, ended}
 use Rattle.lt_expr.specs.Specifier.{Specifier, of_type}
 use Rattle.lt_expr.specs.Walk.{walk_enumerators}
@@ -52,13 +52,13 @@ no_declarators_rule : {scope : Scope} {naming : Naming} {ts : List Symbol} {more
 no_declarators_rule seen = g.no_member_declarators
 
 last_declarator_rule : {scope : Scope} {naming : Naming} {ts us vs : List Symbol} {d : c.Declarator} {width : c.Maybe} {spots middle more : List ℕ}
-    → Sees t.Semicolon vs → g.IsDeclarator scope naming ts d us spots middle → g.IsAfterSign scope t.Colon us width vs middle more
+    → Sees t.Semicolon vs → g.IsDeclarator scope naming ts d us spots middle → g.IsAfterSign (after_inside d scope) t.Colon us width vs middle more
     → g.AreMemberDeclarators scope naming ts (c.a_declarator d width c.no_declarators) (drop 1 vs) spots more
 last_declarator_rule seen d e = g.last_member_declarator d e
 
 more_declarators_rule : {scope : Scope} {naming : Naming} {ts us vs rest : List Symbol} {d : c.Declarator} {width : c.Maybe} (ds : c.MemberDeclarators) {spots first second more : List ℕ}
-    → HasDeclarator ds → Sees t.Comma vs → g.IsDeclarator scope naming ts d us spots first → g.IsAfterSign scope t.Colon us width vs first second
-    → g.AreMemberDeclarators scope naming (drop 1 vs) ds rest second more
+    → HasDeclarator ds → Sees t.Comma vs → g.IsDeclarator scope naming ts d us spots first → g.IsAfterSign (after_inside d scope) t.Colon us width vs first second
+    → g.AreMemberDeclarators (after_member_declarator d width scope) named (drop 1 vs) ds rest second more
     → g.AreMemberDeclarators scope naming ts (c.a_declarator d width ds) rest spots more
 more_declarators_rule c.no_declarators some s d e f = absurd some
 more_declarators_rule (c.a_declarator x wide ds) some seen d e f = g.more_member_declarators d e f
@@ -79,12 +79,12 @@ comma_and_brace_rule : {scope : Scope} {w : List ℕ} {ts us : List Symbol} {val
 comma_and_brace_rule has_name d seen seen = g.last_enumerator_and_comma d
 
 more_enumerators_rule : {scope : Scope} {w : List ℕ} {ts us rest : List Symbol} {value : c.Maybe} {es : c.Enumerators} {spots middle more : List ℕ}
-    → HasName ts w → g.IsAfterSign scope t.Equal (drop 1 ts) value us spots middle → Sees t.Comma us → g.AreEnumerators scope (drop 1 us) es rest middle more
+    → HasName ts w → g.IsAfterSign scope t.Equal (drop 1 ts) value us spots middle → Sees t.Comma us → g.AreEnumerators (after_enumerator w value scope) (drop 1 us) es rest middle more
     → g.AreEnumerators scope ts (c.an_enumerator w value es) rest (start_of ts ∷ spots) more
 more_enumerators_rule has_name d seen e = g.more_enumerators d e
 
 others_rule : {scope : Scope} {w : List ℕ} {ts us rest : List Symbol} {value : c.Maybe} {es : c.Enumerators} {spots middle more : List ℕ}
-    → HasName ts w → g.IsAfterSign scope t.Equal (drop 1 ts) value us spots middle → Sees t.Comma us → AreOthers scope (drop 1 us) es rest middle more
+    → HasName ts w → g.IsAfterSign scope t.Equal (drop 1 ts) value us spots middle → Sees t.Comma us → AreOthers (after_enumerator w value scope) (drop 1 us) es rest middle more
     → g.AreEnumerators scope ts (c.an_enumerator w value es) rest (start_of ts ∷ spots) more
 others_rule i d s (no_others close) = comma_and_brace_rule i d s close
 others_rule i d s (others e) = more_enumerators_rule i d s e
@@ -117,7 +117,7 @@ members_sound n member members scope r =
     (λ s. given (no_spot (λ more. no_members_rule s)))
     (λ e.
     both (read.member n scope r) (member scope r) (λ m d.
-    both (read.members n scope m.1) (members scope m.1) (λ y f.
+    both (read.members n (after_member m.0 scope) m.1) (members (after_member m.0 scope) m.1) (λ y f.
     given (two (λ spots middle more h k. h.before y.0 y.1.0 more k) d f))))
 
 pub member_sound : (n : ℕ) → SpecifiersSound n → MemberDeclaratorsSound n → MemberSound (suc n)
@@ -127,17 +127,17 @@ member_sound n specifiers declarators scope r =
     seeing t.Semicolon s.1.0 (λ q. cc)
     (λ end. given (one_node (λ spots middle h. record { before = λ members rest more k. g.one_more_member h (no_declarators_rule end) k }) d))
     (λ e.
-    both (read.member_declarators n scope (naming_behind s.0) s.1) (declarators scope (naming_behind s.0) s.1) (λ ds f.
+    both (read.member_declarators n (after_specifiers s.0 scope) (naming_behind s.0) s.1) (declarators (after_specifiers s.0 scope) (naming_behind s.0) s.1) (λ ds f.
     given (node_of_two (λ spots first second h k. record { before = λ members rest more l. g.one_more_member h k l }) d f.1))))
 
 pub member_declarators_sound : (n : ℕ) → DeclaratorSound n → AfterSignSound n → MemberDeclaratorsSound n → MemberDeclaratorsSound (suc n)
 unfolding read.expression
 member_declarators_sound n declarator after_sign declarators scope naming r =
     both (read.declarator n scope naming r) (declarator scope naming r) (λ x d.
-    both (read.after_sign n scope t.Colon x.1) (after_sign scope t.Colon x.1 (λ q. cc)) (λ width e.
+    both (read.after_sign n (after_inside x.0 scope) t.Colon x.1) (after_sign (after_inside x.0 scope) t.Colon x.1 (λ q. cc)) (λ width e.
     seeing t.Comma width.1.0 (λ q. cc)
     (λ s.
-    both (read.member_declarators n scope naming (behind width.1)) (declarators scope naming (behind width.1)) (λ y f.
+    both (read.member_declarators n (after_member_declarator x.0 width.0 scope) named (behind width.1)) (declarators (after_member_declarator x.0 width.0 scope) named (behind width.1)) (λ y f.
     given (tt, three (λ spots first second more h k l. more_declarators_rule y.0 f.0 s h k l) d e f.1)))
     (λ last.
     expecting t.Semicolon width.1 _ (λ q. cc) (λ s.
@@ -164,8 +164,8 @@ enumerators_sound n after_sign enumerators scope r =
     both (read.after_sign n scope t.Equal (behind r)) (after_sign scope t.Equal (behind r) (λ q. cc)) (λ value d.
     seeing t.Comma value.1.0 (λ q. cc)
     (λ s.
-    both (enumerators_by (read.enumerators n scope) (behind (ended (start_of r.0) value.1)))
-    (others_sound n enumerators scope (behind (ended (start_of r.0) value.1))) (λ y e.
+    both (enumerators_by (read.enumerators n (after_enumerator w value.0 scope)) (behind (ended (start_of r.0) value.1)))
+    (others_sound n enumerators (after_enumerator w value.0 scope) (behind (ended (start_of r.0) value.1))) (λ y e.
     given (node_and_others (λ spots middle more h k. others_rule i h s k) d e)))
     (λ last.
     expecting t.CloseBrace (ended (start_of r.0) value.1) _ (λ q. cc) (λ s.

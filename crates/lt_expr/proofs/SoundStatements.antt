@@ -4,14 +4,15 @@ use Rattle.lt_tree.specs.declared.terminal.Terminal.{Terminal}
 use Rattle.lt_tree.specs.declared.terminal.Terminal.TheVariants as t
 use Rattle.lt_tree.specs.Tree as c
 use Rattle.lt_tree.specs.Symbols.{Symbol, name, sign, constant, literal, start_of}
-use Rattle.lt_tree.specs.Scope.{Scope}
+use Rattle.lt_tree.specs.Scope.{Scope, after_member, after_parts}
 use Rattle.lt_tree.specs.Grammar as g
 use Rattle.lt_tree.specs.Ahead.{Naming, begins_specifier, begins_suffix}
 use Rattle.lt_expr.specs.Front.{Rest, ended, begins_cast, begins_postfix, operator_at}
-use Rattle.lt_expr.specs.Specifier.{Specifier, of_type, Found, with_specifier, names_type}
+use Rattle.lt_expr.specs.Specifier.{Specifier, of_type, Found, with_specifier, names_type, after_specifier}
 use Rattle.lt_expr.specs.Walk.{Walked, walk, walk_all, walk_maybe, walk_marks, walk_mark, walk_bindings, walk_specifiers, walk_types, walk_type, walk_members, walk_member, walk_member_declarators, walk_enumerators, walk_declarator, walk_parts, walk_parameters, walk_parameter_list}
 use Rattle.lt_expr.specs.Reading as read
-use Rattle.lt_expr.specs.Reading.{Labelled, NameAndParts, joined}
+use Rattle.lt_tree.specs.Grammar.{joined}
+use Rattle.lt_expr.specs.Reading.{Labelled, NameAndParts}
 use Rattle.lt_expr.proofs.SoundSteps.{Yields}
 use Rattle.lt_expr.proofs.SoundSpots.{Spotted}
 
@@ -102,7 +103,7 @@ walk_one _ w = w
 
 -- the symbols ts begin with this specifier: with further ones behind it they are further specifiers
 pub record IsSpecifier (scope : Scope) (typed : Bool) (ts : List Symbol) (s : Specifier) (rest : List Symbol) (spots middle : List ℕ) : Type 0 where
-  pub further : (found : Found) (end : List Symbol) (more : List ℕ) → g.AreFurther scope (typed || names_type s) rest found.words found.types end middle more
+  pub further : (found : Found) (end : List Symbol) (more : List ℕ) → g.AreFurther (after_specifier s scope) (typed || names_type s) rest found.words found.types end middle more
       → g.AreFurther scope typed ts (with_specifier s found).words (with_specifier s found).types end spots more
 
 abbrev pub SpecifierSound : ℕ → Type 0
@@ -127,7 +128,7 @@ MembersSound n = (scope : Scope) (r : Rest) → Yields (read.members n scope r) 
 
 -- the symbols ts begin with this member: with members behind it they are members
 pub record IsMember (scope : Scope) (ts : List Symbol) (m : c.StructMember) (rest : List Symbol) (spots middle : List ℕ) : Type 0 where
-  pub before : (members : c.Members) (end : List Symbol) (more : List ℕ) → g.AreMembers scope rest members end middle more
+  pub before : (members : c.Members) (end : List Symbol) (more : List ℕ) → g.AreMembers (after_member m scope) rest members end middle more
       → g.AreMembers scope ts (c.a_member m members) end spots more
 
 abbrev pub MemberSound : ℕ → Type 0
@@ -180,7 +181,7 @@ SuffixesSound n = (scope : Scope) (r : Rest)
 
 -- the symbols ts begin with this suffix: with suffixes behind it they are suffixes
 pub record HasSuffix (scope : Scope) (ts : List Symbol) (parts : c.Parts) (rest : List Symbol) (spots middle : List ℕ) : Type 0 where
-  pub before : (outer others : c.Parts) (end : List Symbol) (more : List ℕ) → g.AreSuffixes scope rest outer others end middle more
+  pub before : (outer others : c.Parts) (end : List Symbol) (more : List ℕ) → g.AreSuffixes (after_parts parts scope) rest outer others end middle more
       → g.AreSuffixes scope ts outer (joined parts others) end spots more
 
 abbrev pub SuffixSound : ℕ → Type 0

@@ -5,12 +5,12 @@ use Rattle.lt_tree.specs.declared.terminal.Terminal.{Terminal}
 use Rattle.lt_tree.specs.declared.terminal.Terminal.TheVariants as t
 use Rattle.lt_tree.specs.Tree as c
 use Rattle.lt_tree.specs.Symbols.{Symbol, name, constant, literal, sign, start_of}
-use Rattle.lt_tree.specs.Scope.{Scope, is_type}
+use Rattle.lt_tree.specs.Scope.{Scope, is_type, after_type, after_specifiers}
 use Rattle.lt_tree.specs.Operators.{storage_of, type_word_of}
 use Rattle.lt_tree.specs.Grammar as g
 use Rattle.lt_tree.specs.Ahead.{nameless, begins_specifier}
 use Rattle.lt_expr.specs.Front.{Rest, ◌>>=◌, if_some, behind, optional_name}
-use Rattle.lt_expr.specs.Specifier.{Specifier, storage_class, inline_word, noreturn_word, const_word, volatile_word, of_type, Found, with_specifier, names_type, word_specifier, one_specifier}
+use Rattle.lt_expr.specs.Specifier.{Specifier, storage_class, inline_word, noreturn_word, const_word, volatile_word, of_type, Found, with_specifier, names_type, after_specifier, word_specifier, one_specifier}
 use Rattle.lt_expr.specs.Walk.{Walked, walk_types}
 use Rattle.lt_expr.specs.Reading as read
 use Rattle.lt_expr.proofs.SoundSteps.{Yields, nothing, given, weaker, both, chosen, found, mapped}
@@ -85,7 +85,7 @@ tag_is k a (sign j at ∷ us) ends = given (without_tag, refl)
 tagged_before : {scope : Scope} {ts rest : List Symbol} (typed : Bool) (s : Specifier) {spots middle : List ℕ}
     → IsTaggedBy scope ts s rest spots middle → IsSpecifier scope typed ts s rest spots middle
 tagged_before {scope} {ts} {rest} typed (of_type type) {spots} {middle} d = record {
-  further = λ f end more h. g.struct_or_enum d (subst (λ (b : Bool). g.AreFurther scope b rest f.words f.types end middle more) (or-true typed) h);
+  further = λ f end more h. g.struct_or_enum d (subst (λ (b : Bool). g.AreFurther (after_type type scope) b rest f.words f.types end middle more) (or-true typed) h);
 }
 tagged_before typed s d = absurd d
 
@@ -104,7 +104,7 @@ pub type_name_sound : (n : ℕ) → SpecifiersSound n → DeclaratorSound n → 
 unfolding read.expression
 type_name_sound n specifiers declarator scope r =
     both (read.specifiers n scope r) (specifiers scope r) (λ s d.
-    both (read.declarator n scope nameless s.1) (declarator scope nameless s.1) (λ x e.
+    both (read.declarator n (after_specifiers s.0 scope) nameless s.1) (declarator (after_specifiers s.0 scope) nameless s.1) (λ x e.
     given (two (λ spots middle more h k. g.type_name h k) d e)))
 
 pub specifiers_sound : (n : ℕ) → FurtherSound n → SpecifiersSound (suc n)
@@ -122,7 +122,7 @@ further_sound n specifier further scope typed r =
     chosen (begins_specifier scope typed r.0)
     (λ b.
     both (read.specifier n scope r) (specifier scope typed r b) (λ s d.
-    both (read.further n scope (typed || names_type s.0) s.1) (further scope (typed || names_type s.0) s.1) (λ f e.
+    both (read.further n (after_specifier s.0 scope) (typed || names_type s.0) s.1) (further (after_specifier s.0 scope) (typed || names_type s.0) s.1) (λ f e.
     given (same_walk (walk_with s.0 f.0) (two (λ spots middle more h k. h.further f.0 f.1.0 more k) d e)))))
     (λ b. given (no_spot (λ more. g.no_further b)))
 

@@ -1,57 +1,78 @@
 -- One turn of a loop that reads a list is one step of the reading.
 use Rattle.std.proofs.Common.{◌≡◌, ℕ, zero, suc, ◌+◌, ◌-◌, ◌≤◌, Bool, true, false, cond, List, [], ◌∷◌, ◌++◌, length, drop, Option, Some, None, refl, sym, ap, ◌∙◌, arith}
-use Rattle.std.proofs.lemmas.List.{drop-drop}
 use Rattle.lt_tree.specs.declared.declarator.DeclaratorPart.{DeclaratorPart}
 use Rattle.lt_tree.specs.declared.declarator.Parameter.{Parameter}
 use Rattle.lt_tree.specs.Tree as c
 use Rattle.lt_tree.specs.Records.{parts_in, parameter_list_in, specifiers_of, declarator_of}
-use Rattle.lt_tree.specs.Ahead.{either, begins_suffix}
-use Rattle.lt_tree.specs.Scope.{Scope, after_specifiers, after_declarator, after_parameter}
-use Rattle.lt_expr.specs.Front.{Rest, ◌>>=◌, behind, goes_on_with_parameter}
+use Rattle.lt_tree.specs.declared.terminal.Terminal.TheVariants as t
+use Rattle.lt_tree.specs.Symbols.{Symbol}
+use Rattle.lt_tree.specs.Ahead.{Naming, either, behind_star, sees, begins_suffix}
+use Rattle.lt_tree.specs.Scope.{Scope, after_parts, after_specifiers, after_inside, after_name, after_parameter}
+use Rattle.lt_expr.specs.Front.{Rest, ◌>>=◌, behind, expect, qualifiers, begins_nested, goes_on_with_parameter}
 use Rattle.lt_expr.specs.Fronts.{after, parameters_before}
 use Rattle.lt_expr.specs.Reading as reading
-use Rattle.lt_expr.specs.Reading.{joined}
+use Rattle.lt_tree.specs.Grammar.{joined}
 use Rattle.lt_expr.specs.Namings.{part_alone}
-use Rattle.lt_expr.specs.Parsing.{Parsing, rest_of, scope_of, GoesOn, Below, Hides}
-use Rattle.lt_expr.proofs.Joins.{more_parts, all_parts, more_parameters, last_parameters}
+use Rattle.lt_expr.specs.Parsing.{Parsing, rest_of, scope_of, GoesOn, Below, Hides, Declares}
+use Rattle.lt_expr.proofs.Joins.{parts_push, more_parts, all_parts, more_parameters, last_parameters}
+use Rattle.lt_expr.proofs.HiddenNames.{joined_hidden}
+use Rattle.lt_expr.proofs.Scopes.{same_scope, on_through, below_same, below_through}
 
 -- ---- suffixes of declarators
 
 suffixes_more : (n : ℕ) (scope : Scope) (r rest : Rest) (x : c.Parts) → begins_suffix r.0 ≡ true → reading.suffix n scope r ≡ Some (x, rest)
-    → reading.suffixes (suc n) scope r ≡ (reading.suffixes n scope rest >>= λ y. Some (joined x y.0, y.1))
+    → reading.suffixes (suc n) scope r ≡ (reading.suffixes n (after_parts x scope) rest >>= λ y. Some (joined x y.0, y.1))
 unfolding reading.expression
 suffixes_more n scope r rest x more one =
-    ap (λ b. cond b (reading.suffix n scope r >>= λ x. reading.suffixes n scope x.1 >>= λ y. Some (joined x.0 y.0, y.1)) (Some (c.no_parts, r))) more
-    ∙ ap (λ read. read >>= λ x. reading.suffixes n scope x.1 >>= λ y. Some (joined x.0 y.0, y.1)) one
+    ap (λ b. cond b (reading.suffix n scope r >>= λ x. reading.suffixes n (after_parts x.0 scope) x.1 >>= λ y. Some (joined x.0 y.0, y.1)) (Some (c.no_parts, r))) more
+    ∙ ap (λ read. read >>= λ x. reading.suffixes n (after_parts x.0 scope) x.1 >>= λ y. Some (joined x.0 y.0, y.1)) one
 
 suffixes_none : (n : ℕ) (scope : Scope) (r : Rest) → begins_suffix r.0 ≡ false → reading.suffixes (suc n) scope r ≡ Some (c.no_parts, r)
 unfolding reading.expression
 suffixes_none n scope r none =
-    ap (λ b. cond b (reading.suffix n scope r >>= λ x. reading.suffixes n scope x.1 >>= λ y. Some (joined x.0 y.0, y.1)) (Some (c.no_parts, r))) none
-
-pub same_scope : (before later : Parsing) → GoesOn before later → scope_of later ≡ scope_of before
-same_scope before later on = ap (λ inner. inner ++ later.outer) on.inner ∙ ap (λ outer. before.inner ++ outer) on.outer
+    ap (λ b. cond b (reading.suffix n scope r >>= λ x. reading.suffixes n (after_parts x.0 scope) x.1 >>= λ y. Some (joined x.0 y.0, y.1)) (Some (c.no_parts, r))) none
 
 pub goes_on : (before at later : Parsing) → GoesOn before at → GoesOn at later → GoesOn before later
-goes_on before at later p q = record { symbols = q.symbols ∙ p.symbols; inner = q.inner ∙ p.inner; outer = q.outer ∙ p.outer }
+goes_on before at later p q = on_through before at later p q
 
-pub suffixes_turn : (front all : List DeclaratorPart) (p : DeclaratorPart) (depth n : ℕ) (before later : Parsing)
-    → depth ≡ suc n → begins_suffix (rest_of before).0 ≡ true
-    → reading.suffix n (scope_of before) (rest_of before) ≡ Some (part_alone p, rest_of later) → GoesOn before later → all ≡ front ++ p ∷ []
-    → after (joined (parts_in all)) (reading.suffixes n (scope_of later) (rest_of later)) ≡ after (joined (parts_in front)) (reading.suffixes depth (scope_of before) (rest_of before))
-suffixes_turn front all p depth n before later deep more one on is =
-    ap (λ xs. after (joined (parts_in xs)) (reading.suffixes n (scope_of later) (rest_of later))) is
-    ∙ ap (λ scope. after (joined (parts_in (front ++ p ∷ []))) (reading.suffixes n scope (rest_of later))) (same_scope before later on)
-    ∙ more_parts front p (reading.suffixes n (scope_of before) (rest_of later))
-    ∙ ap (after (joined (parts_in front))) (sym (suffixes_more n (scope_of before) (rest_of before) (rest_of later) (part_alone p) more one))
-    ∙ ap (λ k. after (joined (parts_in front)) (reading.suffixes k (scope_of before) (rest_of before))) (sym deep)
+pub suffixes_turn : (front : List DeclaratorPart) (p : DeclaratorPart) (n : ℕ) (scope : Scope) (r u : Rest)
+    → begins_suffix r.0 ≡ true → reading.suffix n scope r ≡ Some (part_alone p, u)
+    → after (joined (parts_in (front ++ p ∷ []))) (reading.suffixes n (after_parts (part_alone p) scope) u) ≡ after (joined (parts_in front)) (reading.suffixes (suc n) scope r)
+suffixes_turn front p n scope r u more one =
+    more_parts front p (reading.suffixes n (after_parts (part_alone p) scope) u)
+    ∙ ap (after (joined (parts_in front))) (sym (suffixes_more n scope r u (part_alone p) more one))
 
-pub suffixes_end : (front : List DeclaratorPart) (depth n : ℕ) (at : Parsing) → depth ≡ suc n → begins_suffix (rest_of at).0 ≡ false
-    → after (joined (parts_in front)) (reading.suffixes depth (scope_of at) (rest_of at)) ≡ Some (parts_in front, rest_of at)
-suffixes_end front depth n at deep none =
-    ap (λ k. after (joined (parts_in front)) (reading.suffixes k (scope_of at) (rest_of at))) deep
-    ∙ ap (after (joined (parts_in front))) (suffixes_none n (scope_of at) (rest_of at) none)
-    ∙ all_parts front (rest_of at)
+pub suffixes_end : (front : List DeclaratorPart) (n : ℕ) (scope : Scope) (r : Rest) → begins_suffix r.0 ≡ false
+    → after (joined (parts_in front)) (reading.suffixes (suc n) scope r) ≡ Some (parts_in front, r)
+suffixes_end front n scope r none = ap (after (joined (parts_in front))) (suffixes_none n scope r none) ∙ all_parts front r
+
+pub suffixes_hide : (front : List DeclaratorPart) (p : DeclaratorPart) (s : Scope) → after_parts (parts_in (front ++ p ∷ [])) s ≡ after_parts (part_alone p) (after_parts (parts_in front) s)
+suffixes_hide front p s = ap (λ (parts : c.Parts). after_parts parts s) (parts_push front p) ∙ joined_hidden (parts_in front) (part_alone p) s
+
+-- ---- pointers and what stands in parentheses
+
+pointers_one : (n : ℕ) (scope : Scope) (naming : Naming) (r u : Rest) (q : c.Qualifiers) (ts : List Symbol) (w : Option (List ℕ)) (own : c.Parts) → sees t.Star r.0 ≡ true
+    → qualifiers (drop 1 r.0) ≡ (q, ts) → reading.pointers n scope (behind_star naming) (ts, r.1) ≡ Some ((w, own), u)
+    → reading.pointers (suc n) scope naming r ≡ Some ((w, joined own (c.Pointer q c.no_parts)), u)
+unfolding reading.expression
+pointers_one n scope naming r u q ts w own star quals others = rw (star, quals, others) refl
+
+pub pointers_turn : (depth n : ℕ) (scope : Scope) (naming : Naming) (r u : Rest) (q : c.Qualifiers) (ts : List Symbol) (w : Option (List ℕ)) (own : c.Parts) → depth ≡ suc n → sees t.Star r.0 ≡ true
+    → qualifiers (drop 1 r.0) ≡ (q, ts) → reading.pointers n scope (behind_star naming) (ts, r.1) ≡ Some ((w, own), u)
+    → reading.pointers depth scope naming r ≡ Some ((w, joined own (c.Pointer q c.no_parts)), u)
+pointers_turn depth n scope naming r u q ts w own deep star quals others = ap (λ k. reading.pointers k scope naming r) deep ∙ pointers_one n scope naming r u q ts w own star quals others
+
+direct_one : (n : ℕ) (scope : Scope) (naming : Naming) (r u v z : Rest) (w : Option (List ℕ)) (own parts : c.Parts) → begins_nested naming scope r.0 ≡ true
+    → reading.pointers n scope naming (behind r) ≡ Some ((w, own), u) → expect t.CloseParen u ≡ Some v → reading.suffixes n (after_parts own scope) v ≡ Some (parts, z)
+    → reading.direct (suc n) scope naming r ≡ Some ((w, joined own parts), z)
+unfolding reading.expression
+direct_one n scope naming r u v z w own parts nested first close others = rw (nested, first, close, others) refl
+
+pub direct_turn : (depth n : ℕ) (scope : Scope) (naming : Naming) (r u v z : Rest) (w : Option (List ℕ)) (own parts : c.Parts) → depth ≡ suc n → begins_nested naming scope r.0 ≡ true
+    → reading.pointers n scope naming (behind r) ≡ Some ((w, own), u) → expect t.CloseParen u ≡ Some v → reading.suffixes n (after_parts own scope) v ≡ Some (parts, z)
+    → reading.direct depth scope naming r ≡ Some ((w, joined own parts), z)
+direct_turn depth n scope naming r u v z w own parts deep nested first close others =
+    ap (λ k. reading.direct k scope naming r) deep ∙ direct_one n scope naming r u v z w own parts nested first close others
 
 -- ---- parameters
 
@@ -74,42 +95,20 @@ pub record OneParameter (n : ℕ) (before later : Parsing) (s : c.Specifiers) (d
   pub outer : later.outer ≡ before.outer
   pub below : Below before.inner later.inner
 
-below_same : (a b : Scope) → b ≡ a → Below a b
-below_same a b e = record {
-  longer = (let same : length b ≡ length a = ap length e in omega arith);
-  same = (let none : length b - length a ≡ 0 = (let same : length b ≡ length a = ap length e in omega arith) in ap (λ k. drop k b) none ∙ e);
-}
-
-below_through : (a b d : Scope) → Below a b → Below b d → Below a d
-below_through a b d p q = record {
-  longer = (let h = p.longer in let k = q.longer in omega arith);
-  same =
-      (let count : length d - length a ≡ (length d - length b) + (length b - length a) = (let h = p.longer in let k = q.longer in omega arith) in
-      ap (λ k. drop k d) count ∙ sym (drop-drop (length b - length a) (length d - length b) d) ∙ ap (drop (length b - length a)) q.same ∙ p.same);
-}
-
-pub one_parameter : (n : ℕ) (start at hidden behind later : Parsing) (s : c.Specifiers) (d : c.Declarator)
-    → reading.specifiers n (scope_of start) (rest_of start) ≡ Some (s, rest_of at) → GoesOn start at → Hides at hidden (after_specifiers s (scope_of at))
-    → reading.declarator n (scope_of hidden) either (rest_of hidden) ≡ Some (d, rest_of behind) → GoesOn hidden behind → Hides behind later (after_declarator false d (scope_of behind))
+pub one_parameter : (n : ℕ) (start at behind later : Parsing) (s : c.Specifiers) (d : c.Declarator)
+    → reading.specifiers n (scope_of start) (rest_of start) ≡ Some (s, rest_of at) → Declares start at (after_specifiers s (scope_of start))
+    → reading.declarator n (scope_of at) either (rest_of at) ≡ Some (d, rest_of behind) → Declares at behind (after_inside d (scope_of at))
+    → Hides behind later (after_name false d (scope_of behind))
     → OneParameter n start later s d
-one_parameter n start at hidden behind later s d first on hides second on' hides' =
-    let scope : scope_of hidden ≡ after_specifiers s (scope_of start) = hides.scope ∙ ap (after_specifiers s) (same_scope start at on) in
+one_parameter n start at behind later s d first declares second declares' hides =
     let declared : reading.declarator n (after_specifiers s (scope_of start)) either (rest_of at) ≡ Some (d, rest_of later) =
-    ap (λ names. reading.declarator n names either (rest_of at)) (sym scope)
-    ∙ ap (λ r. reading.declarator n (scope_of hidden) either r) (sym hides.rest)
-    ∙ second
-    ∙ ap (λ r. Some (d, r)) (sym hides'.rest) in
+    ap (λ names. reading.declarator n names either (rest_of at)) (sym declares.scope) ∙ second ∙ ap (λ r. Some (d, r)) (sym hides.rest) in
     record {
       read = parameter_list_is n (scope_of start) (rest_of start) (rest_of at) s (d, rest_of later) first declared;
-      scope = hides'.scope ∙ ap (after_declarator false d) (same_scope hidden behind on' ∙ scope);
-      symbols = hides'.symbols ∙ on'.symbols ∙ hides.symbols ∙ on.symbols;
-      outer = hides'.outer ∙ on'.outer ∙ hides.outer ∙ on.outer;
-      below =
-          below_through start.inner behind.inner later.inner
-          (below_through start.inner hidden.inner behind.inner
-          (below_through start.inner at.inner hidden.inner (below_same start.inner at.inner on.inner) hides.below)
-          (below_same hidden.inner behind.inner on'.inner))
-          hides'.below;
+      scope = hides.scope ∙ ap (after_name false d) (declares'.scope ∙ ap (after_inside d) declares.scope);
+      symbols = hides.symbols ∙ declares'.symbols ∙ declares.symbols;
+      outer = hides.outer ∙ declares'.outer ∙ declares.outer;
+      below = below_through start.inner behind.inner later.inner (below_through start.inner at.inner behind.inner declares.below declares'.below) hides.below;
     }
 
 pub parameters_turn : (front all : List Parameter) (p : Parameter) (s : c.Specifiers) (d : c.Declarator) (depth n : ℕ) (start later next : Parsing)

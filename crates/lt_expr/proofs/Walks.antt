@@ -7,8 +7,7 @@ use Rattle.lt_tree.specs.Tree as c
 use Rattle.lt_tree.specs.Comma.{followed_by}
 use Rattle.lt_tree.specs.Operators.{Infix, arithmetic, connective, operation}
 use Rattle.lt_tree.specs.TypeWords.{basic_of, words_alone, or_as_they_stand, gathered}
-use Rattle.lt_tree.specs.Grammar.{is_missing}
-use Rattle.lt_expr.specs.Reading.{joined}
+use Rattle.lt_tree.specs.Grammar.{is_missing, joined}
 use Rattle.lt_expr.specs.Walk.{Walked, node, walk, walk_all, walk_maybe, walk_types, walk_declarator, walk_parts, walk_parameters}
 
 -- ---- expressions

@@ -3,7 +3,7 @@ use Rattle.std.specs.Prelude.{ℕ, Bool, ◌||◌, List, [], ◌∷◌, ◌++◌
 use Rattle.lt_tree.specs.Tree as c
 use Rattle.lt_tree.specs.Comma.{followed_by}
 use Rattle.lt_expr.specs.Front.{Rest}
-use Rattle.lt_expr.specs.Reading.{joined}
+use Rattle.lt_tree.specs.Grammar.{joined}
 use Rattle.lt_expr.specs.Specifier.{Found}
 
 -- the parts of a comma expression, or the expression alone

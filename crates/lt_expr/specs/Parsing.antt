@@ -1,5 +1,6 @@
 -- What a parser is at a time, and what its calls give.
 use Rattle.std.specs.Prelude.{◌≡◌, ℕ, ◌-◌, ◌≤◌, List, ◌++◌, length, drop, Option, Some, None, Result, Ok, Err}
+use Rattle.std.specs.Global.{Global}
 use Rattle.lt_tree.specs.declared.stop.Stop.{Stop}
 use Rattle.lt_tree.specs.declared.stop.Stop.TheVariants.{NotOfForm, NoMemory}
 use Rattle.lt_tree.specs.Symbols.{Symbol}
@@ -7,12 +8,13 @@ use Rattle.lt_tree.specs.Scope.{Scope}
 use Rattle.lt_expr.specs.Front.{Rest}
 
 pub record Parsing : Type 0 where
+  pub alloc : Global
   -- of the whole text, and how many of them were read
   pub symbols : List Symbol
   pub passed : ℕ
   -- the bytes that the nodes begin at that have ended, the last one first
   pub ends : List ℕ
-  -- the parameters of the lists that are open, and the names around them
+  -- the names that were declared within, as parameters and enumerators, and the names around them
   pub inner : Scope
   pub outer : Scope
 
@@ -51,6 +53,18 @@ Reads view (Err stop) read = Fails stop read
 pub record Below (before after : Scope) : Type 0 where
   pub longer : length before ≤ length after
   pub same : drop (length after - length before) after ≡ before
+
+-- Symbols were read, and then these names are in scope.
+pub record Declares (before after : Parsing) (names : Scope) : Type 0 where
+  pub symbols : after.symbols ≡ before.symbols
+  pub outer : after.outer ≡ before.outer
+  pub scope : scope_of after ≡ names
+  pub below : Below before.inner after.inner
+
+-- The answer, seen by view, and what is left then are what reading gives, and the names that it declares are in scope, unless memory ran out.
+abbrev pub GivesNames : {X Y : Type 0} → (X → Y) → (Y → Scope) → Parsing → Parsing → Result X Stop → Option (Y × Rest) → Type 0
+GivesNames view names before after (Ok x) read = (read ≡ Some (view x, rest_of after)) × Declares before after (names (view x))
+GivesNames view names before after (Err stop) read = Fails stop read
 
 pub record Hides (before after : Parsing) (names : Scope) : Type 0 where
   pub rest : rest_of after ≡ rest_of before

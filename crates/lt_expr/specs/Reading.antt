@@ -5,12 +5,12 @@ use Rattle.lt_tree.specs.declared.terminal.Terminal.TheVariants as t
 use Rattle.lt_tree.specs.Tree as c
 use Rattle.lt_tree.specs.Comma.{comma_of}
 use Rattle.lt_tree.specs.Symbols.{Symbol, start_of}
-use Rattle.lt_tree.specs.Scope.{Scope, after_specifiers, after_parameter}
+use Rattle.lt_tree.specs.Scope.{Scope, after_specifiers, after_parts, after_inside, after_member_declarator, after_member, after_enumerator, after_parameter}
 use Rattle.lt_tree.specs.Operators.{operation, prefix_of}
-use Rattle.lt_tree.specs.Grammar.{is_missing}
-use Rattle.lt_tree.specs.Ahead.{Naming, nameless, either, naming_behind, takes_none, terminal_at, sees, begins_specifier, begins_declarator, begins_suffix, is_void_alone, goes_on}
+use Rattle.lt_tree.specs.Grammar.{is_missing, joined}
+use Rattle.lt_tree.specs.Ahead.{Naming, named, nameless, either, naming_behind, behind_star, takes_none, terminal_at, sees, begins_specifier, begins_declarator, begins_suffix, is_void_alone, goes_on}
 use Rattle.lt_expr.specs.Front.{Rest, Reader, ◌>>=◌, if_some, behind, ended, reopened, expect, name_at, id_at, tag_at, leaf, begins_mark, begins_cast, begins_nested, assignment_behind, operator_at, own_name, optional_name, goes_on_with_parameter, qualifiers, begins_postfix}
-use Rattle.lt_expr.specs.Specifier.{Specifier, of_type, Found, none_found, with_specifier, names_type, specifiers_of, one_specifier}
+use Rattle.lt_expr.specs.Specifier.{Specifier, of_type, Found, none_found, with_specifier, names_type, after_specifier, specifiers_of, one_specifier}
 
 -- the predicate, the id and the tag of a mark
 pub record Labelled : Type 0 where
@@ -20,13 +20,6 @@ pub record Labelled : Type 0 where
 
 abbrev pub with_bindings : Labelled → c.Bindings → c.Mark
 with_bindings l bound = c.mark l.predicate l.id l.tag bound
-
--- the parts of a declarator, and then those around it
-abbrev pub joined : c.Parts → c.Parts → c.Parts
-joined c.no_parts outer = outer
-joined (c.Pointer q rest) outer = c.Pointer q (joined rest outer)
-joined (c.Array length rest) outer = c.Array length (joined rest outer)
-joined (c.Function parameters rest) outer = c.Function parameters (joined rest outer)
 
 -- the name and the parts of a declarator, which may be none
 abbrev pub NameAndParts : Type 0
@@ -262,7 +255,7 @@ unfoldable mutual
   type_name zero scope r = None
   type_name (suc n) scope r =
       specifiers n scope r >>= λ s.
-      declarator n scope nameless s.1 >>= λ d.
+      declarator n (after_specifiers s.0 scope) nameless s.1 >>= λ d.
       Some ((s.0, d.0), d.1)
 
   -- specs: one or more
@@ -280,7 +273,7 @@ unfoldable mutual
       if begins_specifier scope typed r.0
       then
       (specifier n scope r >>= λ s.
-      further n scope (typed || names_type s.0) s.1 >>= λ found.
+      further n (after_specifier s.0 scope) (typed || names_type s.0) s.1 >>= λ found.
       Some (with_specifier s.0 found.0, found.1))
       else Some (none_found, r)
 
@@ -312,7 +305,7 @@ unfoldable mutual
   members zero scope r = None
   members (suc n) scope r =
       if sees t.CloseBrace r.0 then Some (c.no_members, behind r)
-      else (member n scope r >>= λ m. members n scope m.1 >>= λ y. Some (c.a_member m.0 y.0, y.1))
+      else (member n scope r >>= λ m. members n (after_member m.0 scope) m.1 >>= λ y. Some (c.a_member m.0 y.0, y.1))
 
   -- member = specs (declarator (':' cond)?),* ';'
   pub member : ℕ → Scope → Reader c.StructMember
@@ -321,16 +314,16 @@ unfoldable mutual
       specifiers n scope r >>= λ s.
       if sees t.Semicolon s.1.0
       then Some (c.member s.0 c.no_declarators, ended (start_of r.0) (behind s.1))
-      else (member_declarators n scope (naming_behind s.0) s.1 >>= λ ds. Some (c.member s.0 ds.0, ended (start_of r.0) ds.1))
+      else (member_declarators n (after_specifiers s.0 scope) (naming_behind s.0) s.1 >>= λ ds. Some (c.member s.0 ds.0, ended (start_of r.0) ds.1))
 
   -- (declarator (':' cond)?),+ ';'
   pub member_declarators : ℕ → Scope → Naming → Reader c.MemberDeclarators
   member_declarators zero scope naming r = None
   member_declarators (suc n) scope naming r =
       declarator n scope naming r >>= λ d.
-      after_sign n scope t.Colon d.1 >>= λ width.
+      after_sign n (after_inside d.0 scope) t.Colon d.1 >>= λ width.
       if sees t.Comma width.1.0
-      then (member_declarators n scope naming (behind width.1) >>= λ y. Some (c.a_declarator d.0 width.0 y.0, y.1))
+      then (member_declarators n (after_member_declarator d.0 width.0 scope) named (behind width.1) >>= λ y. Some (c.a_declarator d.0 width.0 y.0, y.1))
       else (expect t.Semicolon width.1 >>= λ us. Some (c.a_declarator d.0 width.0 c.no_declarators, us))
 
   -- (SIGN cond)?
@@ -348,7 +341,7 @@ unfoldable mutual
       name_at r >>= λ w.
       after_sign n scope t.Equal w.1 >>= λ value.
       if sees t.Comma value.1.0
-      then (enumerators_by (enumerators n scope) (behind (ended (start_of r.0) value.1)) >>= λ y. Some (c.an_enumerator w.0 value.0 y.0, y.1))
+      then (enumerators_by (enumerators n (after_enumerator w.0 value.0 scope)) (behind (ended (start_of r.0) value.1)) >>= λ y. Some (c.an_enumerator w.0 value.0 y.0, y.1))
       else (expect t.CloseBrace (ended (start_of r.0) value.1) >>= λ us. Some (c.an_enumerator w.0 value.0 c.no_enumerators, us))
 
   -- ---- declarators, C11 6.7.6
@@ -367,7 +360,7 @@ unfoldable mutual
   pointers (suc n) scope naming r =
       if sees t.Star r.0
       then
-      (pointers n scope naming ((qualifiers (drop 1 r.0)).1, r.1) >>= λ x.
+      (pointers n scope (behind_star naming) ((qualifiers (drop 1 r.0)).1, r.1) >>= λ x.
       Some ((x.0.0, joined x.0.1 (c.Pointer (qualifiers (drop 1 r.0)).0 c.no_parts)), x.1))
       else direct n scope naming r
 
@@ -379,7 +372,7 @@ unfoldable mutual
       then
       (pointers n scope naming (behind r) >>= λ x.
       expect t.CloseParen x.1 >>= λ us.
-      suffixes n scope us >>= λ y.
+      suffixes n (after_parts x.0.1 scope) us >>= λ y.
       Some ((x.0.0, joined x.0.1 y.0), y.1))
       else (own_name naming scope r >>= λ w. suffixes n scope w.1 >>= λ y. Some ((w.0, y.0), y.1))
 
@@ -388,7 +381,7 @@ unfoldable mutual
   suffixes zero scope r = None
   suffixes (suc n) scope r =
       if begins_suffix r.0
-      then (suffix n scope r >>= λ x. suffixes n scope x.1 >>= λ y. Some (joined x.0 y.0, y.1))
+      then (suffix n scope r >>= λ x. suffixes n (after_parts x.0 scope) x.1 >>= λ y. Some (joined x.0 y.0, y.1))
       else Some (c.no_parts, r)
 
   -- suffix = '[' cond? ']' | '(' params? ')'

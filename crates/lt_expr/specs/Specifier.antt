@@ -6,6 +6,7 @@ use Rattle.lt_tree.specs.declared.terminal.Terminal.TheVariants as t
 use Rattle.lt_tree.specs.Tree as c
 use Rattle.lt_tree.specs.Symbols.{name, sign}
 use Rattle.lt_tree.specs.TypeWords.{gathered}
+use Rattle.lt_tree.specs.Scope.{Scope, after_type}
 use Rattle.lt_tree.specs.Grammar.{no_words, with_storage, with_const, with_volatile}
 use Rattle.lt_tree.specs.Operators.{storage_of, type_word_of}
 use Rattle.lt_expr.specs.Front.{Reader, if_some}
@@ -37,6 +38,10 @@ with_specifier (of_type type) found = record { words = found.words; types = c.a_
 abbrev pub names_type : Specifier → Bool
 names_type (of_type type) = true
 names_type _ = false
+
+abbrev pub after_specifier : Specifier → Scope → Scope
+after_specifier (of_type type) scope = after_type type scope
+after_specifier _ scope = scope
 
 abbrev pub specifiers_of : Found → c.Specifiers
 specifiers_of found = c.specifiers found.words (gathered found.types)

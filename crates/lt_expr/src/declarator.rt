@@ -3,9 +3,9 @@
 ghost use Rattle.std.specs.Prelude.{ℕ};
 ghost use Rattle.lt_tree.specs.View.{parameters_of};
 ghost use Rattle.lt_tree.specs.Records.{declarator_of, parts_in, parameter_list_in};
-ghost use Rattle.lt_expr.specs.Fronts.{after};
+ghost use Rattle.lt_tree.specs.Scope.{after_parts, after_inside};
 ghost use Rattle.lt_expr.specs.Namings.{naming_of, name_and_parts, part_alone};
-ghost use Rattle.lt_expr.specs.Parsing.{rest_of, scope_of, Gives};
+ghost use Rattle.lt_expr.specs.Parsing.{rest_of, scope_of, Gives, GivesNames};
 ghost use Rattle.lt_expr.specs.Reading as reading;
 
 use crate::naming::{Naming, is_missing};
@@ -17,8 +17,12 @@ impl<'a> Parser<'a> {
     // a declarator; where it may lack a name, it may be missing as a whole
     #[cycle(parser)]
     #[tactic(auto, unfolding(crate::specs::Reading::expression))]
-    pub fn declarator(&mut self, depth: usize, naming: Naming) -> Result<Declarator, Stop>
-        ensures { Gives declarator_of self.old self.new result (reading.declarator depth (scope_of self.old) (naming_of naming) (rest_of self.old)) }
+    pub(crate) fn inner_declarator(
+        &mut self,
+        depth: usize,
+        naming: Naming,
+    ) -> Result<Declarator, Stop>
+        ensures { GivesNames declarator_of (λ d. after_inside d (scope_of self.old)) self.old self.new result (reading.declarator depth (scope_of self.old) (naming_of naming) (rest_of self.old)) }
     {
         let depth = deeper(depth)?;
         if naming.takes_none() && !self.begins_declarator() {
@@ -38,7 +42,7 @@ impl<'a> Parser<'a> {
     #[cycle(parser)]
     #[tactic(auto, using(crate::proofs::Joins::parts_push), unfolding(crate::specs::Reading::expression))]
     fn pointers(&mut self, depth: usize, naming: Naming) -> Result<Declarator, Stop>
-        ensures { Gives name_and_parts self.old self.new result (reading.pointers depth (scope_of self.old) (naming_of naming) (rest_of self.old)) }
+        ensures { GivesNames name_and_parts (λ x. after_parts x.1 (scope_of self.old)) self.old self.new result (reading.pointers depth (scope_of self.old) (naming_of naming) (rest_of self.old)) }
     {
         let depth = deeper(depth)?;
         if !self.sees(Terminal::Star) {
@@ -46,41 +50,38 @@ impl<'a> Parser<'a> {
         }
         self.advance();
         let quals = self.qualifiers();
-        let mut declarator = self.pointers(depth, naming)?;
+        let mut declarator = self.pointers(depth, naming.behind_star())?;
         declarator.parts.push(DeclaratorPart::Pointer(quals))?;
         Ok(declarator)
     }
 
     // direct = (NAME? | '(' declarator ')') suffix*
     #[cycle(parser)]
-    #[tactic(auto, using(crate::proofs::Joins::with_suffixes, crate::proofs::Joins::none_read), unfolding(crate::specs::Reading::expression))]
+    #[tactic(auto, unfolding(crate::specs::Reading::expression))]
     fn direct(&mut self, depth: usize, naming: Naming) -> Result<Declarator, Stop>
-        ensures { Gives name_and_parts self.old self.new result (reading.direct depth (scope_of self.old) (naming_of naming) (rest_of self.old)) }
+        ensures { GivesNames name_and_parts (λ x. after_parts x.1 (scope_of self.old)) self.old self.new result (reading.direct depth (scope_of self.old) (naming_of naming) (rest_of self.old)) }
     {
         let depth = deeper(depth)?;
         if self.begins_nested(naming) {
             self.advance();
-            let Declarator { name, parts } = self.pointers(depth, naming)?;
+            let mut inner = self.pointers(depth, naming)?;
             self.expect(Terminal::CloseParen)?;
-            let parts = self.suffixes(depth, parts)?;
-            return Ok(Declarator { name, parts });
+            let mut suffixes = self.suffixes(depth)?;
+            inner.parts.append(&mut suffixes)?;
+            return Ok(inner);
         }
         let name = self.own_name(naming)?;
-        let none = Vec::new(self.alloc);
-        let parts = self.suffixes(depth, none)?;
+        let parts = self.suffixes(depth)?;
         Ok(Declarator { name, parts })
     }
 
-    // suffix*, behind what was read of a declarator
+    // suffix*
     #[cycle(parser)]
-    #[tactic(auto, using(crate::proofs::Joins::more_parts, crate::proofs::Joins::all_parts), unfolding(crate::specs::Reading::expression))]
-    fn suffixes(
-        &mut self,
-        mut depth: usize,
-        mut parts: Vec<DeclaratorPart>,
-    ) -> Result<Vec<DeclaratorPart>, Stop>
-        ensures { Gives (λ xs. parts_in xs.items) self.old self.new result (after (reading.joined (parts_in parts.items)) (reading.suffixes depth (scope_of self.old) (rest_of self.old))) }
+    #[tactic(auto, using(crate::proofs::Joins::no_parts), unfolding(crate::specs::Reading::expression))]
+    fn suffixes(&mut self, mut depth: usize) -> Result<Vec<DeclaratorPart>, Stop>
+        ensures { GivesNames (λ xs. parts_in xs.items) (λ parts. after_parts parts (scope_of self.old)) self.old self.new result (reading.suffixes depth (scope_of self.old) (rest_of self.old)) }
     {
+        let mut parts = Vec::new(self.alloc);
         'more: loop {
             depth = deeper(depth)?;
             if !self.begins_suffix() {
@@ -95,7 +96,7 @@ impl<'a> Parser<'a> {
     #[cycle(parser)]
     #[tactic(auto, unfolding(crate::specs::Reading::expression))]
     fn suffix(&mut self, depth: usize) -> Result<DeclaratorPart, Stop>
-        ensures { Gives part_alone self.old self.new result (reading.suffix depth (scope_of self.old) (rest_of self.old)) }
+        ensures { GivesNames part_alone (λ parts. after_parts parts (scope_of self.old)) self.old self.new result (reading.suffix depth (scope_of self.old) (rest_of self.old)) }
     {
         let depth = deeper(depth)?;
         if self.sees(Terminal::OpenParen) {
@@ -110,6 +111,7 @@ impl<'a> Parser<'a> {
         }
         let length = self.boxed_conditional(depth)?;
         self.expect(Terminal::CloseIndex)?;
+        self.hide_expression(&length)?;
         Ok(pieces::array(Some(length)))
     }
 
@@ -143,10 +145,9 @@ impl<'a> Parser<'a> {
         let mut list = Vec::new(self.alloc);
         'more: loop {
             depth = deeper(depth)?;
-            let specifiers = self.specifiers(depth)?;
-            self.hide_specifiers(&specifiers)?;
-            let declarator = self.declarator(depth, Naming::Either)?;
-            self.hide_declarator(&declarator)?;
+            let specifiers = self.inner_specifiers(depth)?;
+            let declarator = self.inner_declarator(depth, Naming::Either)?;
+            self.declare_parameter(&declarator)?;
             list.push(pieces::parameter(specifiers, declarator))?;
             if !self.goes_on_with_parameter() {
                 self.close_list(around);

@@ -1,6 +1,6 @@
 // Declaring names, for those that read declarations and statements.
 
-ghost use Rattle.std.specs.Prelude.{IfOk};
+ghost use Rattle.std.specs.Prelude.{◌≡◌, IfOk};
 ghost use Rattle.lt_tree.specs.View.{expression_of, mark_of};
 ghost use Rattle.lt_tree.specs.Records.{declarator_of};
 ghost use Rattle.lt_tree.specs.Scope as spec;
@@ -11,7 +11,10 @@ use lt_tree::{Declarator, Expr, Mark};
 use std::alloc::{AllocError, Global};
 
 impl<'a> Parser<'a> {
-    pub fn alloc(&self) -> Global {
+    /// The allocator that the parser was made with.
+    pub fn alloc(&self) -> Global
+        ensures { result ≡ self.now.alloc }
+    {
         self.alloc
     }
 

@@ -1,12 +1,15 @@
 // Calls for readers of declarations and statements.
 
 ghost use Rattle.lt_tree.specs.View.{expression_of};
+ghost use Rattle.lt_tree.specs.Records.{specifiers_of, declarator_of};
 ghost use Rattle.lt_expr.specs.FoundView.{type_name_of};
+ghost use Rattle.lt_expr.specs.Namings.{naming_of};
 ghost use Rattle.lt_expr.specs.Parsing.{rest_of, scope_of, Gives};
 ghost use Rattle.lt_expr.specs.Reading as reading;
 
+use crate::naming::Naming;
 use crate::parser::Parser;
-use lt_tree::{Expr, Stop, TypeName};
+use lt_tree::{Declarator, Expr, Specifiers, Stop, TypeName};
 
 impl<'a> Parser<'a> {
     /// expr = marked (',' marked)*
@@ -35,5 +38,25 @@ impl<'a> Parser<'a> {
         ensures { Gives type_name_of self.old self.new result (reading.type_name depth (scope_of self.old) (rest_of self.old)) }
     {
         Ok(Box::into_inner(self.boxed_type_name(depth)?))
+    }
+
+    /// specs: one or more. The enumerators in them aren't declared behind.
+    pub fn specifiers(&mut self, depth: usize) -> Result<Specifiers, Stop>
+        ensures { Gives specifiers_of self.old self.new result (reading.specifiers depth (scope_of self.old) (rest_of self.old)) }
+    {
+        let around = self.open_list();
+        let specifiers = self.inner_specifiers(depth)?;
+        self.close_list(around);
+        Ok(specifiers)
+    }
+
+    /// A declarator; where it may lack a name, it may be missing as a whole. Nothing in it is declared behind.
+    pub fn declarator(&mut self, depth: usize, naming: Naming) -> Result<Declarator, Stop>
+        ensures { Gives declarator_of self.old self.new result (reading.declarator depth (scope_of self.old) (naming_of naming) (rest_of self.old)) }
+    {
+        let around = self.open_list();
+        let declarator = self.inner_declarator(depth, naming)?;
+        self.close_list(around);
+        Ok(declarator)
     }
 }

@@ -1,6 +1,6 @@
 // The specifiers of a declaration, as they are found one after the other.
 
-ghost use Rattle.std.specs.Prelude.{◌≡◌, IfOk, option_map};
+ghost use Rattle.std.specs.Prelude.{◌≡◌, ◌||◌, IfOk, option_map};
 ghost use Rattle.lt_tree.specs.Records.{specifiers_of};
 ghost use Rattle.lt_expr.specs.Specifier as spec;
 ghost use Rattle.lt_expr.specs.Fronts.{found_before};
@@ -34,6 +34,15 @@ impl Specifier {
             | Specifier::Const
             | Specifier::Volatile => false,
         }
+    }
+}
+
+impl Specifier {
+    /// Whether a type is named behind this one, where one was named before or wasn't.
+    pub(crate) fn leaves_typed(&self, typed: bool) -> bool
+        ensures { result ≡ (typed || spec.names_type (specifier_of self.now)) }
+    {
+        typed || self.names_type()
     }
 }
 

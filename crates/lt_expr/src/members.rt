@@ -2,8 +2,9 @@
 
 ghost use Rattle.lt_tree.specs.View.{member_of};
 ghost use Rattle.lt_tree.specs.Records.{members_in, member_declarators_in, enumerators_in};
+ghost use Rattle.lt_tree.specs.Scope.{after_members, after_member, after_member_declarators, after_enumerators};
 ghost use Rattle.lt_expr.specs.Namings.{naming_of};
-ghost use Rattle.lt_expr.specs.Parsing.{rest_of, scope_of, Gives};
+ghost use Rattle.lt_expr.specs.Parsing.{rest_of, scope_of, GivesNames};
 ghost use Rattle.lt_expr.specs.Reading as reading;
 
 use crate::naming::{Naming, naming_behind};
@@ -16,7 +17,7 @@ impl<'a> Parser<'a> {
     #[cycle(parser)]
     #[tactic(auto, using(crate::proofs::Joins::more_members, crate::proofs::Joins::all_members, crate::proofs::Joins::no_members), unfolding(crate::specs::Reading::expression))]
     pub(crate) fn members(&mut self, mut depth: usize) -> Result<Vec<Member>, Stop>
-        ensures { Gives (λ xs. members_in xs.items) self.old self.new result (reading.members depth (scope_of self.old) (rest_of self.old)) }
+        ensures { GivesNames (λ xs. members_in xs.items) (λ members. after_members members (scope_of self.old)) self.old self.new result (reading.members depth (scope_of self.old) (rest_of self.old)) }
     {
         let mut members = Vec::new(self.alloc);
         'more: loop {
@@ -34,11 +35,11 @@ impl<'a> Parser<'a> {
     #[cycle(parser)]
     #[tactic(auto, unfolding(crate::specs::Reading::expression))]
     fn member(&mut self, depth: usize) -> Result<Member, Stop>
-        ensures { Gives member_of self.old self.new result (reading.member depth (scope_of self.old) (rest_of self.old)) }
+        ensures { GivesNames member_of (λ m. after_member m (scope_of self.old)) self.old self.new result (reading.member depth (scope_of self.old) (rest_of self.old)) }
     {
         let depth = deeper(depth)?;
         let start = self.start();
-        let specifiers = self.specifiers(depth)?;
+        let specifiers = self.inner_specifiers(depth)?;
         if self.sees(Terminal::Semicolon) {
             self.advance();
             self.end(start)?;
@@ -57,14 +58,14 @@ impl<'a> Parser<'a> {
     fn member_declarators(
         &mut self,
         mut depth: usize,
-        naming: Naming,
+        mut naming: Naming,
     ) -> Result<Vec<MemberDeclarator>, Stop>
-        ensures { Gives (λ xs. member_declarators_in xs.items) self.old self.new result (reading.member_declarators depth (scope_of self.old) (naming_of naming) (rest_of self.old)) }
+        ensures { GivesNames (λ xs. member_declarators_in xs.items) (λ ds. after_member_declarators ds (scope_of self.old)) self.old self.new result (reading.member_declarators depth (scope_of self.old) (naming_of naming) (rest_of self.old)) }
     {
         let mut declarators = Vec::new(self.alloc);
         'more: loop {
             depth = deeper(depth)?;
-            let declarator = self.declarator(depth, naming)?;
+            let declarator = self.inner_declarator(depth, naming)?;
             let width = self.after_sign(depth, Terminal::Colon)?;
             declarators.push(MemberDeclarator { declarator, width })?;
             if !self.sees(Terminal::Comma) {
@@ -72,6 +73,7 @@ impl<'a> Parser<'a> {
                 return Ok(declarators);
             }
             self.advance();
+            naming = Naming::Named;
         }
     }
 
@@ -79,7 +81,7 @@ impl<'a> Parser<'a> {
     #[cycle(parser)]
     #[tactic(auto, using(crate::proofs::Joins::more_enumerators, crate::proofs::Joins::last_enumerators, crate::proofs::Joins::no_enumerators), unfolding(crate::specs::Reading::expression))]
     pub(crate) fn enumerators(&mut self, mut depth: usize) -> Result<Vec<Enumerator>, Stop>
-        ensures { Gives (λ xs. enumerators_in xs.items) self.old self.new result (reading.enumerators depth (scope_of self.old) (rest_of self.old)) }
+        ensures { GivesNames (λ xs. enumerators_in xs.items) (λ es. after_enumerators es (scope_of self.old)) self.old self.new result (reading.enumerators depth (scope_of self.old) (rest_of self.old)) }
     {
         let mut enumerators = Vec::new(self.alloc);
         'more: loop {
@@ -88,6 +90,7 @@ impl<'a> Parser<'a> {
             let name = self.name()?;
             let value = self.after_sign(depth, Terminal::Equal)?;
             self.end(start)?;
+            self.declare_enumerator(&name)?;
             enumerators.push(Enumerator { name, value })?;
             if !self.sees(Terminal::Comma) {
                 self.expect(Terminal::CloseBrace)?;

@@ -10,7 +10,7 @@ use lt_tree::{Declarator, Specifiers};
 #[derive(Clone, Copy, Debug)]
 pub enum Naming {
     Named,
-    /// It has to have a name, and no type was named before it.
+    /// It has to have a name, and stands directly behind specifiers that name no type.
     Untyped,
     Nameless,
     Either,
@@ -25,9 +25,20 @@ impl Naming {
             Naming::Nameless | Naming::Either => true,
         }
     }
+
+    // Behind `*` a typedef name is no specifier any more.
+    pub(crate) fn behind_star(self) -> Naming
+        ensures { naming_of result ≡ ahead.behind_star (naming_of self) }
+    {
+        match self {
+            Naming::Named | Naming::Untyped => Naming::Named,
+            Naming::Nameless => Naming::Nameless,
+            Naming::Either => Naming::Either,
+        }
+    }
 }
 
-/// The naming of declarators behind these specifiers.
+/// The naming of the first declarator behind these specifiers.
 pub fn naming_behind(specifiers: &Specifiers) -> Naming
     ensures { naming_of result ≡ ahead.naming_behind (specifiers_of specifiers.now) }
 {

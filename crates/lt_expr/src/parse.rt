@@ -55,7 +55,6 @@ pub fn place_of(tokens: &Tokens, passed: usize) -> u32
 /// which tell type names from others.
 ///
 /// `Syntax(at)` comes exactly where there is none.
-#[tactic(auto, using(crate::proofs::Parses::nothing))]
 pub fn parse_expr(
     alloc: Global,
     tokens: &Tokens,

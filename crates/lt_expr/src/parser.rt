@@ -25,7 +25,7 @@ pub struct Parser<'a> {
     /// The bytes that the nodes begin at that have ended.
     ends: Vec<u32>,
     pub(crate) outer: &'a Typedefs,
-    /// The parameters of the lists that are open.
+    /// The names that were declared within: parameters of the lists that are open, and enumerators.
     pub(crate) inner: Typedefs,
 }
 
@@ -36,7 +36,7 @@ impl<'a> Model for Parser<'a> {
 
     ghost Value = { Parsing };
 
-    ghost view = { λ p. record { symbols = map shown p.symbols.now; passed = p.passed; ends = reverse p.ends.items; inner = p.inner; outer = p.outer.now } };
+    ghost view = { λ p. record { alloc = p.alloc; symbols = map shown p.symbols.now; passed = p.passed; ends = reverse p.ends.items; inner = p.inner; outer = p.outer.now } };
 
     ghost invariant = { λ p. p.passed ≤ length p.symbols.now };
 }
@@ -60,7 +60,7 @@ impl<'a> Parser<'a> {
         outer: &'a Typedefs,
     ) -> Parser<'a>
         requires { from ≤ length symbols.now }
-        ensures { result ≡ record { symbols = map shown symbols.now; passed = from; ends = []; inner = []; outer = outer.now } }
+        ensures { result ≡ record { alloc = alloc; symbols = map shown symbols.now; passed = from; ends = []; inner = []; outer = outer.now } }
     {
         Parser {
             alloc,

@@ -2,8 +2,10 @@
 
 ghost use Rattle.std.specs.Prelude.{false};
 ghost use Rattle.lt_tree.specs.Records.{specifiers_of, maybe_in};
-ghost use Rattle.lt_expr.specs.Parsing.{rest_of, scope_of, Gives};
+ghost use Rattle.lt_tree.specs.Scope.{after_types, after_specifiers, after_maybe};
+ghost use Rattle.lt_expr.specs.Parsing.{rest_of, scope_of, Gives, GivesNames};
 ghost use Rattle.lt_expr.specs.Boxes.{boxed_type};
+ghost use Rattle.lt_expr.specs.Specifier.{after_specifier};
 ghost use Rattle.lt_expr.specs.FoundView.{specifier_of, found_of};
 ghost use Rattle.lt_expr.specs.Reading as reading;
 
@@ -15,37 +17,40 @@ use lt_model::Name;
 use lt_tree::{Expr, Specifiers, Stop, Terminal, TypeName, TypeSpecifier};
 
 impl<'a> Parser<'a> {
-    // typename = specs abstract?
+    // typename = specs abstract?; what it declares is in scope behind the expression that it stands in
     #[cycle(parser)]
     #[tactic(auto, unfolding(crate::specs::Reading::expression))]
     pub(crate) fn boxed_type_name(&mut self, depth: usize) -> Result<Box<TypeName>, Stop>
         ensures { Gives boxed_type self.old self.new result (reading.type_name depth (scope_of self.old) (rest_of self.old)) }
     {
         let depth = deeper(depth)?;
-        let specifiers = self.specifiers(depth)?;
-        let declarator = self.declarator(depth, Naming::Nameless)?;
+        let around = self.open_list();
+        let specifiers = self.inner_specifiers(depth)?;
+        let declarator = self.inner_declarator(depth, Naming::Nameless)?;
+        self.close_list(around);
         pieces::type_name(self.alloc, specifiers, declarator)
     }
 
     // specs: one or more
     #[cycle(parser)]
     #[tactic(auto, unfolding(crate::specs::Reading::expression))]
-    pub fn specifiers(&mut self, depth: usize) -> Result<Specifiers, Stop>
-        ensures { Gives specifiers_of self.old self.new result (reading.specifiers depth (scope_of self.old) (rest_of self.old)) }
+    pub(crate) fn inner_specifiers(&mut self, depth: usize) -> Result<Specifiers, Stop>
+        ensures { GivesNames specifiers_of (λ s. after_specifiers s (scope_of self.old)) self.old self.new result (reading.specifiers depth (scope_of self.old) (rest_of self.old)) }
     {
         let depth = deeper(depth)?;
         if !self.begins_specifier(false) {
             return Err(Stop::NotOfForm);
         }
         let found = self.further(depth)?;
-        Ok(gathered(self.alloc, found)?)
+        let all = gathered(self.alloc, found)?;
+        Ok(all)
     }
 
     // specifiers up to what is none
     #[cycle(parser)]
     #[tactic(auto, using(crate::proofs::FoundJoins::more_found, crate::proofs::FoundJoins::all_found, crate::proofs::FoundJoins::no_found), unfolding(crate::specs::Reading::expression))]
     fn further(&mut self, mut depth: usize) -> Result<Specifiers, Stop>
-        ensures { Gives found_of self.old self.new result (reading.further depth (scope_of self.old) false (rest_of self.old)) }
+        ensures { GivesNames found_of (λ found. after_types found.types (scope_of self.old)) self.old self.new result (reading.further depth (scope_of self.old) false (rest_of self.old)) }
     {
         let mut found = none_found(self.alloc);
         let mut typed = false;
@@ -55,7 +60,7 @@ impl<'a> Parser<'a> {
                 return Ok(found);
             }
             let one = self.specifier(depth)?;
-            typed = typed || one.names_type();
+            typed = one.leaves_typed(typed);
             found = with_specifier(found, one)?;
         }
     }
@@ -63,7 +68,7 @@ impl<'a> Parser<'a> {
     #[cycle(parser)]
     #[tactic(auto, unfolding(crate::specs::Reading::expression))]
     fn specifier(&mut self, depth: usize) -> Result<Specifier, Stop>
-        ensures { Gives specifier_of self.old self.new result (reading.specifier depth (scope_of self.old) (rest_of self.old)) }
+        ensures { GivesNames specifier_of (λ s. after_specifier s (scope_of self.old)) self.old self.new result (reading.specifier depth (scope_of self.old) (rest_of self.old)) }
     {
         let depth = deeper(depth)?;
         if self.sees(Terminal::Struct) {
@@ -83,7 +88,7 @@ impl<'a> Parser<'a> {
     #[cycle(parser)]
     #[tactic(auto, unfolding(crate::specs::Reading::expression))]
     fn structure(&mut self, depth: usize, tag: Option<Name>) -> Result<Specifier, Stop>
-        ensures { Gives specifier_of self.old self.new result (reading.structure depth (scope_of self.old) tag (rest_of self.old)) }
+        ensures { GivesNames specifier_of (λ s. after_specifier s (scope_of self.old)) self.old self.new result (reading.structure depth (scope_of self.old) tag (rest_of self.old)) }
     {
         let depth = deeper(depth)?;
         if self.sees(Terminal::OpenBrace) {
@@ -101,7 +106,7 @@ impl<'a> Parser<'a> {
     #[cycle(parser)]
     #[tactic(auto, unfolding(crate::specs::Reading::expression))]
     fn enumeration(&mut self, depth: usize, tag: Option<Name>) -> Result<Specifier, Stop>
-        ensures { Gives specifier_of self.old self.new result (reading.enumeration depth (scope_of self.old) tag (rest_of self.old)) }
+        ensures { GivesNames specifier_of (λ s. after_specifier s (scope_of self.old)) self.old self.new result (reading.enumeration depth (scope_of self.old) tag (rest_of self.old)) }
     {
         let depth = deeper(depth)?;
         if self.sees(Terminal::OpenBrace) {
@@ -123,13 +128,15 @@ impl<'a> Parser<'a> {
         depth: usize,
         sign: Terminal,
     ) -> Result<Option<Box<Expr>>, Stop>
-        ensures { Gives maybe_in self.old self.new result (reading.after_sign depth (scope_of self.old) sign (rest_of self.old)) }
+        ensures { GivesNames maybe_in (λ e. after_maybe e (scope_of self.old)) self.old self.new result (reading.after_sign depth (scope_of self.old) sign (rest_of self.old)) }
     {
         let depth = deeper(depth)?;
         if !self.sees(sign) {
             return Ok(None);
         }
         self.advance();
-        Ok(Some(self.boxed_conditional(depth)?))
+        let value = self.boxed_conditional(depth)?;
+        self.hide_expression(&value)?;
+        Ok(Some(value))
     }
 }

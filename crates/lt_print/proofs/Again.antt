@@ -1,5 +1,5 @@
 -- Of each tree of the knot that symbols derive: the words of its canonical text derive it again, rule by rule of the grammar.
-use Rattle.std.proofs.Common.{◌≡◌, ℕ, Bool, true, false, List, Option, Some, None, refl}
+use Rattle.std.proofs.Common.{◌≡◌, ℕ, Bool, true, false, List, Option, Some, None, refl, ap}
 use Rattle.lt_tree.specs.declared.terminal.Terminal.{Terminal}
 use Rattle.lt_tree.specs.Tree as c
 use Rattle.lt_tree.specs.Symbols.{Symbol}
@@ -7,12 +7,13 @@ use Rattle.lt_tree.specs.Scope.{Scope}
 use Rattle.lt_tree.specs.Ahead.{Naming, is_void_alone}
 use Rattle.lt_tree.specs.Grammar as g
 use Rattle.lt_tree.specs.Grammar.{Level}
-use Rattle.lt_print.proofs.Claims.{AllStand, Again, AreFilled, MaybeStands, BoundStand, AreBound, MarkAgain, MarksAgain, TypeNameAgain, SpecifiersAgain, TypeFits, TypesFit, MemberDeclaratorsFit, MembersFit, EnumeratorsFit, AreEnumerated, ParametersAgain, PartsFit, NameFits, DeclaratorFits, ParametersFit, AreListed}
+use Rattle.lt_print.proofs.Claims.{AllStand, Again, AreFilled, MaybeStands, BoundStand, AreBound, MarkAgain, MarksAgain, TypeNameAgain, SpecifiersAgain, TypeFits, TypesFit, MemberDeclaratorsFit, MembersFit, EnumeratorsFit, AreEnumerated, ParametersAgain, PartsFit, NameFits, has_pointer, starred, DeclaratorFits, ParametersFit, AreListed}
+use Rattle.lt_print.proofs.OuterParts.{OuterFits, pointer_fits, nested_fits, behind_fits, array_fits, starred_once, still_takes, still_none}
 use Rattle.lt_print.proofs.ExpressionsAgain as e
 use Rattle.lt_print.proofs.MarksAgain as m
 use Rattle.lt_print.proofs.TypesAgain.{specifiers_again, are_some}
 use Rattle.lt_print.proofs.StructsAgain as structs
-use Rattle.lt_print.proofs.DeclaratorFronts.{type_name_again, either_clear, specifiers_end}
+use Rattle.lt_print.proofs.DeclaratorFronts.{pointers_keep, type_name_again, either_clear, specifiers_end}
 use Rattle.lt_print.proofs.ParametersAgain as p
 use Rattle.lt_print.proofs.Void.{void_only}
 use Rattle.lt_print.proofs.VoidAlone.{void_is_alone}
@@ -123,25 +124,27 @@ mutual
   of_enumerators (g.more_enumerators v es) = (tt, (of_after_sign v, (of_enumerators es).1))
 
   pub of_declarator : {scope : Scope} {naming : Naming} {ts : List Symbol} {d : c.Declarator} {rest : List Symbol} {spots more : List ℕ} → g.IsDeclarator scope naming ts d rest spots more → DeclaratorFits naming scope d
-  of_declarator (g.written x n) = of_pointers x tt
-  of_declarator (g.missing n b) = (n, tt)
+  of_declarator (g.written x n) = of_pointers x (λ own e. tt)
+  of_declarator {naming} (g.missing n b) = (n, tt)
 
   of_pointers : {scope : Scope} {naming : Naming} {ts : List Symbol} {outer : c.Parts} {name : Option (List ℕ)} {parts : c.Parts} {rest : List Symbol} {spots more : List ℕ}
-      → g.ArePointers scope naming ts outer name parts rest spots more → PartsFit scope outer → NameFits naming scope name × PartsFit scope parts
-  of_pointers (g.pointer q x) fit = of_pointers x fit
+      → g.ArePointers scope naming ts outer name parts rest spots more → OuterFits scope outer parts → NameFits (starred (has_pointer parts) naming) scope name × PartsFit scope parts
+  of_pointers {scope} {naming} {outer = outer} {name = name} {parts = parts} (g.pointer {q = quals} q x) fit =
+      let got = of_pointers x (pointer_fits scope quals outer parts fit) in (starred_once (has_pointer parts) naming scope name (pointers_keep x refl) got.0, got.1)
   of_pointers (g.no_pointer n d) fit = of_direct d fit
 
   of_direct : {scope : Scope} {naming : Naming} {ts : List Symbol} {outer : c.Parts} {name : Option (List ℕ)} {parts : c.Parts} {rest : List Symbol} {spots more : List ℕ}
-      → g.IsDirect scope naming ts outer name parts rest spots more → PartsFit scope outer → NameFits naming scope name × PartsFit scope parts
-  of_direct (g.by_name t s) fit = (t, of_suffixes s fit)
-  of_direct (g.by_nothing t b s) fit = (t, of_suffixes s fit)
-  of_direct (g.nested o x s) fit = of_pointers x (of_suffixes s fit)
+      → g.IsDirect scope naming ts outer name parts rest spots more → OuterFits scope outer parts → NameFits (starred (has_pointer parts) naming) scope name × PartsFit scope parts
+  of_direct {scope} {naming} {parts = parts} (g.by_name {w} t s) fit = (still_takes (has_pointer parts) naming scope w t, of_suffixes s fit)
+  of_direct {naming} {parts = parts} (g.by_nothing t b s) fit = (still_none (has_pointer parts) naming t, of_suffixes s fit)
+  of_direct {scope} {outer = outer} {parts = parts} (g.nested {suffixed = suffixed} inner o x i s) fit =
+      of_pointers x (λ own e. nested_fits scope inner own suffixed parts i e (of_suffixes s (behind_fits scope inner outer suffixed parts i fit)))
 
-  of_suffixes : {scope : Scope} {ts : List Symbol} {outer parts : c.Parts} {rest : List Symbol} {spots more : List ℕ} → g.AreSuffixes scope ts outer parts rest spots more → PartsFit scope outer → PartsFit scope parts
-  of_suffixes (g.no_suffix n) fit = fit
-  of_suffixes (g.unsized_array s) fit = (tt, of_suffixes s fit)
-  of_suffixes (g.array d s) fit = ((of_expression d).stands, of_suffixes s fit)
-  of_suffixes (g.function ps s) fit = (of_parameters ps, of_suffixes s fit)
+  of_suffixes : {scope : Scope} {ts : List Symbol} {outer parts : c.Parts} {rest : List Symbol} {spots more : List ℕ} → g.AreSuffixes scope ts outer parts rest spots more → OuterFits scope outer parts → PartsFit scope parts
+  of_suffixes (g.no_suffix n) fit = fit c.no_parts refl
+  of_suffixes (g.unsized_array s) fit = (tt, of_suffixes s (λ own e. fit (c.Array c.absent own) (ap (c.Array c.absent) e)))
+  of_suffixes {scope} {outer = outer} (g.array {parts = parts} {e = length} d s) fit = ((of_expression d).stands, of_suffixes s (array_fits scope length outer parts fit))
+  of_suffixes (g.function {inside = inside} ps s) fit = (of_parameters ps, of_suffixes s (λ own e. fit (c.Function inside own) (ap (c.Function inside) e)))
 
   of_parameters : {scope : Scope} {ts : List Symbol} {ps : c.Parameters} {rest : List Symbol} {spots more : List ℕ} → g.AreParameters scope ts ps rest spots more → ParametersAgain scope ps
   of_parameters {scope} g.unstated = p.unstated_again scope

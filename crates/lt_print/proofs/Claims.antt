@@ -5,8 +5,8 @@ use Rattle.lt_tree.specs.Tree as c
 use Rattle.lt_tree.specs.Comma.{is_comma}
 use Rattle.lt_tree.specs.Symbols as s
 use Rattle.lt_tree.specs.Symbols.{Symbol}
-use Rattle.lt_tree.specs.Scope.{Scope, is_type, after_specifiers, after_parameter}
-use Rattle.lt_tree.specs.Ahead.{Naming, either, naming_behind, sees, begins_specifier, takes_name, takes_none}
+use Rattle.lt_tree.specs.Scope.{Scope, is_type, after_maybe, after_type, after_specifiers, after_inside, after_member_declarator, after_member, after_enumerator, after_parameter}
+use Rattle.lt_tree.specs.Ahead.{Naming, named, either, naming_behind, behind_star, sees, begins_specifier, takes_name, takes_none}
 use Rattle.lt_tree.specs.Grammar.{Level, IsMark, AreMarks, IsTypeName, AreSpecifiers, IsTagged, IsDeclarator, AreParameters}
 use Rattle.lt_tree.specs.Canon.{apart, operand, mark, marks_pieces, specifiers, type_specifier, declarator, parameters}
 use Rattle.lt_print.proofs.ReadPieces.{Reads, Ends}
@@ -101,7 +101,7 @@ TypeFits scope typed (c.Enum tag enumerators) = TaggedAgain scope (c.Enum tag en
 
 abbrev pub TypesFit : Scope → Bool → c.TypeSpecifiers → Type 0
 TypesFit scope typed c.no_types = Unit {0}
-TypesFit scope typed (c.a_type first rest) = TypeFits scope typed first × TypesFit scope true rest
+TypesFit scope typed (c.a_type first rest) = TypeFits scope typed first × TypesFit (after_type first scope) true rest
 
 -- ---- declarators
 
@@ -114,7 +114,7 @@ ParametersAgain scope ps =
 abbrev pub PartsFit : Scope → c.Parts → Type 0
 PartsFit scope c.no_parts = Unit {0}
 PartsFit scope (c.Pointer q rest) = PartsFit scope rest
-PartsFit scope (c.Array length rest) = MaybeStands scope length × PartsFit scope rest
+PartsFit scope (c.Array length rest) = MaybeStands scope length × PartsFit (after_maybe length scope) rest
 PartsFit scope (c.Function ps rest) = ParametersAgain scope ps × PartsFit scope rest
 
 -- a name where the naming asks for one
@@ -122,19 +122,24 @@ abbrev pub NameFits : Naming → Scope → Option (List ℕ) → Type 0
 NameFits naming scope None = takes_none naming ≡ true
 NameFits naming scope (Some w) = takes_name naming scope w ≡ true
 
-abbrev pub DeclaratorFits : Naming → Scope → c.Declarator → Type 0
-DeclaratorFits naming scope (c.declarator name parts) = NameFits naming scope name × PartsFit scope parts
-
-abbrev pub DeclaratorAgain : Naming → Scope → c.Declarator → Type 0
-DeclaratorAgain naming scope d =
-    (n : ℕ) (ts rest : List Symbol) (more : List ℕ) → Ends rest → Reads (declarator n d) ts rest
-    → (spots : List ℕ) × IsDeclarator scope naming ts d rest spots more
-
 abbrev pub has_pointer : c.Parts → Bool
 has_pointer c.no_parts = false
 has_pointer (c.Pointer q rest) = true
 has_pointer (c.Array length rest) = has_pointer rest
 has_pointer (c.Function ps rest) = has_pointer rest
+
+-- the naming of a name before which a `*` stands or none
+abbrev pub starred : Bool → Naming → Naming
+starred true naming = behind_star naming
+starred false naming = naming
+
+abbrev pub DeclaratorFits : Naming → Scope → c.Declarator → Type 0
+DeclaratorFits naming scope (c.declarator name parts) = NameFits (starred (has_pointer parts) naming) scope name × PartsFit scope parts
+
+abbrev pub DeclaratorAgain : Naming → Scope → c.Declarator → Type 0
+DeclaratorAgain naming scope d =
+    (n : ℕ) (ts rest : List Symbol) (more : List ℕ) → Ends rest → Reads (declarator n d) ts rest
+    → (spots : List ℕ) × IsDeclarator scope naming ts d rest spots more
 
 -- Where no type was named, a name that begins a declarator is no typedef name.
 abbrev pub IsClear : Scope → Bool → c.Declarator → Type 0
@@ -155,15 +160,17 @@ AreListed (c.a_parameter ss d rest) = Unit {0}
 
 abbrev pub MemberDeclaratorsFit : Naming → Scope → c.MemberDeclarators → Type 0
 MemberDeclaratorsFit naming scope c.no_declarators = Unit {0}
-MemberDeclaratorsFit naming scope (c.a_declarator d width rest) = DeclaratorFits naming scope d × MaybeStands scope width × MemberDeclaratorsFit naming scope rest
+MemberDeclaratorsFit naming scope (c.a_declarator d width rest) =
+    DeclaratorFits naming scope d × MaybeStands (after_inside d scope) width × MemberDeclaratorsFit named (after_member_declarator d width scope) rest
 
 abbrev pub MembersFit : Scope → c.Members → Type 0
 MembersFit scope c.no_members = Unit {0}
-MembersFit scope (c.a_member (c.member ss ds) rest) = SpecifiersAgain scope ss × MemberDeclaratorsFit (naming_behind ss) scope ds × MembersFit scope rest
+MembersFit scope (c.a_member (c.member ss ds) rest) =
+    SpecifiersAgain scope ss × MemberDeclaratorsFit (naming_behind ss) (after_specifiers ss scope) ds × MembersFit (after_member (c.member ss ds) scope) rest
 
 abbrev pub EnumeratorsFit : Scope → c.Enumerators → Type 0
 EnumeratorsFit scope c.no_enumerators = Unit {0}
-EnumeratorsFit scope (c.an_enumerator w value rest) = MaybeStands scope value × EnumeratorsFit scope rest
+EnumeratorsFit scope (c.an_enumerator w value rest) = MaybeStands scope value × EnumeratorsFit (after_enumerator w value scope) rest
 
 abbrev pub AreEnumerated : c.Enumerators → Type 0
 AreEnumerated c.no_enumerators = ⊥

@@ -6,7 +6,7 @@ use Rattle.lt_tree.specs.Tree as c
 use Rattle.lt_tree.specs.Symbols as s
 use Rattle.lt_tree.specs.Symbols.{Symbol}
 use Rattle.lt_tree.specs.Scope.{Scope, after_specifiers, after_declarator, after_initialiser, makes_types}
-use Rattle.lt_tree.specs.Ahead.{Naming, naming_behind, same_terminal}
+use Rattle.lt_tree.specs.Ahead.{Naming, named, naming_behind, same_terminal}
 use Rattle.lt_tree.specs.Grammar as g
 use Rattle.lt_tree.specs.Grammar.{AreSpecifiers, IsDeclarator}
 use Rattle.lt_tree.specs.Declarations as d
@@ -64,7 +64,7 @@ abbrev pub DeclaratorsFit : Naming → Bool → Scope → List c.InitDeclarator 
 DeclaratorsFit naming type scope [] = Unit {0}
 DeclaratorsFit naming type scope (x ∷ xs) =
     DeclaratorFits naming scope x.declarator × InitialiserFits (after_declarator type x.declarator scope) x.initialiser
-    × DeclaratorsFit naming type (after_initialiser x.initialiser (after_declarator type x.declarator scope)) xs
+    × DeclaratorsFit named type (after_initialiser x.initialiser (after_declarator type x.declarator scope)) xs
 
 abbrev pub AreDeclared : List c.InitDeclarator → Type 0
 AreDeclared [] = ⊥
@@ -106,7 +106,7 @@ declarators_again scope naming type n (x ∷ []) fit declared at ts rest more r 
     let m = init_again scope naming type n x.declarator x.initialiser fit.0 fit.1 k.Semicolon at ts rest more by_semicolon refl r in (m.spots, d.last_declarator m.first m.second)
 declarators_again scope naming type n (x ∷ y ∷ xs) fit declared at ts rest more r =
     let q = split_comma (init_declarator n x.declarator x.initialiser) (init_declarators n (y ∷ xs)) r in
-    let others = declarators_again (after_initialiser x.initialiser (after_declarator type x.declarator scope)) naming type n (y ∷ xs) fit.2 tt at q.between rest more q.back in
+    let others = declarators_again (after_initialiser x.initialiser (after_declarator type x.declarator scope)) named type n (y ∷ xs) fit.2 tt at q.between rest more q.back in
     let m = init_again scope naming type n x.declarator x.initialiser fit.0 fit.1 k.Comma q.at ts q.between others.0 by_comma refl q.front in
     (m.spots, d.more_declarators m.first m.second others.1)
 

@@ -1,5 +1,5 @@
 -- What begins a declarator begins no specifier, so that specifiers end before it.
-use Rattle.std.proofs.Common.{◌≡◌, ℕ, Bool, true, false, List, ◌∷◌, Option, Some, None, refl, sym, ap, ◌∙◌}
+use Rattle.std.proofs.Common.{◌≡◌, ℕ, Bool, true, false, List, ◌∷◌, Option, Some, None, refl, sym, ap, subst, ◌∙◌}
 use Rattle.std.specs.Prelude.{option_and_then}
 use Rattle.std.proofs.lemmas.Bool.{not-true, or_parts}
 use Rattle.lt_tree.specs.declared.specifier.BasicType.{BasicType}
@@ -8,16 +8,16 @@ use Rattle.lt_tree.specs.Tree as c
 use Rattle.lt_tree.specs.Symbols as s
 use Rattle.lt_tree.specs.Symbols.{Symbol}
 use Rattle.lt_tree.specs.TypeWords.{spellings, all_words, same_word, basic_of, words_alone, or_as_they_stand, gathered}
-use Rattle.lt_tree.specs.Scope.{Scope, is_type, after_specifiers}
-use Rattle.lt_tree.specs.Ahead.{Naming, nameless, either, naming_behind, takes_none, same_terminal, sees, begins_specifier}
+use Rattle.lt_tree.specs.Scope.{Scope, is_type, after_type, after_specifiers}
+use Rattle.lt_tree.specs.Ahead.{Naming, untyped, nameless, either, naming_behind, takes_name, takes_none, same_terminal, sees, begins_specifier}
 use Rattle.lt_tree.specs.Grammar as g
 use Rattle.lt_tree.specs.Grammar.{AreSpecifiers, AreFurther, IsDeclarator, ArePointers, IsDirect, AreSuffixes}
 use Rattle.lt_tree.specs.Canon.{apart, specifiers, declarator}
 use Rattle.lt_print.proofs.ReadPieces.{Reads, parted_apart, Ends, by_parenthesis}
-use Rattle.lt_print.proofs.Claims.{names_type, is_typed, SpecifiersAgain, DeclaratorFits, has_pointer, IsClear, TypeNameAgain}
+use Rattle.lt_print.proofs.Claims.{names_type, is_typed, SpecifiersAgain, DeclaratorFits, has_pointer, starred, IsClear, TypeNameAgain}
 use Rattle.lt_print.proofs.Fronts.{ends_specifier}
 use Rattle.lt_print.proofs.DeclaratorsAgain.{declarator_again}
-use Rattle.lt_print.proofs.TypesAgain.{typed_behind, still_typed}
+use Rattle.lt_print.proofs.TypesAgain.{anywhere, typed_behind, still_typed}
 
 -- ---- pointers among the parts
 
@@ -28,7 +28,7 @@ suffixes_keep (g.array e x) = suffixes_keep x
 suffixes_keep (g.function ps x) = suffixes_keep x
 
 mutual
-  pointers_keep : {scope : Scope} {naming : Naming} {ts rest : List Symbol} {outer parts : c.Parts} {w : Option (List ℕ)} {spots more : List ℕ}
+  pub pointers_keep : {scope : Scope} {naming : Naming} {ts rest : List Symbol} {outer parts : c.Parts} {w : Option (List ℕ)} {spots more : List ℕ}
       → ArePointers scope naming ts outer w parts rest spots more → has_pointer outer ≡ true → has_pointer parts ≡ true
   pointers_keep (g.pointer q x) e = pointers_keep x refl
   pointers_keep (g.no_pointer a x) e = direct_keeps x e
@@ -37,7 +37,7 @@ mutual
       → IsDirect scope naming ts outer w parts rest spots more → has_pointer outer ≡ true → has_pointer parts ≡ true
   direct_keeps (g.by_name a xs) e = suffixes_keep xs ∙ e
   direct_keeps (g.by_nothing a b xs) e = suffixes_keep xs ∙ e
-  direct_keeps (g.nested a x xs) e = pointers_keep x (suffixes_keep xs ∙ e)
+  direct_keeps (g.nested inner a x i xs) e = pointers_keep x (suffixes_keep xs ∙ e)
 
 -- ---- what begins a declarator
 
@@ -68,7 +68,7 @@ direct_clear : {scope inner : Scope} {naming : Naming} (typed : Bool) {ts rest :
 unfolding same_terminal
 direct_clear typed {parts} (g.by_name {w} {at} {ts = us} a xs) e bare clear = name_clear typed w at us parts (suffixes_keep xs ∙ e) clear
 direct_clear typed (g.by_nothing a b xs) e bare clear = suffixes_clear typed xs (bare a)
-direct_clear typed (g.nested a x xs) e bare clear = record { none = refl; brace = refl }
+direct_clear typed (g.nested inner a x i xs) e bare clear = record { none = refl; brace = refl }
 
 pub front_clear : {scope inner : Scope} {naming : Naming} (typed : Bool) {ts rest : List Symbol} {d : c.Declarator} {spots more : List ℕ}
     → IsDeclarator inner naming ts d rest spots more → Bare naming rest → IsClear scope typed d → Clear scope typed ts
@@ -79,14 +79,19 @@ front_clear {scope} typed (g.missing a b) bare clear = let e = bare a in record 
 
 -- ---- names that begin declarators
 
-pub nameless_clear : (scope : Scope) (typed : Bool) (d : c.Declarator) → DeclaratorFits nameless scope d → IsClear scope typed d
-nameless_clear scope true d fits = tt
-nameless_clear scope false (c.declarator None parts) fits = tt
-nameless_clear scope false (c.declarator (Some w) parts) fits = let f = fits.0 in absurd cc
+no_name : (scope : Scope) (w : List ℕ) (b : Bool) → takes_name (starred b nameless) scope w ≡ true → ⊥
+no_name scope w true e = cc
+no_name scope w false e = cc
+
+pub nameless_clear : (scope inner : Scope) (typed : Bool) (d : c.Declarator) → DeclaratorFits nameless inner d → IsClear scope typed d
+nameless_clear scope inner true d fits = tt
+nameless_clear scope inner false (c.declarator None parts) fits = tt
+nameless_clear scope inner false (c.declarator (Some w) parts) fits = absurd (no_name inner w (has_pointer parts) fits.0)
 
 pub behind_clear : (scope : Scope) (ss : c.Specifiers) (d : c.Declarator) → DeclaratorFits (naming_behind ss) scope d → IsClear scope (names_type ss) d
 behind_clear scope (c.specifiers words c.no_types) (c.declarator None parts) fits = tt
-behind_clear scope (c.specifiers words c.no_types) (c.declarator (Some w) parts) fits = λ e. not-true (is_type scope w) fits.0
+behind_clear scope (c.specifiers words c.no_types) (c.declarator (Some w) parts) fits =
+    λ e. not-true (is_type scope w) (subst (λ (b : Bool). takes_name (starred b untyped) scope w ≡ true) e fits.0)
 behind_clear scope (c.specifiers words (c.a_type first rest)) d fits = tt
 
 -- and so behind the enumerators that the specifiers declare
@@ -116,7 +121,7 @@ mutual
       → IsDirect scope either ts outer w parts rest spots more → begins_specifier scope false ts ≡ false → has_pointer parts ≡ false → IsPlain scope w
   plain_direct (g.by_name a xs) n e = n
   plain_direct (g.by_nothing a b xs) n e = tt
-  plain_direct {scope} (g.nested {ts = us} a x xs) n e = plain_pointers x (or_parts (sees k.CloseParen us) (begins_specifier scope false us) a).1 e
+  plain_direct {scope} (g.nested {ts = us} inner a x i xs) n e = plain_pointers x (or_parts (sees k.CloseParen us) (begins_specifier scope false us) a).1 e
 
 plain_clear : (scope : Scope) (w : Option (List ℕ)) (parts : c.Parts) → (has_pointer parts ≡ false → IsPlain scope w) → IsClear scope false (c.declarator w parts)
 plain_clear scope None parts h = tt
@@ -140,7 +145,7 @@ further_end (g.const_word f) = further_end f
 further_end (g.volatile_word f) = further_end f
 further_end (g.type_word x f) = further_end f
 further_end (g.typedef_name x f) = further_end f
-further_end (g.struct_or_enum x f) = further_end f
+further_end {scope} {rest = rest} (g.struct_or_enum {type = type} {types = types} x f) = anywhere scope (after_type type scope) (typed_behind true types) (still_typed types) rest ∙ further_end f
 
 gathered_typed : (types : c.TypeSpecifiers) → is_typed (gathered types) ≡ typed_behind false types
 unfolding spellings all_words same_word
@@ -173,8 +178,8 @@ declared_again scope inner naming ss d again fits clear n ts rest more ends brac
     let first = again n ts p.between second.0 front.none front.brace p.front in
     record { between = p.between; middle = second.0; spots = first.0; first = first.1; second = second.1 }
 
-pub type_name_again : {scope : Scope} {ss : c.Specifiers} {d : c.Declarator} → SpecifiersAgain scope ss → DeclaratorFits nameless scope d → TypeNameAgain scope ss d
+pub type_name_again : {scope : Scope} {ss : c.Specifiers} {d : c.Declarator} → SpecifiersAgain scope ss → DeclaratorFits nameless (after_specifiers ss scope) d → TypeNameAgain scope ss d
 unfolding same_terminal
 type_name_again {scope} {ss} {d} again fits n at ts rest more r =
-    let got = declared_again scope scope nameless ss d again fits (nameless_clear scope (names_type ss) d fits) n ts (s.sign k.CloseParen at ∷ rest) more by_parenthesis (λ a. refl) r in
+    let got = declared_again scope (after_specifiers ss scope) nameless ss d again fits (nameless_clear scope (after_specifiers ss scope) (names_type ss) d fits) n ts (s.sign k.CloseParen at ∷ rest) more by_parenthesis (λ a. refl) r in
     (got.spots, g.type_name got.first got.second)

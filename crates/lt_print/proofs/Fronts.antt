@@ -78,7 +78,7 @@ pub direct_no_star : {scope : Scope} {naming : Naming} {ts rest : List Symbol} {
 unfolding same_terminal
 direct_no_star (g.by_name x y) e = record { star = refl; constant = refl; volatile = refl }
 direct_no_star (g.by_nothing a b x) e = suffixes_no_star x e
-direct_no_star (g.nested a x y) e = record { star = refl; constant = refl; volatile = refl }
+direct_no_star (g.nested inner a x i y) e = record { star = refl; constant = refl; volatile = refl }
 
 -- no qualifier
 pub pointers_unqualified : {scope : Scope} {naming : Naming} {ts rest : List Symbol} {outer parts : c.Parts} {w : Option (List ℕ)} {spots more : List ℕ}

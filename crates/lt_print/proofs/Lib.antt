@@ -15,6 +15,7 @@ pub mod ReadPieces
 pub mod LooserLevels
 pub mod SignsAgain
 pub mod Claims
+pub mod OuterParts
 pub mod OperandsAgain
 pub mod FormsAgain
 pub mod ExpressionsAgain

@@ -175,7 +175,7 @@ mutual
       → g.IsDirect scope naming ts outer name parts rest spots more → AreSpelt ts → NameIf name × (SpeltParts outer → SpeltParts parts) × AreSpelt rest
   of_direct (g.by_name t s) all = let x = of_suffixes s all.1 in (all.0, x.0, x.1)
   of_direct (g.by_nothing t b s) all = let x = of_suffixes s all in (tt, x.0, x.1)
-  of_direct (g.nested o p s) all = let x = of_pointers p all.1 in let y = of_suffixes s x.2.1 in (x.0, λ outer. x.1 (y.0 outer), y.1)
+  of_direct (g.nested inner o p i s) all = let x = of_pointers p all.1 in let y = of_suffixes s x.2.1 in (x.0, λ outer. x.1 (y.0 outer), y.1)
 
   of_suffixes : {scope : Scope} {ts : List Symbol} {outer parts : c.Parts} {rest : List Symbol} {spots more : List ℕ}
       → g.AreSuffixes scope ts outer parts rest spots more → AreSpelt ts → (SpeltParts outer → SpeltParts parts) × AreSpelt rest

@@ -1,5 +1,5 @@
 -- The words of specifiers derive them again.
-use Rattle.std.proofs.Common.{◌≡◌, ℕ, Bool, true, false, List, [], ◌∷◌, Option, Some, None, refl, ap, subst, ◌∙◌, inl, inr}
+use Rattle.std.proofs.Common.{◌≡◌, ℕ, Bool, true, false, List, [], ◌∷◌, Option, Some, None, refl, sym, ap, subst, ◌∙◌, inl, inr}
 use Rattle.std.specs.Prelude.{◌⊎◌, map, option_and_then, option_map}
 use Rattle.lt_tree.specs.declared.specifier.Storage.{Storage}
 use Rattle.lt_tree.specs.declared.specifier.BasicType.{BasicType}
@@ -8,14 +8,16 @@ use Rattle.lt_tree.specs.declared.specifier.TypeWord.TheVariants as w
 use Rattle.lt_tree.specs.declared.terminal.Terminal.{Terminal}
 use Rattle.lt_tree.specs.declared.terminal.Terminal.TheVariants as k
 use Rattle.lt_tree.specs.Tree as c
+use Rattle.lt_tree.specs.Symbols as s
 use Rattle.lt_tree.specs.Symbols.{Symbol}
 use Rattle.lt_tree.specs.TypeWords.{spellings, all_words, same_word, basic_of, words_alone, or_as_they_stand, gathered}
-use Rattle.lt_tree.specs.Scope.{Scope, is_type}
+use Rattle.lt_tree.specs.Scope.{Scope, is_type, after_type, after_types}
 use Rattle.lt_tree.specs.Operators.{storage_of, type_word_of}
 use Rattle.lt_tree.specs.Ahead.{same_terminal, sees, begins_specifier, is_specifier_word}
 use Rattle.lt_tree.specs.Grammar as g
 use Rattle.lt_tree.specs.Grammar.{AreSpecifiers, AreFurther, IsTagged, no_words}
 use Rattle.lt_tree.specs.Canon.{Pieces, sign, name, apart, word_if, signs_apart, qualifiers_pieces, words_pieces, sign_of_storage, sign_of_word, words_of, operand, type_specifiers, type_specifier}
+use Rattle.lt_expr.proofs.HiddenNames.{type_first}
 use Rattle.lt_print.proofs.ReadPieces.{Reads, done, a_name, a_sign, a_gap, parted_apart}
 use Rattle.lt_print.proofs.SignsAgain.{storage_sign, word_sign, basic_again}
 use Rattle.lt_print.proofs.Claims.{is_typed, TypeFits, TypesFit, TaggedAgain, SpecifiersAgain}
@@ -73,6 +75,21 @@ pub still_typed : (types : c.TypeSpecifiers) → typed_behind true types ≡ tru
 still_typed c.no_types = refl
 still_typed (c.a_type first rest) = still_typed rest
 
+-- Behind a type no name is a specifier, whatever is in scope.
+pub anywhere : (a b : Scope) (typed : Bool) → typed ≡ true → (ts : List Symbol) → begins_specifier a typed ts ≡ begins_specifier b typed ts
+anywhere a b false e ts = absurd cc
+anywhere a b true e [] = refl
+anywhere a b true e (s.name w at ∷ ts) = refl
+anywhere a b true e (s.constant w at ∷ ts) = refl
+anywhere a b true e (s.literal w at ∷ ts) = refl
+anywhere a b true e (s.sign x at ∷ ts) = refl
+
+-- what is no specifier before the types is none behind them
+pub ends_behind : (scope : Scope) (typed : Bool) (types : c.TypeSpecifiers) (ts : List Symbol)
+    → begins_specifier (after_types types scope) (typed_behind typed types) ts ≡ begins_specifier scope (typed_behind typed types) ts
+ends_behind scope typed c.no_types ts = refl
+ends_behind scope typed (c.a_type first rest) ts = anywhere (after_types (c.a_type first rest) scope) scope (typed_behind true rest) (still_typed rest) ts
+
 word_no_brace : (word : TypeWord) → same_terminal (sign_of_word word) k.OpenBrace ≡ false
 unfolding same_terminal
 word_no_brace w.Void = refl
@@ -102,7 +119,7 @@ record Typed (scope : Scope) (typed : Bool) (ts : List Symbol) (types : c.TypeSp
 
 -- one more type before others
 tagged_first : {scope : Scope} {typed : Bool} (n : ℕ) {ts between rest : List Symbol} {type : c.TypeSpecifier} {types : c.TypeSpecifiers} {more : List ℕ}
-    → TaggedAgain scope type → Reads (type_specifier n type) ts between → Typed scope true between types rest more → Typed scope typed ts (c.a_type type types) rest more
+    → TaggedAgain scope type → Reads (type_specifier n type) ts between → Typed (after_type type scope) true between types rest more → Typed scope typed ts (c.a_type type types) rest more
 tagged_first n {ts} {between} again r t =
     let got = again n ts between t.spots t.no_brace r in record { spots = got.0; derived = g.struct_or_enum got.1 t.derived; no_brace = tagged_no_brace got.1 }
 
@@ -113,7 +130,7 @@ typedef_first true e is r t = absurd cc
 typedef_first false e is (a_name done) t = record { spots = t.spots; derived = g.typedef_name is t.derived; no_brace = refl }
 
 first_again : {scope : Scope} (typed : Bool) (n : ℕ) {ts between rest : List Symbol} (type : c.TypeSpecifier) {types : c.TypeSpecifiers} {more : List ℕ}
-    → TypeFits scope typed type → Reads (type_specifier n type) ts between → Typed scope true between types rest more → Typed scope typed ts (c.a_type type types) rest more
+    → TypeFits scope typed type → Reads (type_specifier n type) ts between → Typed (after_type type scope) true between types rest more → Typed scope typed ts (c.a_type type types) rest more
 unfolding operand
 first_again typed n (c.Basic type) fits r t = absurd fits
 first_again typed n (c.Word word) fits (a_sign done) t = record { spots = t.spots; derived = g.type_word (word_sign word) t.derived; no_brace = word_no_brace word }
@@ -124,12 +141,12 @@ first_again typed n (c.EnumTag w) fits r t = tagged_first n fits r t
 first_again typed n (c.Enum tag inside) fits r t = tagged_first n fits r t
 
 types_again : {scope : Scope} (typed : Bool) (n : ℕ) (types : c.TypeSpecifiers) → TypesFit scope typed types → (ts rest : List Symbol) (more : List ℕ)
-    → begins_specifier scope (typed_behind typed types) rest ≡ false → sees k.OpenBrace rest ≡ false → Reads (type_specifiers n types) ts rest → Typed scope typed ts types rest more
+    → begins_specifier (after_types types scope) (typed_behind typed types) rest ≡ false → sees k.OpenBrace rest ≡ false → Reads (type_specifiers n types) ts rest → Typed scope typed ts types rest more
 unfolding operand
 types_again typed n c.no_types fits ts rest more none brace done = record { spots = more; derived = g.no_further none; no_brace = brace }
-types_again typed n (c.a_type first types) fits ts rest more none brace r =
+types_again {scope} typed n (c.a_type first types) fits ts rest more none brace r =
     let p = parted_apart (type_specifier n first) (type_specifiers n types) r in
-    first_again typed n first fits.0 p.front (types_again true n types fits.1 p.between rest more none brace p.back)
+    first_again typed n first fits.0 p.front (types_again true n types fits.1 p.between rest more (ap (λ (names : Scope). begins_specifier names (typed_behind true types) rest) (sym (type_first first types scope)) ∙ none) brace p.back)
 
 -- ---- types that words name together
 
@@ -240,7 +257,7 @@ as_they_stand : (scope : Scope) (words : c.Words) (types : c.TypeSpecifiers) →
 unfolding operand
 as_they_stand scope words types fits some is n ts rest more none brace r =
     let p = parted_apart (words_pieces words) (type_specifiers n types) r in
-    let got = types_again false n types fits p.between rest more (ap (λ (b : Bool). begins_specifier scope b rest) (same_typed types) ∙ none) brace p.back in
+    let got = types_again false n types fits p.between rest more (ends_behind scope false types rest ∙ ap (λ (b : Bool). begins_specifier scope b rest) (same_typed types) ∙ none) brace p.back in
     (got.spots, subst (λ (t : c.TypeSpecifiers). AreSpecifiers scope ts (c.specifiers words t) rest got.spots more) is (derived_some some (words_again words p.front got.derived)))
 
 -- as one type
@@ -250,7 +267,7 @@ as_one scope words type n ts rest more none brace r =
     let p = parted_apart (words_pieces words) (signs_apart (map sign_of_word (words_of type))) r in
     let back = subst (λ (ps : Pieces). Reads ps p.between rest) (words_written n (words_of type)) p.back in
     let got = types_again false n (as_types (words_of type)) (words_fit scope false (words_of type)) p.between rest more
-    (ap (λ (b : Bool). begins_specifier scope b rest) (behind_basic type) ∙ none) brace back in
+    (ends_behind scope false (as_types (words_of type)) rest ∙ ap (λ (b : Bool). begins_specifier scope b rest) (behind_basic type) ∙ none) brace back in
     let some : AreSome words (as_types (words_of type)) = λ e f. (let x = ap (typed_behind false) f in let y = behind_basic type in cc) in
     (got.spots, subst (λ (t : c.TypeSpecifiers). AreSpecifiers scope ts (c.specifiers words t) rest got.spots more) (gathered_again type) (derived_some some (words_again words p.front got.derived)))
 

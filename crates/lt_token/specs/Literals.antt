@@ -1,4 +1,5 @@
--- Literals and comments as C11 writes them. That the parts of specs/Parts.antt are these is a law.
+-- Literals as C11 writes them, and what doesn't stand in a comment. That the parts of specs/Parts.antt are these literals is a law; of comments
+-- none is shown.
 use Rattle.std.specs.Prelude.{◌≡◌, ℕ, Bool, true, not, ◌&&◌, ◌==◌, List, [], ◌∷◌, ◌++◌}
 use Rattle.std.specs.Char.{is_ascii_hexdigit}
 use Rattle.std.specs.Str.{byte}

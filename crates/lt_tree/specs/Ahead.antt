@@ -80,22 +80,29 @@ goes_on (_ ∷ ts) = false
 -- whether a declarator has to have a name, has none, or may have one
 pub data Naming : Type 0 where
   named : Naming
-  -- behind specifiers that name no type
+  -- directly behind specifiers that name no type
   untyped : Naming
   nameless : Naming
   either : Naming
 
--- whether a declarator may have this name; where no type was named before it, it is no typedef name
+-- whether a declarator may have this name; directly behind specifiers that name no type, it is no typedef name
 abbrev pub takes_name : Naming → Scope → List ℕ → Bool
 takes_name named scope w = true
 takes_name untyped scope w = not (is_type scope w)
 takes_name nameless scope w = false
 takes_name either scope w = true
 
--- the naming of declarators behind these specifiers
+-- the naming of the first declarator behind these specifiers
 abbrev pub naming_behind : Specifiers → Naming
 naming_behind (specifiers words no_types) = untyped
 naming_behind (specifiers words (a_type first rest)) = named
+
+-- Behind `*` a typedef name is no specifier any more.
+abbrev pub behind_star : Naming → Naming
+behind_star named = named
+behind_star untyped = named
+behind_star nameless = nameless
+behind_star either = either
 
 abbrev pub takes_none : Naming → Bool
 takes_none named = false

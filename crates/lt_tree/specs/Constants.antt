@@ -1,5 +1,5 @@
 -- The values of constants, C11 6.4.4.
-use Rattle.std.specs.Prelude.{ℕ, ℤ, pos, ◌-ℤ◌, ◌+◌, ◌*◌, nat_lt, Bool, ◌||◌, ◌==◌, if◌then◌else◌, List, [], ◌∷◌, codes, Option, Some, None, unwrap_or}
+use Rattle.std.specs.Prelude.{ℕ, ℤ, pos, ◌-ℤ◌, ◌+◌, ◌*◌, nat_lt, Bool, ◌||◌, ◌==◌, if◌then◌else◌, List, [], ◌∷◌, codes, Option, Some, None, option_map, unwrap_or}
 use Rattle.std.specs.List.{list_all}
 use Rattle.std.specs.Str.{byte, bytes_eq}
 use Rattle.lt_tree.specs.Strings.{hex_value, escape}
@@ -36,23 +36,23 @@ with_suffix (value, suffix) = if is_suffix suffix then Some (pos value) else Non
 abbrev pub integer_value : List ℕ → Option ℤ
 integer_value bytes = with_suffix (integer_parts bytes)
 
--- a byte as a `char`, which is signed
-abbrev pub char_value : ℕ → ℤ
-char_value b = if nat_lt b 128 then pos b else pos b -ℤ pos 256
-
 -- the character before a closing quote
-abbrev pub before_quote : Option (ℕ × List ℕ) → Option ℤ
+abbrev pub before_quote : Option (ℕ × List ℕ) → Option ℕ
 before_quote None = None
-before_quote (Some (b, rest)) = if bytes_eq rest (codes "'") then Some (char_value b) else None
+before_quote (Some (b, rest)) = if bytes_eq rest (codes "'") then Some b else None
 
--- the value of a character constant behind its opening quote, C11 6.4.4.4
-abbrev pub character_value : List ℕ → Option ℤ
-character_value [] = None
-character_value (b ∷ bytes) =
+-- the byte of a character constant behind its opening quote, C11 6.4.4.4
+abbrev pub character_byte : List ℕ → Option ℕ
+character_byte [] = None
+character_byte (b ∷ bytes) =
     if b == byte "\\" then before_quote (escape bytes)
     else (if (b == byte "'") || (b == 10) then None else before_quote (Some (b, bytes)))
 
--- the value of an integer or character constant, as written
+-- a byte as a `signed char`
+abbrev pub signed_byte : ℕ → ℤ
+signed_byte b = if nat_lt b 128 then pos b else pos b -ℤ pos 256
+
+-- The number that an integer or character constant says as an id, as written. A character is read as signed, whatever plain `char` is.
 abbrev pub value_of : List ℕ → Option ℤ
 value_of [] = None
-value_of (b ∷ bytes) = if b == byte "'" then character_value bytes else integer_value (b ∷ bytes)
+value_of (b ∷ bytes) = if b == byte "'" then option_map signed_byte (character_byte bytes) else integer_value (b ∷ bytes)

@@ -5,7 +5,7 @@ use Rattle.lt_tree.specs.Tree as c
 use Rattle.lt_tree.specs.Symbols as s
 use Rattle.lt_tree.specs.Symbols.{Symbol, start_of}
 use Rattle.lt_tree.specs.Scope.{Scope, after_specifiers, after_declarator, after_initialiser, makes_types}
-use Rattle.lt_tree.specs.Ahead.{Naming, naming_behind, sees}
+use Rattle.lt_tree.specs.Ahead.{Naming, named, naming_behind, sees}
 use Rattle.lt_tree.specs.Grammar.{IsExpression, assignment, AreSpecifiers, IsDeclarator}
 
 mutual
@@ -34,7 +34,8 @@ pub data IsOptionalInitialiser : (scope : Scope) → (ts : List Symbol) → (i :
   given : {scope : Scope} {at : ℕ} {ts rest : List Symbol} {i : c.Initialiser} {spots more : List ℕ}
       → IsInitialiser scope ts i rest spots more → IsOptionalInitialiser scope (s.sign t.Equal at ∷ ts) (Some i) rest spots more
 
--- (declarator ('=' init)?),+ ';' where the names declared are typedef names or not; each is in scope from the end of its declarator
+-- (declarator ('=' init)?),+ ';' where the names declared are typedef names or not; each is in scope from the end of its declarator, and only
+-- the first stands directly behind the specifiers
 pub data AreDeclarators : (scope : Scope) → (naming : Naming) → (type : Bool) → (ts : List Symbol) → (ds : List c.InitDeclarator) → (rest : List Symbol) → (spots more : List ℕ) → Type 0 where
   last_declarator : {scope : Scope} {naming : Naming} {type : Bool} {at : ℕ} {ts us rest : List Symbol} {d : c.Declarator} {i : Option c.Initialiser} {spots between more : List ℕ}
       → IsDeclarator scope naming ts d us spots between
@@ -43,7 +44,7 @@ pub data AreDeclarators : (scope : Scope) → (naming : Naming) → (type : Bool
   more_declarators : {scope : Scope} {naming : Naming} {type : Bool} {at : ℕ} {ts us vs rest : List Symbol} {d : c.Declarator} {i : Option c.Initialiser} {ds : List c.InitDeclarator} {spots first second more : List ℕ}
       → IsDeclarator scope naming ts d us spots first
       → IsOptionalInitialiser (after_declarator type d scope) us i (s.sign t.Comma at ∷ vs) first second
-      → AreDeclarators (after_initialiser i (after_declarator type d scope)) naming type vs ds rest second more
+      → AreDeclarators (after_initialiser i (after_declarator type d scope)) named type vs ds rest second more
       → AreDeclarators scope naming type ts (record { declarator = d; initialiser = i } ∷ ds) rest spots more
 
 -- declaration = specs (declarator ('=' init)?),* ';'

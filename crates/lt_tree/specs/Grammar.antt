@@ -14,9 +14,9 @@ use Rattle.lt_tree.specs.Comma.{followed_by, is_comma}
 use Rattle.lt_tree.specs.Symbols as s
 use Rattle.lt_tree.specs.Symbols.{Symbol, start_of}
 use Rattle.lt_tree.specs.TypeWords.{gathered}
-use Rattle.lt_tree.specs.Scope.{Scope, is_type, after_specifiers, after_parameter}
+use Rattle.lt_tree.specs.Scope.{Scope, is_type, after_expression, after_type, after_specifiers, after_parts, after_inside, after_member_declarator, after_member, after_enumerator, after_parameter}
 use Rattle.lt_tree.specs.Operators.{Infix, operation, infix_of, prefix_of, assignment_of, storage_of, type_word_of}
-use Rattle.lt_tree.specs.Ahead.{Naming, nameless, either, naming_behind, takes_name, takes_none, opens_parameters, begins_direct, sees, begins_specifier, begins_declarator, begins_suffix, is_void_alone, goes_on}
+use Rattle.lt_tree.specs.Ahead.{Naming, named, nameless, either, naming_behind, behind_star, takes_name, takes_none, opens_parameters, begins_direct, sees, begins_specifier, begins_declarator, begins_suffix, is_void_alone, goes_on}
 
 -- The levels of an expression, the loosest first. The binary operators have levels from 0, `||`, to 9, `*`.
 pub data Level : Type 0 where
@@ -66,6 +66,13 @@ with_volatile words = record words { qualifiers = record { constant = words.qual
 abbrev pub is_missing : Option (List ℕ) → c.Parts → Bool
 is_missing None c.no_parts = true
 is_missing name parts = false
+
+-- the parts of a declarator, and then those around it
+abbrev pub joined : c.Parts → c.Parts → c.Parts
+joined c.no_parts outer = outer
+joined (c.Pointer q rest) outer = c.Pointer q (joined rest outer)
+joined (c.Array length rest) outer = c.Array length (joined rest outer)
+joined (c.Function parameters rest) outer = c.Function parameters (joined rest outer)
 
 mutual
   pub data IsExpression : (scope : Scope) → (level : Level) → (ts : List Symbol) → (e : c.Expression) → (rest : List Symbol) → (spots more : List ℕ) → Type 0 where
@@ -227,7 +234,7 @@ mutual
   -- typename = specs abstract?
   pub data IsTypeName : (scope : Scope) → (ts : List Symbol) → (ss : c.Specifiers) → (d : c.Declarator) → (rest : List Symbol) → (spots more : List ℕ) → Type 0 where
     type_name : {scope : Scope} {ts us rest : List Symbol} {ss : c.Specifiers} {d : c.Declarator} {spots between more : List ℕ}
-        → AreSpecifiers scope ts ss us spots between → IsDeclarator scope nameless us d rest between more
+        → AreSpecifiers scope ts ss us spots between → IsDeclarator (after_specifiers ss scope) nameless us d rest between more
         → IsTypeName scope ts ss d rest spots more
 
   -- specs: one or more of the words for storage, `inline`, `_Noreturn`, qualifiers, type words, structs, enums and typedef names
@@ -262,7 +269,7 @@ mutual
         → is_type scope w ≡ true → AreFurther scope true ts words types rest spots more
         → AreFurther scope false (s.name w at ∷ ts) words (c.a_type (c.Named w) types) rest spots more
     struct_or_enum : {scope : Scope} {typed : Bool} {ts us rest : List Symbol} {type : c.TypeSpecifier} {words : c.Words} {types : c.TypeSpecifiers} {spots between more : List ℕ}
-        → IsTagged scope ts type us spots between → AreFurther scope true us words types rest between more
+        → IsTagged scope ts type us spots between → AreFurther (after_type type scope) true us words types rest between more
         → AreFurther scope typed ts words (c.a_type type types) rest spots more
 
   -- struct = 'struct' NAME? '{' member* '}' | 'struct' NAME; enum = 'enum' NAME? '{' (NAME ('=' cond)?),+ ','? '}' | 'enum' NAME
@@ -284,23 +291,24 @@ mutual
         → AreEnumerators scope ts enumerators rest spots more
         → IsTagged scope (s.sign t.Enum a ∷ s.sign t.OpenBrace d ∷ ts) (c.Enum None enumerators) rest spots more
 
-  -- member* '}', with member = specs (declarator (':' cond)?),* ';'
+  -- member* '}', with member = specs (declarator (':' cond)?),* ';'; the enumerators of a member are in scope for those behind it
   pub data AreMembers : (scope : Scope) → (ts : List Symbol) → (members : c.Members) → (rest : List Symbol) → (spots more : List ℕ) → Type 0 where
     no_more_members : {scope : Scope} {at : ℕ} {rest : List Symbol} {more : List ℕ} → AreMembers scope (s.sign t.CloseBrace at ∷ rest) c.no_members rest more more
     one_more_member : {scope : Scope} {ts us vs rest : List Symbol} {ss : c.Specifiers} {ds : c.MemberDeclarators} {members : c.Members} {spots first second more : List ℕ}
-        → AreSpecifiers scope ts ss us spots first → AreMemberDeclarators scope (naming_behind ss) us ds vs first second → AreMembers scope vs members rest second more
+        → AreSpecifiers scope ts ss us spots first → AreMemberDeclarators (after_specifiers ss scope) (naming_behind ss) us ds vs first second
+        → AreMembers (after_member (c.member ss ds) scope) vs members rest second more
         → AreMembers scope ts (c.a_member (c.member ss ds) members) rest (start_of ts ∷ spots) more
 
-  -- (declarator (':' cond)?),* ';'
+  -- (declarator (':' cond)?),* ';'; only the first stands directly behind the specifiers
   pub data AreMemberDeclarators : (scope : Scope) → (naming : Naming) → (ts : List Symbol) → (ds : c.MemberDeclarators) → (rest : List Symbol) → (spots more : List ℕ) → Type 0 where
     no_member_declarators : {scope : Scope} {naming : Naming} {at : ℕ} {rest : List Symbol} {more : List ℕ}
         → AreMemberDeclarators scope naming (s.sign t.Semicolon at ∷ rest) c.no_declarators rest more more
     last_member_declarator : {scope : Scope} {naming : Naming} {at : ℕ} {ts us rest : List Symbol} {d : c.Declarator} {width : c.Maybe} {spots between more : List ℕ}
-        → IsDeclarator scope naming ts d us spots between → IsAfterSign scope t.Colon us width (s.sign t.Semicolon at ∷ rest) between more
+        → IsDeclarator scope naming ts d us spots between → IsAfterSign (after_inside d scope) t.Colon us width (s.sign t.Semicolon at ∷ rest) between more
         → AreMemberDeclarators scope naming ts (c.a_declarator d width c.no_declarators) rest spots more
     more_member_declarators : {scope : Scope} {naming : Naming} {at : ℕ} {ts us vs rest : List Symbol} {d e : c.Declarator} {width wide : c.Maybe} {ds : c.MemberDeclarators} {spots first second more : List ℕ}
-        → IsDeclarator scope naming ts d us spots first → IsAfterSign scope t.Colon us width (s.sign t.Comma at ∷ vs) first second
-        → AreMemberDeclarators scope naming vs (c.a_declarator e wide ds) rest second more
+        → IsDeclarator scope naming ts d us spots first → IsAfterSign (after_inside d scope) t.Colon us width (s.sign t.Comma at ∷ vs) first second
+        → AreMemberDeclarators (after_member_declarator d width scope) named vs (c.a_declarator e wide ds) rest second more
         → AreMemberDeclarators scope naming ts (c.a_declarator d width (c.a_declarator e wide ds)) rest spots more
 
   -- (SIGN cond)?
@@ -309,7 +317,7 @@ mutual
     given : {scope : Scope} {k : Terminal} {at : ℕ} {ts rest : List Symbol} {e : c.Expression} {spots more : List ℕ}
         → IsExpression scope conditional ts e rest spots more → IsAfterSign scope k (s.sign k at ∷ ts) (c.present e) rest spots more
 
-  -- (NAME ('=' cond)?),+ ','? '}'
+  -- (NAME ('=' cond)?),+ ','? '}'; an enumerator is in scope for the values behind it
   pub data AreEnumerators : (scope : Scope) → (ts : List Symbol) → (enumerators : c.Enumerators) → (rest : List Symbol) → (spots more : List ℕ) → Type 0 where
     last_enumerator : {scope : Scope} {a b : ℕ} {w : List ℕ} {ts rest : List Symbol} {value : c.Maybe} {spots more : List ℕ}
         → IsAfterSign scope t.Equal ts value (s.sign t.CloseBrace b ∷ rest) spots more
@@ -318,7 +326,7 @@ mutual
         → IsAfterSign scope t.Equal ts value (s.sign t.Comma b ∷ s.sign t.CloseBrace d ∷ rest) spots more
         → AreEnumerators scope (s.name w a ∷ ts) (c.an_enumerator w value c.no_enumerators) rest (a ∷ spots) more
     more_enumerators : {scope : Scope} {a b : ℕ} {w : List ℕ} {ts us rest : List Symbol} {value : c.Maybe} {es : c.Enumerators} {spots between more : List ℕ}
-        → IsAfterSign scope t.Equal ts value (s.sign t.Comma b ∷ us) spots between → AreEnumerators scope us es rest between more
+        → IsAfterSign scope t.Equal ts value (s.sign t.Comma b ∷ us) spots between → AreEnumerators (after_enumerator w value scope) us es rest between more
         → AreEnumerators scope (s.name w a ∷ ts) (c.an_enumerator w value es) rest (a ∷ spots) more
 
   -- a declarator; where it may lack a name, it may be missing as a whole, and then it is no node
@@ -332,13 +340,14 @@ mutual
   -- declarator = ('*' qualifier*)* direct. The parts are those of this declarator, from its name outwards, and then the outer ones.
   pub data ArePointers : (scope : Scope) → (naming : Naming) → (ts : List Symbol) → (outer : c.Parts) → (name : Option (List ℕ)) → (parts : c.Parts) → (rest : List Symbol) → (spots more : List ℕ) → Type 0 where
     pointer : {scope : Scope} {naming : Naming} {at : ℕ} {ts us rest : List Symbol} {outer parts : c.Parts} {q : c.Qualifiers} {name : Option (List ℕ)} {spots more : List ℕ}
-        → AreQualifiers ts q us → ArePointers scope naming us (c.Pointer q outer) name parts rest spots more
+        → AreQualifiers ts q us → ArePointers scope (behind_star naming) us (c.Pointer q outer) name parts rest spots more
         → ArePointers scope naming (s.sign t.Star at ∷ ts) outer name parts rest spots more
     no_pointer : {scope : Scope} {naming : Naming} {ts rest : List Symbol} {outer parts : c.Parts} {name : Option (List ℕ)} {spots more : List ℕ}
         → sees t.Star ts ≡ false → IsDirect scope naming ts outer name parts rest spots more
         → ArePointers scope naming ts outer name parts rest spots more
 
-  -- direct = NAME | '(' declarator ')' | direct '[' cond? ']' | direct '(' params? ')', and nothing in the place of NAME where it has none
+  -- direct = NAME | '(' declarator ')' | direct '[' cond? ']' | direct '(' params? ')', and nothing in the place of NAME where it has none;
+  -- what the inner parts declare is in scope for the outer ones
   pub data IsDirect : (scope : Scope) → (naming : Naming) → (ts : List Symbol) → (outer : c.Parts) → (name : Option (List ℕ)) → (parts : c.Parts) → (rest : List Symbol) → (spots more : List ℕ) → Type 0 where
     by_name : {scope : Scope} {naming : Naming} {w : List ℕ} {at : ℕ} {ts rest : List Symbol} {outer parts : c.Parts} {spots more : List ℕ}
         → takes_name naming scope w ≡ true → AreSuffixes scope ts outer parts rest spots more
@@ -346,9 +355,9 @@ mutual
     by_nothing : {scope : Scope} {naming : Naming} {ts rest : List Symbol} {outer parts : c.Parts} {spots more : List ℕ}
         → takes_none naming ≡ true → begins_direct scope ts ≡ false → AreSuffixes scope ts outer parts rest spots more
         → IsDirect scope naming ts outer None parts rest spots more
-    nested : {scope : Scope} {naming : Naming} {a b : ℕ} {ts us rest : List Symbol} {outer suffixed parts : c.Parts} {name : Option (List ℕ)} {spots between more : List ℕ}
+    nested : {scope : Scope} {naming : Naming} {a b : ℕ} {ts us rest : List Symbol} {outer suffixed parts : c.Parts} {name : Option (List ℕ)} {spots between more : List ℕ} (inner : c.Parts)
         → opens_parameters naming scope ts ≡ false → ArePointers scope naming ts suffixed name parts (s.sign t.CloseParen b ∷ us) spots between
-        → AreSuffixes scope us outer suffixed rest between more
+        → parts ≡ joined inner suffixed → AreSuffixes (after_parts inner scope) us outer suffixed rest between more
         → IsDirect scope naming (s.sign t.OpenParen a ∷ ts) outer name parts rest spots more
 
   -- ('[' cond? ']' | '(' params? ')')*, before the outer parts
@@ -358,7 +367,7 @@ mutual
         → AreSuffixes scope ts outer parts rest spots more
         → AreSuffixes scope (s.sign t.OpenIndex a ∷ s.sign t.CloseIndex b ∷ ts) outer (c.Array c.absent parts) rest spots more
     array : {scope : Scope} {a b : ℕ} {ts us rest : List Symbol} {outer parts : c.Parts} {e : c.Expression} {spots between more : List ℕ}
-        → IsExpression scope conditional ts e (s.sign t.CloseIndex b ∷ us) spots between → AreSuffixes scope us outer parts rest between more
+        → IsExpression scope conditional ts e (s.sign t.CloseIndex b ∷ us) spots between → AreSuffixes (after_expression e scope) us outer parts rest between more
         → AreSuffixes scope (s.sign t.OpenIndex a ∷ ts) outer (c.Array (c.present e) parts) rest spots more
     function : {scope : Scope} {a : ℕ} {ts us rest : List Symbol} {outer parts : c.Parts} {inside : c.Parameters} {spots between more : List ℕ}
         → AreParameters scope ts inside us spots between → AreSuffixes scope us outer parts rest between more

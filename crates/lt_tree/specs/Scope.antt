@@ -1,4 +1,5 @@
--- Which names stand for types, C11 6.2.1 and 6.7.8: a name is in scope from the end of its declarator, and an inner one hides an outer one.
+-- Which names stand for types, C11 6.2.1 and 6.7.8: a name is in scope from the end of its declarator, an enumerator from its own end, and an
+-- inner name hides an outer one. In the rest of an expression names stay what they were: what a type name in it declares is in scope behind it.
 use Rattle.std.specs.Prelude.{ℕ, Bool, false, if◌then◌else◌, List, [], ◌∷◌, ◌++◌, Option, Some, None}
 use Rattle.std.specs.Str.{bytes_eq}
 use Rattle.std.specs.List.{list_any}
@@ -125,16 +126,55 @@ abbrev pub after_optional : Option t.Expression → Scope → Scope
 after_optional None scope = scope
 after_optional (Some e) scope = after_expression e scope
 
+abbrev pub after_maybe : t.Maybe → Scope → Scope
+after_maybe e scope = hiding (enumerators_in_maybe e) scope
+
+abbrev pub after_type : t.TypeSpecifier → Scope → Scope
+after_type type scope = hiding (enumerators_in_type type) scope
+
+abbrev pub after_types : t.TypeSpecifiers → Scope → Scope
+after_types types scope = hiding (enumerators_in_types types) scope
+
+abbrev pub after_members : t.Members → Scope → Scope
+after_members members scope = hiding (enumerators_in_members members) scope
+
+abbrev pub after_enumerators : t.Enumerators → Scope → Scope
+after_enumerators enumerators scope = hiding (enumerators_of enumerators) scope
+
 abbrev pub after_specifiers : t.Specifiers → Scope → Scope
 after_specifiers s scope = hiding (enumerators_in_specifiers s) scope
+
+-- behind parts of a declarator: parameters, and what their types declare, end with their list
+abbrev pub after_parts : t.Parts → Scope → Scope
+after_parts parts scope = hiding (enumerators_in_parts parts) scope
+
+-- behind the parts of a declarator
+abbrev pub after_inside : t.Declarator → Scope → Scope
+after_inside d scope = hiding (enumerators_in_declarator d) scope
+
+abbrev pub after_member_declarator : t.Declarator → t.Maybe → Scope → Scope
+after_member_declarator d width scope = after_maybe width (after_inside d scope)
+
+abbrev pub after_member_declarators : t.MemberDeclarators → Scope → Scope
+after_member_declarators ds scope = hiding (enumerators_in_member_declarators ds) scope
+
+abbrev pub after_member : t.StructMember → Scope → Scope
+after_member (t.member s ds) scope = after_member_declarators ds (after_specifiers s scope)
 
 abbrev pub declaring : Bool → Option (List ℕ) → Scope → Scope
 declaring type None scope = scope
 declaring type (Some w) scope = record { name = w; is_type = type } ∷ scope
 
--- behind a declarator, whose name is a typedef name or not
+-- an enumerator is in scope behind its value
+abbrev pub after_enumerator : List ℕ → t.Maybe → Scope → Scope
+after_enumerator w value scope = declaring false (Some w) (after_maybe value scope)
+
+-- the name of a declarator is in scope behind its parts, as a typedef name or not
+abbrev pub after_name : Bool → t.Declarator → Scope → Scope
+after_name type (t.declarator name parts) scope = declaring type name scope
+
 abbrev pub after_declarator : Bool → t.Declarator → Scope → Scope
-after_declarator type (t.declarator name parts) scope = declaring type name (hiding (enumerators_in_parts parts) scope)
+after_declarator type d scope = after_name type d (after_inside d scope)
 
 abbrev pub after_initialiser : Option t.Initialiser → Scope → Scope
 after_initialiser None scope = scope

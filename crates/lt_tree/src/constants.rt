@@ -1,6 +1,6 @@
 // The values of the ids of marks; `specs/Constants.antt` has the values of constants.
 
-ghost use Rattle.std.specs.Prelude.{◌≡◌, ◌≤◌, ◌^◌, min};
+ghost use Rattle.std.specs.Prelude.{◌≡◌, ◌≤◌, ◌^◌, min, option_map, Some};
 ghost use Rattle.lt_tree.specs.Constants as constants;
 ghost use Rattle.lt_tree.specs.Ids.{within};
 
@@ -95,7 +95,7 @@ fn integer_id(text: &[u8]) -> u32
 }
 
 fn id_before_quote(b: u8, rest: &[u8]) -> u32
-    ensures { result ≡ within (constants.before_quote (Some (b, rest.now))) }
+    ensures { result ≡ within (option_map constants.signed_byte (constants.before_quote (Some (b, rest.now)))) }
 {
     if rest == b"'".as_slice() && b < 128 {
         u32::from(b)
@@ -105,7 +105,7 @@ fn id_before_quote(b: u8, rest: &[u8]) -> u32
 }
 
 fn character_id(text: &[u8]) -> u32
-    ensures { result ≡ within (constants.character_value text.now) }
+    ensures { result ≡ within (option_map constants.signed_byte (constants.character_byte text.now)) }
 {
     match text.split_first() {
         None => 0,

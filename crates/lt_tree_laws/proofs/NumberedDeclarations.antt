@@ -14,7 +14,7 @@ use Rattle.lt_tree.specs.Typing.Entities.{Known, Object, Life, a_typedef, a_func
 use Rattle.lt_tree.specs.Typing.Steps.{Walk, ◌>>◌, gives, settle}
 use Rattle.lt_tree.specs.Typing.Expressions.{Typed, as_value, own_type}
 use Rattle.lt_tree.specs.Typing.Operations.{text_type}
-use Rattle.lt_tree.specs.Typing.Specifying.{Specified}
+use Rattle.lt_tree.specs.Typing.Specifying.{Specified, alone, elsewhere}
 use Rattle.lt_tree.specs.Typing.Declarators.{Declares}
 use Rattle.lt_tree.specs.Typing.Filling.{Run, Filling, opened, is_struct_of, is_character_array, is_too_long_for, letters_of, value_faults, text_in, filling_of, nothing_to_fill, list_faults}
 use Rattle.lt_tree.specs.Typing.InitialiserTyping.{Judges, literal_alone, filled_by, fill_value, value_initialiser, fill_text, initialiser_without_braces, filling_for, faults_of_list, initialiser, initialisers, with_length, whole_value, whole_text, whole_without_braces, listed_length, object_initialiser, initialiser_of_none}
@@ -179,5 +179,5 @@ of_init_declarators s (d ∷ ds) known =
 
 pub of_declaration_by : (effective : Option Storage → Option Storage) (d : c.Declaration) (known : Known) → Whole known (in_declaration d) (declaration_by effective d known)
 of_declaration_by effective d known =
-    joined known (of_specifiers d.specifiers (has_no_declarator d.declarators) known)
+    joined known (of_specifiers d.specifiers (if has_no_declarator d.declarators then alone else elsewhere) known)
     (λ it k. after (of_init_declarators (record it { storage = effective it.storage }) d.declarators k) (λ locals k le. done k))

@@ -14,8 +14,8 @@ use Rattle.lt_tree.specs.Typing.Expressions.{Use, as_value, as_truth, as_place, 
 use Rattle.lt_tree.specs.Typing.Operations.{judge_name, judge_constant, judge_step, judge_size, judge_member, judge_arrow, judge_index, judge_call, judge_cast}
 use Rattle.lt_tree.specs.Typing.BinaryOperations.{judge_binary, judge_logical, judge_conditional, judge_assignment, judge_comma}
 use Rattle.lt_tree.specs.Typing.MarkRules.{is_good_mark, judge_decide, inside_mark, inside_after, judge_after, judge_marked}
-use Rattle.lt_tree.specs.Typing.Specifying.{OpenStruct, Specified, is_complete_struct, struct_tagged, open_tagged, open_struct, open_enum, with_members, close_struct, value_given, enumerator_faults}
-use Rattle.lt_tree.specs.Typing.Declarators.{Built, all_faults, type_name_faults, parameter_faults, binds_parameter, member_faults, with_member, has_width}
+use Rattle.lt_tree.specs.Typing.Specifying.{OpenStruct, Specified, is_register, is_complete_struct, struct_tagged, Setting, is_alone, elsewhere, beside_words, open_tagged, open_struct, open_enum, close_enum, with_members, close_struct, value_given, enumerator_faults}
+use Rattle.lt_tree.specs.Typing.Declarators.{Built, all_faults, setting_in_sizeof, type_name_faults, parameter_faults, binds_parameter, member_faults, with_member, has_width}
 use Rattle.lt_tree.specs.Typing.NodeEnds.{text_object, text_at, judge_unary, operand_of, also, is_no_declarator, alone_faults}
 use Rattle.lt_tree.specs.Typing.ExpressionTyping.{expression, expressions, maybe, marks, mark, bindings, specifiers, type_specifiers, type_specifier, members, member_declarators, enumerators, declarator, parts, parameters, parameter_list}
 use Rattle.lt_tree_laws.proofs.NodeSteps.{Covers, Whole, entered, unmarked_here, in_new_frame, done, done_at, after, joined, quiet, grouped, node, part, last, rest_of, judges, finished, unmarked, scoped}
@@ -25,12 +25,12 @@ use Rattle.lt_tree_laws.proofs.NodeSteps.{Covers, Whole, entered, unmarked_here,
 of_struct_tag : (tag : List ℕ) (found : Option Tagged) (known : Known) → Whole known [] (struct_tagged tag found known)
 of_struct_tag tag None known = done _
 of_struct_tag tag (Some (a_struct k)) known = done _
-of_struct_tag tag (Some an_enum) known = done _
+of_struct_tag tag (Some (an_enum is_complete)) known = done _
 
 of_open_tag : (tag : List ℕ) (found : Option Tagged) (known : Known) → Whole known [] (open_tagged tag found known)
 of_open_tag tag None known = done _
 of_open_tag tag (Some (a_struct k)) known = done _
-of_open_tag tag (Some an_enum) known = done _
+of_open_tag tag (Some (an_enum is_complete)) known = done _
 
 of_open_struct : (tag : Option (List ℕ)) (known : Known) → Whole known [] (open_struct tag known)
 of_open_struct None known = done _
@@ -48,9 +48,13 @@ of_open_enum : (tag : Option (List ℕ)) (known : Known) → Whole known [] (ope
 of_open_enum None known = done _
 of_open_enum (Some tag) known = done _
 
-of_binding_parameter : (is_definition : Bool) (at : ℕ) (name : Option (List ℕ)) (t : CType) (known : Known) → Whole known [] (binds_parameter is_definition at name t known)
-of_binding_parameter is_definition at None t known = done _
-of_binding_parameter is_definition at (Some name) t known = done _
+of_close_enum : {low : ℕ} (tag : Option (List ℕ)) (faults : List Rule) (known : Known) → Covers low known.next [] (close_enum tag faults known)
+of_close_enum None faults known = done _
+of_close_enum (Some tag) faults known = done _
+
+of_binding_parameter : (is_definition is_register : Bool) (at : ℕ) (name : Option (List ℕ)) (t : CType) (known : Known) → Whole known [] (binds_parameter is_definition is_register at name t known)
+of_binding_parameter is_definition is_register at None t known = done _
+of_binding_parameter is_definition is_register at (Some name) t known = done _
 
 -- ---- declarators
 
@@ -97,10 +101,10 @@ mutual
   of_expression (c.SizeofExpr operand) role known =
       node known (λ i. last (entered known) i (unmarked known.is_unmarked (of_expression operand as_place (unmarked_here (entered known)))) (λ x k i. finished role (judge_size (own_type x) k) k i))
   of_expression (c.SizeofType s d) role known =
-      node known (λ i. part (entered known) i (of_specifiers s false (entered known)) (λ it k i. last k i (of_declarator d it false (λ name known b. type_name_faults b) k)
+      node known (λ i. part (entered known) i (of_specifiers s (setting_in_sizeof d) (entered known)) (λ it k i. last k i (of_declarator d it false (λ name known b. type_name_faults b) k)
       (λ t k i. finished role (also t.faults (judge_size t.type k)) k i)))
   of_expression (c.Cast s d operand) role known =
-      node known (λ i. grouped (in_specifiers s) (in_declarator d) (in_expression operand) (part (entered known) i (of_specifiers s false (entered known)) (λ it k i. part k i
+      node known (λ i. grouped (in_specifiers s) (in_declarator d) (in_expression operand) (part (entered known) i (of_specifiers s elsewhere (entered known)) (λ it k i. part k i
       (of_declarator d it false (λ name known b. type_name_faults b) k) (λ t k i. last k i (of_expression operand as_value k) (λ x k i. finished role (also t.faults (judge_cast t.type x k)) k i)))))
   of_expression (c.Binary op left right) role known =
       node known (λ i. part (entered known) i (of_expression left as_value (entered known)) (λ x k i. last k i (of_expression right as_value k) (λ y k i. finished role (judge_binary op x y k) k i)))
@@ -115,7 +119,7 @@ mutual
   of_expression (c.Marked ms value) role known =
       node known (λ i. part (entered known) i (of_marks ms (entered known)) (λ typed k i. last k i (of_expression value (inside_mark role) k) (λ x k i. finished role (judge_marked typed x) k i)))
   of_expression (c.Decide operand when_true when_false tag) role known =
-      node known (λ i. last (entered known) i (of_expression operand as_truth (entered known))
+      node known (λ i. last (entered known) i (of_expression operand (inside_mark role) (entered known))
       (λ x k i. after (finished role (judge_decide role x when_true when_false tag k) k i) (λ result k le. done _)))
   of_expression (c.After operand id tag) role known =
       node known (λ i. last (entered known) i (of_expression operand (inside_after role) (entered known))
@@ -142,27 +146,27 @@ mutual
   of_bindings c.no_bindings known = done known
   of_bindings (c.a_binding name value rest) known = joined known (of_expression value as_value known) (λ x k. after (of_bindings rest k) (λ bs k le. done k))
 
-  pub of_specifiers : (it : c.Specifiers) (is_alone : Bool) (known : Known) → Whole known (in_specifiers it) (specifiers it is_alone known)
-  of_specifiers (c.specifiers words types) is_alone known = after (of_types types is_alone known) (λ namings k le. done k)
+  pub of_specifiers : (it : c.Specifiers) (setting : Setting) (known : Known) → Whole known (in_specifiers it) (specifiers it setting known)
+  of_specifiers (c.specifiers words types) setting known = after (of_types types (beside_words words setting) known) (λ namings k le. done k)
 
-  of_types : (them : c.TypeSpecifiers) (is_alone : Bool) (known : Known) → Whole known (in_types them) (type_specifiers them is_alone known)
-  of_types c.no_types is_alone known = done known
-  of_types (c.a_type first rest) is_alone known = joined known (of_type first is_alone known) (λ it k. after (of_types rest is_alone k) (λ others k le. done k))
+  of_types : (them : c.TypeSpecifiers) (setting : Setting) (known : Known) → Whole known (in_types them) (type_specifiers them setting known)
+  of_types c.no_types setting known = done known
+  of_types (c.a_type first rest) setting known = joined known (of_type first setting known) (λ it k. after (of_types rest setting k) (λ others k le. done k))
 
-  of_type : (it : c.TypeSpecifier) (is_alone : Bool) (known : Known) → Whole known (in_type it) (type_specifier it is_alone known)
-  of_type (c.Basic type) is_alone known = done known
-  of_type (c.Word word) is_alone known = done known
-  of_type (c.StructTag tag) is_alone known = of_struct_tag tag (if is_alone then tag_here tag known else tagged_in tag known.frames) known
-  of_type (c.Struct tag list) is_alone known =
+  of_type : (it : c.TypeSpecifier) (setting : Setting) (known : Known) → Whole known (in_type it) (type_specifier it setting known)
+  of_type (c.Basic type) setting known = done known
+  of_type (c.Word word) setting known = done known
+  of_type (c.StructTag tag) setting known = of_struct_tag tag (if is_alone setting then tag_here tag known else tagged_in tag known.frames) known
+  of_type (c.Struct tag list) setting known =
       quiet known (of_open_struct tag known) (λ opened k. after (of_members list [] k) (λ found k le. of_close opened found k))
-  of_type (c.EnumTag tag) is_alone known = done known
-  of_type (c.Enum tag list) is_alone known = quiet known (of_open_enum tag known) (λ faults k. after (of_enumerators list (pos 0) k) (λ u k le. done k))
-  of_type (c.Named name) is_alone known = done known
+  of_type (c.EnumTag tag) setting known = done known
+  of_type (c.Enum tag list) setting known = quiet known (of_open_enum tag known) (λ faults k. after (of_enumerators list (pos 0) k) (λ u k le. of_close_enum tag faults k))
+  of_type (c.Named name) setting known = done known
 
   of_members : (them : c.Members) (list : List Member) (known : Known) → Whole known (in_members them) (members them list known)
   of_members c.no_members list known = done known
   of_members (c.a_member (c.member s ds) rest) list known =
-      joined known (node known {x = n.a_member (c.member s ds)} (λ i. part (entered known) i (of_specifiers s false (entered known)) (λ it k i. last k i (of_member_declarators ds it list k)
+      joined known (node known {x = n.a_member (c.member s ds)} (λ i. part (entered known) i (of_specifiers s elsewhere (entered known)) (λ it k i. last k i (of_member_declarators ds it list k)
       (λ found k i. after (judges (broken_if incomplete_type (is_no_declarator ds) ++ alone_faults (is_no_declarator ds) it ++ found.faults) k i) (λ u k le. done k)))))
       (λ longer k. of_members rest longer k)
 
@@ -199,6 +203,6 @@ mutual
   of_parameter_list : (them : c.ParameterList) (is_definition : Bool) (known : Known) → Whole known (in_parameter_list them) (parameter_list them is_definition known)
   of_parameter_list c.no_parameters is_definition known = done known
   of_parameter_list (c.a_parameter s d rest) is_definition known =
-      grouped (in_specifiers s) (in_declarator d) (in_parameter_list rest) (joined known (of_specifiers s false known) (λ it k. joined k (of_declarator d it false (parameter_faults is_definition) k)
-      (λ declared k. quiet k (of_binding_parameter is_definition declared.node declared.name (adjusted declared.type) k)
+      grouped (in_specifiers s) (in_declarator d) (in_parameter_list rest) (joined known (of_specifiers s elsewhere known) (λ it k. joined k (of_declarator d it false (parameter_faults is_definition) k)
+      (λ declared k. quiet k (of_binding_parameter is_definition (is_register it) declared.node declared.name (adjusted declared.type) k)
       (λ objects k. after (of_parameter_list rest is_definition k) (λ others k le. done k)))))

@@ -10,6 +10,7 @@ use Rattle.lt_tree.specs.Typing.Rules.{Rule, broken_if, unless, bad_case, stray_
 use Rattle.lt_tree.specs.Typing.Entities.{Known, Frame, a_function, at_start, bind_name}
 use Rattle.lt_tree.specs.Typing.Steps.{Outcome}
 use Rattle.lt_tree.specs.Typing.Expressions.{as_value, as_truth, own_type}
+use Rattle.lt_tree.specs.Typing.Specifying.{elsewhere}
 use Rattle.lt_tree.specs.Typing.Declaring.{definition_faults, with_declared}
 use Rattle.lt_tree.specs.Typing.DeclarationTyping.{declaration, effective_in_for}
 use Rattle.lt_tree.specs.Typing.StatementTyping.{Around, in_a_loop, in_a_switch, test_faults, optional_test_faults, optional_expression, optional_test, for_start, switch_type, Seen, is_new_case, with_case, case_value, labels, return_faults, statement, items, cases}
@@ -110,7 +111,7 @@ with_body name t frame known = let there = bind_name name a_function (with_decla
 
 of_external : (it : c.External) (known : Known) → Whole known (in_external it) (external it known)
 of_external (c.Defines s d body) known =
-    node known (λ i. grouped (in_specifiers s) (in_declarator d) (in_items body) (part (entered known) i (of_specifiers s false (entered known))
+    node known (λ i. grouped (in_specifiers s) (in_declarator d) (in_items body) (part (entered known) i (of_specifiers s elsewhere (entered known))
     (λ it k i. part k i (of_declarator d it true (definition_faults it.storage) k)
     (λ declared k i. after (inner k i (from_here k (with_body (unwrap_or declared.name []) declared.type (frame_of declared.parameters) k) (function_leaves (unwrap_or declared.name []) declared.type k)
     (blocked (bind_name (unwrap_or declared.name []) a_function (with_declared (unwrap_or declared.name []) declared.type k)).frames (of_items body (around_body declared.type) (with_body (unwrap_or declared.name []) declared.type (frame_of declared.parameters) k))))) (λ inside k le. done _)))))

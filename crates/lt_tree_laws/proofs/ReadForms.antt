@@ -187,5 +187,5 @@ declarations = (
         ∷ s.sign t.Comma q ∷ s.sign t.Ellipsis v ∷ s.sign t.CloseParen w ∷ rest)
         (c.a_parameter char missing (one_parameter int (abstract (pointer array)))) (s.sign t.Comma q ∷ s.sign t.Ellipsis v ∷ s.sign t.CloseParen w ∷ rest) (l ∷ more) more
     parameters = g.more_parameters (char_alone refl) (g.missing refl refl) (g.last_parameter (int_alone refl)
-        (g.written (g.no_pointer refl (g.nested {suffixed = array} refl (g.pointer (g.no_qualifiers refl refl) (g.no_pointer refl (g.by_nothing refl refl (g.no_suffix refl))))
+        (g.written (g.no_pointer refl (g.nested {suffixed = array} (pointer c.no_parts) refl (g.pointer (g.no_qualifiers refl refl) (g.no_pointer refl (g.by_nothing refl refl (g.no_suffix refl)))) refl
         (g.unsized_array (g.no_suffix refl)))) refl))

@@ -94,8 +94,8 @@ inside_out = (
         (s.sign t.OpenParen 4 ∷ s.sign t.Star 5 ∷ s.name (102 ∷ []) 6 ∷ s.sign t.OpenParen 7 ∷ s.sign t.Int 8 ∷ s.sign t.CloseParen 11 ∷ s.sign t.CloseParen 12
         ∷ s.sign t.OpenParen 13 ∷ s.sign t.Void 14 ∷ s.sign t.CloseParen 18 ∷ s.sign t.Comma 19 ∷ behind)
         (declares (102 ∷ []) (c.Function (c.Listed (one_parameter int missing)) (pointer outer))) (s.sign t.Comma 19 ∷ behind) (4 ∷ 21 ∷ 24 ∷ []) (21 ∷ 24 ∷ [])
-    f = g.written (g.no_pointer refl (g.nested {suffixed = outer} refl
-        (g.pointer (g.no_qualifiers refl refl) (g.no_pointer refl (g.by_name refl (g.function (g.listed refl (g.last_parameter (int_alone refl) (g.missing refl refl))) (g.no_suffix refl)))))
+    f = g.written (g.no_pointer refl (g.nested {suffixed = outer} (c.Function (c.Listed (one_parameter int missing)) (pointer c.no_parts)) refl
+        (g.pointer (g.no_qualifiers refl refl) (g.no_pointer refl (g.by_name refl (g.function (g.listed refl (g.last_parameter (int_alone refl) (g.missing refl refl))) (g.no_suffix refl))))) refl
         (g.function g.void_alone (g.no_suffix refl)))) refl
 
     a_of_three : g.IsDeclarator (record { name = 102 ∷ []; is_type = false } ∷ []) a.named behind (declares (97 ∷ []) (array_of_three (pointer c.no_parts))) (s.sign t.Semicolon 26 ∷ []) (21 ∷ 24 ∷ []) []

@@ -137,7 +137,7 @@ mutual
       → g.IsDirect scope naming ts outer name parts rest spots more → Adds outer parts spots more
   of_direct (g.by_name t s) = of_suffixes s
   of_direct (g.by_nothing t b s) = of_suffixes s
-  of_direct (g.nested o p s) = adds_nested (of_pointers p) (of_suffixes s)
+  of_direct (g.nested inner o p i s) = adds_nested (of_pointers p) (of_suffixes s)
 
   pub of_suffixes : {scope : Scope} {ts : List Symbol} {outer parts : c.Parts} {rest : List Symbol} {spots more : List ℕ}
       → g.AreSuffixes scope ts outer parts rest spots more → Adds outer parts spots more

@@ -2,7 +2,7 @@ ghost use Rattle.std.specs.Prelude.{◌≡◌, IfOk};
 ghost use Rattle.lt_tree.specs.View.{part_before};
 ghost use Rattle.lt_tree.specs.Records.{parts_in, declarator_of};
 ghost use Rattle.lt_tree.specs.Tree as t;
-ghost use Rattle.lt_tree.specs.Scope.{hiding, enumerators_in_parts, after_declarator};
+ghost use Rattle.lt_tree.specs.Scope.{hiding, enumerators_in_parts, after_name, after_declarator};
 
 use crate::typedefs::Typedefs;
 use lt_tree::{Declarator, DeclaratorPart};
@@ -18,6 +18,17 @@ impl Typedefs {
         ensures { IfOk result (λ _. self.new ≡ after_declarator is_type (declarator_of declarator.now) self.old) }
     {
         self.hide_parts(declarator.parts.as_slice())?;
+        self.declare_name(declarator, is_type)
+    }
+
+    /// Declares the name of a declarator, if it has one.
+    pub(crate) fn declare_name(
+        &mut self,
+        declarator: &Declarator,
+        is_type: bool,
+    ) -> Result<(), AllocError>
+        ensures { IfOk result (λ _. self.new ≡ after_name is_type (declarator_of declarator.now) self.old) }
+    {
         match &declarator.name {
             None => Ok(()),
             Some(name) => self.declare(name, is_type),

@@ -7,8 +7,9 @@ use Rattle.lt_model.specs.declared.operator.Op.TheVariants as O
 use Rattle.lt_model.specs.Conversions.{promoted, usual_of}
 use Rattle.lt_tree.specs.declared.expression.LogicalOp.{LogicalOp}
 use Rattle.lt_tree.specs.declared.expression.LogicalOp.TheVariants as logical
-use Rattle.lt_tree.specs.Typing.Types.{CType, Void, Num, Pointer, unqualified, qualified, qualifiers_of, both, value_type, is_integer, is_pointer, is_scalar}
-use Rattle.lt_tree.specs.Typing.Extents.{Structs, difference_type}
+use Rattle.lt_tree.specs.Typing.Types.{CType, Void, Num, Pointer, unqualified, qualified, own_qualifiers, both, value_type, is_integer, is_pointer, is_scalar}
+use Rattle.lt_tree.specs.Typing.Extents.{Structs}
+use Rattle.lt_model.specs.Scalar.{difference_type}
 use Rattle.lt_tree.specs.Typing.Constants.{Constancy, number, is_null_constant, operated, moved_by, connected, chosen, is_false, is_true}
 use Rattle.lt_tree.specs.Typing.Rules.{Rule, unless, operand_not_integer, bad_sum, bad_comparison, not_scalar, bad_choice, bad_assignment}
 use Rattle.lt_tree.specs.Typing.TypedTree as e
@@ -109,7 +110,7 @@ judge_logical op x y =
 
 -- a pointer to what either points to, with the qualifiers of both
 abbrev pub common_pointer : CType → CType → CType → CType
-common_pointer target t u = Pointer (qualified (both (qualifiers_of t) (qualifiers_of u)) target)
+common_pointer target t u = Pointer (qualified (both (own_qualifiers t) (own_qualifiers u)) target)
 
 abbrev pub chosen_pointer : Typed → Typed → CType
 chosen_pointer x y =

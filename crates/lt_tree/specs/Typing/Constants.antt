@@ -11,7 +11,7 @@ use Rattle.lt_model.specs.declared.operator.Ub.{Ub}
 use Rattle.lt_model.specs.Scalar.{is_signed, convert_of}
 use Rattle.lt_model.specs.Conversions.{rank_of}
 use Rattle.lt_model.specs.Operators.{is_value, value_of, truth}
-use Rattle.lt_tree.specs.Constants.{integer_parts, is_suffix, character_value}
+use Rattle.lt_tree.specs.Constants.{integer_parts, is_suffix, character_byte}
 
 -- ---- the type of a constant: the first of its list that has the value
 
@@ -28,10 +28,10 @@ is_decimal (b ∷ bytes) = not (b == byte "0")
 
 -- Whether a type is in the list of a constant with this suffix: its rank is that of `int`, or of as many `long` as the suffix has, or more; with
 -- a `u` it is unsigned; without one it is signed, or also unsigned where the constant isn't decimal.
-abbrev pub is_listed : Bool → List ℕ → Scalar → Bool
-is_listed decimal suffix s =
+abbrev pub is_listed : DataModel → Bool → List ℕ → Scalar → Bool
+is_listed m decimal suffix s =
     let unsigned = list_any is_unsigned_mark suffix in
-    nat_le (3 + count_by is_long_mark suffix) (rank_of s) && (if is_signed s then not unsigned else unsigned || not decimal)
+    nat_le (3 + count_by is_long_mark suffix) (rank_of s) && (if is_signed m s then not unsigned else unsigned || not decimal)
 
 abbrev pub integer_types : List Scalar
 integer_types = S.Int ∷ S.UInt ∷ S.Long ∷ S.ULong ∷ S.LLong ∷ S.ULLong ∷ []
@@ -39,7 +39,7 @@ integer_types = S.Int ∷ S.UInt ∷ S.Long ∷ S.ULong ∷ S.LLong ∷ S.ULLong
 abbrev pub first_that_has : DataModel → Bool → List ℕ → ℤ → List Scalar → Option Scalar
 first_that_has m decimal suffix z [] = None
 first_that_has m decimal suffix z (s ∷ types) =
-    if is_listed decimal suffix s && is_value m s z then Some s else first_that_has m decimal suffix z types
+    if is_listed m decimal suffix s && is_value m s z then Some s else first_that_has m decimal suffix z types
 
 -- a type and a value of it
 pub record TypedConstant : Type 0 where
@@ -53,11 +53,15 @@ abbrev pub integer_of : DataModel → Bool → ℕ × List ℕ → Option TypedC
 integer_of m decimal (value, suffix) =
     if is_suffix suffix then option_map (of_type (pos value)) (first_that_has m decimal suffix (pos value) integer_types) else None
 
+-- the value of a character, as a plain `char` has it
+abbrev pub char_value : DataModel → ℕ → ℤ
+char_value m b = convert_of m S.Char (pos b)
+
 -- an integer or character constant, as written; none where it fits no type of its list
 abbrev pub constant_of : DataModel → List ℕ → Option TypedConstant
 constant_of m [] = None
 constant_of m (b ∷ bytes) =
-    if b == byte "'" then option_map (λ z. of_type z S.Int) (character_value bytes) else integer_of m (is_decimal (b ∷ bytes)) (integer_parts (b ∷ bytes))
+    if b == byte "'" then option_map (λ c. of_type (char_value m c) S.Int) (character_byte bytes) else integer_of m (is_decimal (b ∷ bytes)) (integer_parts (b ∷ bytes))
 
 -- ---- constant expressions
 

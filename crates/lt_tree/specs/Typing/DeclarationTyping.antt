@@ -8,7 +8,7 @@ use Rattle.lt_tree.specs.Typing.Rules.{Rule}
 use Rattle.lt_tree.specs.Typing.TypedTree.{Local, Start}
 use Rattle.lt_tree.specs.Typing.Entities.{a_typedef, Life, is_static, type_of_object}
 use Rattle.lt_tree.specs.Typing.Steps.{Walk, ◌>>=◌, ◌>>◌, gives, here, changes, binds}
-use Rattle.lt_tree.specs.Typing.Specifying.{Specified}
+use Rattle.lt_tree.specs.Typing.Specifying.{Specified, alone, elsewhere}
 use Rattle.lt_tree.specs.Typing.Declarators.{Declares}
 use Rattle.lt_tree.specs.Typing.ExpressionTyping.{specifiers, declarator}
 use Rattle.lt_tree.specs.Typing.InitialiserTyping.{object_initialiser, initialiser_of_none}
@@ -70,17 +70,18 @@ left_over ds it = if has_no_declarator ds then it.faults else []
 -- a declaration, where so much of its storage class has an effect
 abbrev pub declaration_by : (Option Storage → Option Storage) → c.Declaration → Walk DeclaredLocals
 declaration_by effective d = do
-  it ← specifiers d.specifiers (has_no_declarator d.declarators)
+  it ← specifiers d.specifiers (if has_no_declarator d.declarators then alone else elsewhere)
   locals ← init_declarators (record it { storage = effective it.storage }) d.declarators
   gives (record { locals = locals; faults = left_over d.declarators it })
 
 abbrev pub declaration : c.Declaration → Walk DeclaredLocals
 declaration d = declaration_by (λ class. class) d
 
--- In the head of a `for` only `static` and `typedef` have an effect.
+-- In the head of a `for` only `static`, `typedef` and `register` have an effect.
 abbrev pub effective_in_for : Option Storage → Option Storage
 effective_in_for (Some storage.Static) = Some storage.Static
 effective_in_for (Some storage.Typedef) = Some storage.Typedef
+effective_in_for (Some storage.Register) = Some storage.Register
 effective_in_for _ = None
 
 abbrev pub declaration_in_for : c.Declaration → Walk DeclaredLocals

@@ -1,5 +1,5 @@
 -- What the parts of declarators make, with parameters and members, and which rules they break: C11 6.7.2.1, 6.7.6 and 6.7.7.
-use Rattle.std.specs.Prelude.{ℕ, ℤ, pos, negsuc, nat_le, Bool, true, false, not, ◌&&◌, ◌||◌, ◌==◌, if◌then◌else◌, List, [], ◌∷◌, ◌++◌, Option, Some, None, is_some, unwrap_or}
+use Rattle.std.specs.Prelude.{ℕ, suc, ℤ, pos, negsuc, nat_le, Bool, true, false, not, ◌&&◌, ◌||◌, ◌==◌, if◌then◌else◌, List, [], ◌∷◌, ◌++◌, Option, Some, None, is_some, unwrap_or}
 use Rattle.std.specs.List.{list_any}
 use Rattle.std.specs.Str.{bytes_eq}
 use Rattle.lt_tree.specs.Tree as c
@@ -11,18 +11,18 @@ use Rattle.lt_tree.specs.Typing.Entities.{Known, an_object, Frame, parameter, un
 use Rattle.lt_tree.specs.Typing.Steps.{Walk, ◌>>=◌, ◌>>◌, gives, binds, add_object}
 use Rattle.lt_tree.specs.Typing.Operands.{holds}
 use Rattle.lt_tree.specs.Typing.Expressions.{Typed, own_type, has_floating, has_pointer_to_function}
-use Rattle.lt_tree.specs.Typing.Specifying.{Specified, is_complete_struct}
+use Rattle.lt_tree.specs.Typing.Specifying.{Specified, Setting, in_sizeof, elsewhere, is_complete_struct}
 
 -- ---- array parts, C11 6.7.6.2
 
--- a number of elements: from 1 to 1,048,576
-abbrev pub length_from : ℤ → Option ℕ
-length_from (pos n) = if nat_le 1 n && nat_le n most_cells then Some n else None
-length_from (negsuc n) = None
+-- A number of elements: from 1 to 1,048,576. Any other constant counts as one more than that, which no array has.
+abbrev pub length_from : ℤ → ℕ
+length_from (pos n) = if nat_le 1 n && nat_le n most_cells then n else suc most_cells
+length_from (negsuc n) = suc most_cells
 
--- the length that is written, if it is one
+-- the length that is written, if it is a constant
 abbrev pub length_in : Typed → Option ℕ
-length_in x = elim (x.constancy) [ number z ↦ (if is_integer (own_type x) then length_from z else None) | _ ↦ None ]
+length_in x = elim (x.constancy) [ number z ↦ (if is_integer (own_type x) then Some (length_from z) else None) | _ ↦ None ]
 
 -- An array's length may be left out where it stands at the name itself: then its initialiser gives it, or a parameter needs none.
 abbrev pub length_or_none : Bool → Option Typed → Option ℕ
@@ -58,15 +58,19 @@ pub record Built : Type 0 where
 abbrev pub built : CType → List Rule → Built
 built t faults = record { type = t; faults = faults; parameters = None }
 
+abbrev pub is_length : Option ℕ → Bool
+is_length n = holds (λ k. nat_le k most_cells) n
+
 abbrev pub array_faults : Structs → Option ℕ → CType → List Rule
 array_faults structs n t =
-    unless (is_some n) bad_length
+    unless (is_length n) bad_length
     ++ broken_if incomplete_type (is_incomplete structs t)
     ++ broken_if function_as_value (is_function t)
-    ++ broken_if bad_length (has_too_many_cells structs (Array t (unwrap_or n 1)))
+    ++ broken_if bad_length (has_too_many_cells structs (Array t (unwrap_or n 0)))
 
+-- A length that isn't known, since it is left out or no constant, is that of any array of such elements, C11 6.7.6.2p6.
 abbrev pub array_of : Known → Option ℕ → Built → Built
-array_of known n inner = built (Array inner.type (unwrap_or n 1)) (array_faults known.structs n inner.type ++ inner.faults)
+array_of known n inner = built (Array inner.type (unwrap_or n 0)) (array_faults known.structs n inner.type ++ inner.faults)
 
 -- ---- function parts, C11 6.7.6.3
 
@@ -92,14 +96,18 @@ pub record Declares : Type 0 where
 abbrev pub declares : ℕ → Option (List ℕ) → Built → List Rule → Declares
 declares node name it faults = record { node = node; name = name; type = it.type; parameters = it.parameters; faults = faults }
 
--- Where specifiers name no type, what their declarators would declare isn't judged.
+-- what its specifiers break, its parts, and what it declares; where specifiers name no type, this is judged as if it were `int`
 abbrev pub all_faults : Specified → Built → List Rule → List Rule
-all_faults specified it judged = elim (specified.faults) [ [] ↦ it.faults ++ judged | _ ↦ specified.faults ++ it.faults ]
+all_faults specified it judged = specified.faults ++ it.faults ++ judged
 
 -- a declarator is a node where it has a name or parts
 abbrev pub is_written : Option (List ℕ) → c.Parts → Bool
 is_written None c.no_parts = false
 is_written name parts = true
+
+-- Where the type specifiers of a type name in `sizeof` stand: without a declarator they are its whole operand.
+abbrev pub setting_in_sizeof : c.Declarator → Setting
+setting_in_sizeof (c.declarator name ps) = if is_written name ps then elsewhere else in_sizeof
 
 -- an array whose length only an initialiser could give
 abbrev pub lacks_length : CType → Bool
@@ -128,11 +136,11 @@ abbrev pub no_parameters_yet : Frame → Parameters
 no_parameters_yet frame = record { types = no_types; dots = false; objects = []; are_named = true; frame = frame; faults = [] }
 
 -- a parameter has an object, and a name if it is written
-abbrev pub binds_parameter : Bool → ℕ → Option (List ℕ) → CType → Walk (List ℕ)
-binds_parameter is_definition node None t = gives []
-binds_parameter is_definition node (Some name) t = do
+abbrev pub binds_parameter : (is_definition is_register : Bool) → ℕ → Option (List ℕ) → CType → Walk (List ℕ)
+binds_parameter is_definition is_register node None t = gives []
+binds_parameter is_definition is_register node (Some name) t = do
   n ← add_object (record { node = node; name = name; type = t; life = if is_definition then parameter else unmade; start = None })
-  binds name (an_object n false)
+  binds name (an_object n is_register)
   gives (n ∷ [])
 
 -- one more parameter before others

@@ -1,9 +1,7 @@
 -- What declarations declare, and which rules they break: C11 6.2.2, 6.7, 6.7.9 and 6.9.
 use Rattle.std.specs.Prelude.{ℕ, ◌==◌, Bool, true, false, not, ◌&&◌, ◌||◌, if◌then◌else◌, List, [], ◌∷◌, ◌++◌, slice_get, slice_set, Option, Some, None, is_some}
-use denote.Enum.Bare.{sameb}
 use Rattle.std.specs.List.{list_any}
 use Rattle.std.specs.Str.{bytes_eq}
-use Rattle.lt_tree.specs.contracts.specifier.Storage.{the_type}
 use Rattle.lt_tree.specs.declared.specifier.Storage.{Storage}
 use Rattle.lt_tree.specs.declared.specifier.Storage.TheVariants as storage
 use Rattle.lt_tree.specs.Typing.Types.{CType, CTypes, no_types, a_type, Array, Function, same, is_void, is_integer, is_pointer, is_function}
@@ -14,6 +12,7 @@ use Rattle.lt_tree.specs.Typing.Entities.{Known, Entity, an_object, a_function, 
 use Rattle.lt_tree.specs.Typing.Steps.{Walk, ◌>>=◌, ◌>>◌, gives, here, changes, binds, add_object}
 use Rattle.lt_tree.specs.Typing.Operands.{holds}
 use Rattle.lt_tree.specs.Typing.Expressions.{has_floating, has_pointer_to_function}
+use Rattle.lt_tree.specs.Typing.Specifying.{is_class}
 use Rattle.lt_tree.specs.Typing.Declarators.{Parameters, Built, is_incomplete, lacks_length}
 
 -- ---- what a declarator declares
@@ -22,9 +21,6 @@ pub data Kind : Type 0 where
   a_type_name : Kind
   a_function_name : Kind
   an_object_of : (life : Life) (is_register : Bool) → Kind
-
-abbrev pub is_class : Storage → Option Storage → Bool
-is_class class given = holds (sameb the_type class) given
 
 -- Objects of file scope, and those that are declared `extern` in a block, are linked; there no other class has an effect.
 abbrev pub life_of : Known → Option Storage → Life
@@ -52,6 +48,17 @@ abbrev pub is_same_function : Known → List ℕ → CType → Entity → Bool
 is_same_function known name t a_function = agrees_with_function known name t
 is_same_function known name t _ = false
 
+-- A name with linkage is a function's or an object's, in whatever scopes it is declared, C11 6.2.2p2.
+abbrev pub is_function_elsewhere : Known → List ℕ → Bool
+is_function_elsewhere known name = is_some (declared_among name known.declared)
+
+abbrev pub is_object_elsewhere : Known → List ℕ → Bool
+is_object_elsewhere known name = is_some (linked_object name known)
+
+abbrev pub is_function_declared_twice : Known → List ℕ → CType → Bool
+is_function_declared_twice known name t =
+    holds (λ entity. not (is_same_function known name t entity)) (declared_here name known) || is_object_elsewhere known name
+
 -- An array whose length its initialiser is to give is compatible with any of its elements, and then has the other's length.
 abbrev pub is_compatible : CType → CType → Bool
 is_compatible (Array t n) (Array u k) = same t u && ((n == 0) || (n == k))
@@ -74,12 +81,13 @@ is_object_declared_twice known life name t has_initialiser =
     if is_linked life then
     not (agrees_with_object known name t)
     || holds (λ entity. not (is_linked_object known entity)) (declared_here name known)
+    || is_function_elsewhere known name
     || (has_initialiser && is_initialised known name)
     else is_some (declared_here name known)
 
 abbrev pub is_declared_twice : Known → Kind → List ℕ → CType → Bool → Bool
 is_declared_twice known a_type_name name t has_initialiser = holds (λ entity. not (is_same_typedef t entity)) (declared_here name known)
-is_declared_twice known a_function_name name t has_initialiser = holds (λ entity. not (is_same_function known name t entity)) (declared_here name known)
+is_declared_twice known a_function_name name t has_initialiser = is_function_declared_twice known name t
 is_declared_twice known (an_object_of life is_register) name t has_initialiser = is_object_declared_twice known life name t has_initialiser
 
 -- a function that is declared in another scope with another type

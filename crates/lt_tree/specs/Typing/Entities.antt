@@ -94,7 +94,8 @@ pub record Bound : Type 0 where
 -- what a tag stands for
 pub data Tagged : Type 0 where
   a_struct : (number : ℕ) → Tagged
-  an_enum : Tagged
+  -- complete behind its list
+  an_enum : (is_complete : Bool) → Tagged
 
 pub record Tag : Type 0 where
   pub name : List ℕ

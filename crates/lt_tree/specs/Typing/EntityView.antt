@@ -101,7 +101,7 @@ bound_of types b = record { name = b.name; entity = entity_of types b.entity }
 
 abbrev pub tagged_of : Tagged → k.Tagged
 tagged_of (tagged.Struct number) = k.a_struct number
-tagged_of tagged.Enum = k.an_enum
+tagged_of (tagged.Enum is_complete) = k.an_enum is_complete
 
 abbrev pub tag_of : Tag → k.Tag
 tag_of t = record { name = t.name; tagged = tagged_of t.tagged }

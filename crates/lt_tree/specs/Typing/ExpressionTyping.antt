@@ -15,8 +15,8 @@ use Rattle.lt_tree.specs.Typing.Expressions.{Typed, Use, as_value, as_truth, as_
 use Rattle.lt_tree.specs.Typing.Operations.{judge_name, judge_constant, judge_step, judge_size, judge_member, judge_arrow, judge_index, judge_call, judge_cast}
 use Rattle.lt_tree.specs.Typing.BinaryOperations.{judge_binary, judge_logical, judge_conditional, judge_assignment, judge_comma}
 use Rattle.lt_tree.specs.Typing.MarkRules.{TypedBinding, label_of, judge_decide, inside_mark, inside_after, judge_after, judge_marked}
-use Rattle.lt_tree.specs.Typing.Specifying.{Naming, names, no_naming, basic_type, enum_type, typedef_named, Specified, specified, struct_by_tag, enum_tagged, open_struct, close_struct, open_enum, value_given}
-use Rattle.lt_tree.specs.Typing.Declarators.{Parameters, Built, built, length_or_none, array_of, function_of, pointer_to, Declares, all_faults, is_written, type_name_faults, parameter_faults, binds_parameter, parameter_before, member_faults, with_member, Membered, has_width}
+use Rattle.lt_tree.specs.Typing.Specifying.{Naming, names, no_naming, basic_type, typedef_named, Specified, specified, is_register, Setting, elsewhere, beside_words, struct_by_tag, enum_tagged, open_struct, close_struct, open_enum, close_enum, value_given}
+use Rattle.lt_tree.specs.Typing.Declarators.{Parameters, Built, built, length_or_none, array_of, function_of, pointer_to, Declares, all_faults, is_written, setting_in_sizeof, type_name_faults, parameter_faults, binds_parameter, parameter_before, member_faults, with_member, Membered, has_width}
 use Rattle.lt_tree.specs.Typing.NodeEnds.{text_object, text_at, judge_unary, operand_of, also, decision_labels, end_of_mark, end_of_enumerator, end_of_declarator, enter_if, is_no_declarator, alone_faults, without_parameters, with_dots}
 
 abbrev mutual
@@ -88,13 +88,13 @@ abbrev mutual
     finish node role (judge_size (own_type x) known)
   expression (c.SizeofType s d) role = do
     node ← enter
-    it ← specifiers s false
+    it ← specifiers s (setting_in_sizeof d)
     t ← declarator d it false (λ name known b. type_name_faults b)
     known ← here
     finish node role (also t.faults (judge_size t.type known))
   expression (c.Cast s d operand) role = do
     node ← enter
-    it ← specifiers s false
+    it ← specifiers s elsewhere
     t ← declarator d it false (λ name known b. type_name_faults b)
     x ← expression operand as_value
     known ← here
@@ -134,7 +134,7 @@ abbrev mutual
     finish node role (judge_marked typed_marks x)
   expression (c.Decide operand when_true when_false tag) role = do
     node ← enter
-    x ← expression operand as_truth
+    x ← expression operand (inside_mark role)
     known ← here
     result ← finish node role (judge_decide role x when_true when_false tag known)
     decision_labels when_true when_false tag
@@ -181,31 +181,31 @@ abbrev mutual
     bs ← bindings rest
     gives (record { name = name; written = value; typed = x } ∷ bs)
 
-  -- C11 6.7.2; whether nothing is declared but a tag
-  pub specifiers : c.Specifiers → (is_alone : Bool) → Walk Specified
-  specifiers (c.specifiers words types) is_alone = type_specifiers types is_alone >>= (λ namings. gives (specified words namings))
+  -- C11 6.7.2
+  pub specifiers : c.Specifiers → Setting → Walk Specified
+  specifiers (c.specifiers words types) setting = type_specifiers types (beside_words words setting) >>= (λ namings. gives (specified words namings))
 
-  pub type_specifiers : c.TypeSpecifiers → (is_alone : Bool) → Walk (List Naming)
-  type_specifiers c.no_types is_alone = gives []
-  type_specifiers (c.a_type first rest) is_alone = do
-    it ← type_specifier first is_alone
-    others ← type_specifiers rest is_alone
+  pub type_specifiers : c.TypeSpecifiers → Setting → Walk (List Naming)
+  type_specifiers c.no_types setting = gives []
+  type_specifiers (c.a_type first rest) setting = do
+    it ← type_specifier first setting
+    others ← type_specifiers rest setting
     gives (it ∷ others)
 
-  pub type_specifier : c.TypeSpecifier → (is_alone : Bool) → Walk Naming
-  type_specifier (c.Basic type) is_alone = gives (names (basic_type type))
-  type_specifier (c.Word word) is_alone = gives no_naming
-  type_specifier (c.StructTag tag) is_alone = struct_by_tag is_alone tag
-  type_specifier (c.Struct tag ms) is_alone = do
+  pub type_specifier : c.TypeSpecifier → Setting → Walk Naming
+  type_specifier (c.Basic type) setting = gives (names (basic_type type))
+  type_specifier (c.Word word) setting = gives no_naming
+  type_specifier (c.StructTag tag) setting = struct_by_tag setting tag
+  type_specifier (c.Struct tag ms) setting = do
     opened ← open_struct tag
     list ← members ms []
     close_struct opened list
-  type_specifier (c.EnumTag tag) is_alone = here >>= (λ known. gives (enum_tagged (tagged_in tag known.frames)))
-  type_specifier (c.Enum tag es) is_alone = do
+  type_specifier (c.EnumTag tag) setting = here >>= (λ known. gives (enum_tagged setting (tagged_in tag known.frames)))
+  type_specifier (c.Enum tag es) setting = do
     faults ← open_enum tag
     enumerators es (pos 0)
-    gives (record { type = Some enum_type; faults = faults })
-  type_specifier (c.Named name) is_alone = here >>= (λ known. gives (typedef_named (meaning_of name known)))
+    close_enum tag faults
+  type_specifier (c.Named name) setting = here >>= (λ known. gives (typedef_named (meaning_of name known)))
 
   -- C11 6.7.2.1; with the members before
   pub members : c.Members → List Member → Walk (List Member)
@@ -215,7 +215,7 @@ abbrev mutual
   pub struct_member : c.StructMember → List Member → Walk (List Member)
   struct_member (c.member s ds) list = do
     node ← enter
-    it ← specifiers s false
+    it ← specifiers s elsewhere
     found ← member_declarators ds it list
     settle node (broken_if incomplete_type (is_no_declarator ds) ++ alone_faults (is_no_declarator ds) it ++ found.faults)
     gives found.members
@@ -269,8 +269,8 @@ abbrev mutual
   pub parameter_list : c.ParameterList → (is_definition : Bool) → Walk Parameters
   parameter_list c.no_parameters is_definition = without_parameters
   parameter_list (c.a_parameter s d rest) is_definition = do
-    it ← specifiers s false
+    it ← specifiers s elsewhere
     declared ← declarator d it false (parameter_faults is_definition)
-    objects ← binds_parameter is_definition declared.node declared.name (adjusted declared.type)
+    objects ← binds_parameter is_definition (is_register it) declared.node declared.name (adjusted declared.type)
     others ← parameter_list rest is_definition
     gives (parameter_before declared objects others)

@@ -1,10 +1,10 @@
 -- A typed expression, and what is judged at the end of each expression, whatever its operator: C11 6.3.2.1.
-use Rattle.std.specs.Prelude.{ℕ, ℤ, pos, Bool, true, false, not, ◌&&◌, ◌||◌, if◌then◌else◌, List, ◌++◌, Option, Some, None, unwrap_or}
+use Rattle.std.specs.Prelude.{ℕ, ℤ, pos, Bool, true, false, ◌&&◌, ◌||◌, if◌then◌else◌, List, ◌++◌, Option, Some, None, unwrap_or}
 use Rattle.lt_model.specs.declared.scalar.DataModel.{DataModel}
 use Rattle.lt_model.specs.declared.scalar.Scalar.{Scalar}
 use Rattle.lt_model.specs.declared.scalar.Scalar.TheVariants as S
 use Rattle.lt_model.specs.Scalar.{convert_of}
-use Rattle.lt_tree.specs.Typing.Types.{CType, Void, Num, Pointer, Array, scalar_of, unqualified, qualifiers_of, same, is_void, is_integer, is_struct, is_array, is_floating, is_pointer_to_function, element}
+use Rattle.lt_tree.specs.Typing.Types.{CType, Void, Num, Pointer, Array, scalar_of, unqualified, own_qualifiers, same, is_void, is_integer, is_struct, is_array, is_floating, is_pointer_to_function, element}
 use Rattle.lt_tree.specs.Typing.Extents.{Structs, has_too_many_cells}
 use Rattle.lt_tree.specs.Typing.Constants.{Constancy, varying, faulty, number, null_constant, null_address, address, is_zero}
 use Rattle.lt_tree.specs.Typing.Rules.{Rule, broken_if, floating_type, bad_length, function_as_value, volatile_access}
@@ -109,7 +109,7 @@ has_pointer_to_function t = is_pointer_to_function (element t)
 
 -- a scalar or a struct is read through an lvalue that is volatile
 abbrev pub reads_volatile : Use → Typed → Bool
-reads_volatile role typed = is_read role && is_lvalue typed && not (is_array (own_type typed)) && (qualifiers_of (own_type typed)).volatile
+reads_volatile role typed = is_read role && is_lvalue typed && (own_qualifiers (own_type typed)).volatile
 
 abbrev pub faults_of_any : Structs → Use → Typed → List Rule
 faults_of_any structs role typed =
@@ -178,9 +178,17 @@ constancy_as_pointer t (address object offset) = address object offset
 constancy_as_pointer t varying = varying
 constancy_as_pointer t faulty = varying
 
+-- the truth of an address, C11 6.3.1.2: that of an object isn't null
+abbrev pub truth_of_address : Constancy → Constancy
+truth_of_address null_constant = number (pos 0)
+truth_of_address null_address = number (pos 0)
+truth_of_address (address object offset) = number (pos 1)
+truth_of_address _ = varying
+
 abbrev pub constancy_as_number : DataModel → Scalar → Constancy → Constancy
 constancy_as_number m s (number z) = number (convert_of m s z)
 constancy_as_number m s faulty = faulty
+constancy_as_number m S.Bool c = truth_of_address c
 constancy_as_number m s _ = varying
 
 -- what a constant is once it is converted

@@ -3,11 +3,8 @@ use Rattle.std.specs.Prelude.{ℕ, zero, suc, ◌*◌, nat_lt, Bool, true, false
 use Rattle.std.specs.Str.{bytes_eq}
 use Rattle.std.specs.List.{list_any}
 use Rattle.lt_model.specs.declared.scalar.DataModel.{DataModel}
-use Rattle.lt_model.specs.declared.scalar.DataModel.TheVariants.{Ilp32, Lp64}
-use Rattle.lt_model.specs.declared.scalar.Scalar.{Scalar}
-use Rattle.lt_model.specs.declared.scalar.Scalar.TheVariants as S
 use Rattle.lt_model.specs.declared.sizes.Extent.{Extent}
-use Rattle.lt_model.specs.Layout.{then_some, within, rounded, scalar_extent, resized, member_offset, with_member, no_members}
+use Rattle.lt_model.specs.Layout.{then_some, within, rounded, scalar_extent, pointer_extent, resized, member_offset, with_member, no_members}
 use Rattle.lt_tree.specs.Typing.Types.{CType, Void, Num, Pointer, Array, Struct, Function, Floating, Qualified, element, is_floating}
 
 -- a member of a struct
@@ -82,7 +79,7 @@ elements t = 1
 -- the extent of a type that is no array, where the extents of structs are known
 abbrev pub single_extent : DataModel → (ℕ → Option Extent) → CType → Option Extent
 single_extent m known (Num s) = Some (scalar_extent m s)
-single_extent m known (Pointer t) = Some (scalar_extent m S.Long)
+single_extent m known (Pointer t) = Some (pointer_extent m)
 single_extent m known (Struct k) = known k
 single_extent m known (Qualified q t) = single_extent m known t
 single_extent m known t = None
@@ -135,18 +132,6 @@ named_among name (placed ∷ rest) = if bytes_eq placed.name name then Some plac
 -- the member of a struct that has this name
 abbrev pub member_of : DataModel → Structs → ℕ → List ℕ → Option Placed
 member_of m structs k name = named_among name (placed_members m structs k)
-
--- ---- types of the profile's choice
-
--- the type of `sizeof`, C11 6.5.3.4
-abbrev pub size_type : DataModel → Scalar
-size_type Ilp32 = S.UInt
-size_type Lp64 = S.ULong
-
--- the type of a difference of pointers, C11 6.5.6
-abbrev pub difference_type : DataModel → Scalar
-difference_type Ilp32 = S.Int
-difference_type Lp64 = S.Long
 
 -- ---- what may be changed, C11 6.3.2.1p1
 

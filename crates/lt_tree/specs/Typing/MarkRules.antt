@@ -101,7 +101,7 @@ judge_decide role x when_true when_false tag known =
 
 -- ---- `pc_after`
 
--- how the operand of a mark is used: marks around an expression don't count for the places of `pc_decide`
+-- how the operand of a mark is used, another `pc_decide` included: marks around an expression don't count for the places of `pc_decide`
 abbrev pub inside_mark : Use → Use
 inside_mark as_value = as_value
 inside_mark as_truth = as_truth

@@ -4,7 +4,7 @@ use Rattle.std.specs.Prelude.{Bool, true, false, not, ◌&&◌, ◌||◌, Option
 use Rattle.lt_model.specs.declared.scalar.Scalar.TheVariants as S
 use Rattle.lt_model.specs.declared.operator.Op.{Op}
 use Rattle.lt_model.specs.declared.operator.Op.TheVariants as O
-use Rattle.lt_tree.specs.Typing.Types.{CType, scalar_of, target_of, qualifiers_of, include, alike, same_scalar, is_void, is_integer, is_pointer, is_struct, is_array, is_function}
+use Rattle.lt_tree.specs.Typing.Types.{CType, scalar_of, target_of, own_qualifiers, include, alike, same_scalar, is_void, is_integer, is_pointer, is_struct, is_array, is_function}
 use Rattle.lt_tree.specs.Typing.Extents.{Structs, is_complete, has_size, has_constant_part}
 use Rattle.lt_tree.specs.Typing.Constants.{Constancy, is_null_constant, is_zero}
 
@@ -101,7 +101,7 @@ can_be_chosen_from t c u d =
 
 -- what the first points to has all the qualifiers of what the second points to
 abbrev pub keeps_qualifiers : CType → CType → Bool
-keeps_qualifiers t u = points_to (λ a. points_to (λ b. include (qualifiers_of a) (qualifiers_of b)) u) t
+keeps_qualifiers t u = points_to (λ a. points_to (λ b. include (own_qualifiers a) (own_qualifiers b)) u) t
 
 abbrev pub are_pointers_assignable : CType → CType → Bool
 are_pointers_assignable t u =

@@ -8,8 +8,9 @@ use Rattle.lt_model.specs.declared.scalar.Scalar.TheVariants as S
 use Rattle.lt_model.specs.declared.operator.Op.{Op}
 use Rattle.lt_model.specs.declared.operator.Op.TheVariants as O
 use Rattle.lt_model.specs.Conversions.{promoted}
-use Rattle.lt_tree.specs.Typing.Types.{CType, CTypes, no_types, a_type, Void, Num, Pointer, Array, Function, target_of, struct_of, unqualified, qualified, qualifiers_of, value_type, is_void, is_integer, is_pointer, is_scalar}
-use Rattle.lt_tree.specs.Typing.Extents.{Structs, is_complete, has_size, size_of, Placed, member_of, size_type}
+use Rattle.lt_tree.specs.Typing.Types.{CType, CTypes, no_types, a_type, Void, Num, Pointer, Array, Function, target_of, struct_of, unqualified, qualified, qualifiers_of, own_qualifiers, value_type, is_void, is_integer, is_pointer, is_scalar}
+use Rattle.lt_tree.specs.Typing.Extents.{Structs, is_complete, has_size, size_of, Placed, member_of}
+use Rattle.lt_model.specs.Scalar.{size_type}
 use Rattle.lt_tree.specs.Typing.Constants.{Constancy, varying, number, address, is_null_constant, converted, applied, negated, moved_by, TypedConstant}
 use Rattle.lt_tree.specs.Typing.Rules.{Rule, broken_if, unless, undeclared_name, floating_type, function_as_value, volatile_access, operand_not_integer, bad_sum, not_scalar, bad_assignment, not_modifiable, bad_address, no_member, bad_call, bad_cast, no_size, constant_too_large, no_body}
 use Rattle.lt_tree.specs.Typing.TypedTree as e
@@ -110,18 +111,19 @@ abbrev pub constant_address : Constancy → Constancy
 constant_address (address object offset) = address object offset
 constant_address _ = varying
 
--- `*x`
+-- `*x`: what isn't complete is no object that could be read
 unfoldable pub judge_dereference : Typed → Known → Judged
 judge_dereference x known =
-    judgement (unless (points_to (is_complete known.structs) (own_type x)) bad_address)
-    (placed (e.Pointed (target_in x) (value_in x)) (constant_address x.constancy))
+    if points_to (is_complete known.structs) (own_type x)
+    then judgement [] (placed (e.Pointed (target_in x) (value_in x)) (constant_address x.constancy))
+    else judgement (bad_address ∷ []) nothing
 
 -- the place is an lvalue that may be changed
 abbrev pub can_be_modified : Structs → Typed → Bool
 can_be_modified structs x = is_lvalue x && is_modifiable structs (own_type x)
 
 abbrev pub writes_volatile : Typed → Bool
-writes_volatile x = is_lvalue x && (qualifiers_of (own_type x)).volatile
+writes_volatile x = is_lvalue x && (own_qualifiers (own_type x)).volatile
 
 abbrev pub write_faults : Structs → Typed → List Rule
 write_faults structs x = unless (can_be_modified structs x) not_modifiable ++ broken_if volatile_access (writes_volatile x)

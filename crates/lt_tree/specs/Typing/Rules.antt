@@ -6,7 +6,8 @@ pub data Rule : Type 0 where
   -- a name isn't declared in scope as an object, a function or an enumerator (`Operations.judge_name`)
   undeclared_name : Rule
   -- A name, a tag, a member or an enumerator is declared twice in one scope, other than compatible declarations of a function, or of an object of
-  -- file scope with at most one initialiser, or typedefs of one type (`Declaring.is_declared_twice`;
+  -- file scope with at most one initialiser, or typedefs of one type; or a name with linkage has an object in one declaration and a function in
+  -- another, in whatever scopes (`Declaring.is_declared_twice`;
   -- `Declarators.is_member_already`, `Declarators.is_declared_here`; `Specifying.struct_tagged`, `open_struct`, `open_enum`, `enumerator_faults`)
   declared_twice : Rule
   -- specifiers name no type, or have more than one storage class (`Specifying.specified`)

@@ -1,15 +1,18 @@
 -- What specifiers name, with structs, enums and enumerators, and which rules they break: C11 6.7.1 to 6.7.3.
-use Rattle.std.specs.Prelude.{ℕ, ℤ, nat_le, Bool, ◌&&◌, ◌==◌, if◌then◌else◌, List, [], ◌∷◌, ◌++◌, length, slice_set, Option, Some, None, is_some, unwrap_or}
+use Rattle.std.specs.Prelude.{ℕ, ℤ, nat_le, Bool, true, false, not, ◌&&◌, ◌||◌, ◌==◌, if◌then◌else◌, List, [], ◌∷◌, ◌++◌, length, slice_set, Option, Some, None, is_some, unwrap_or}
 use Rattle.lt_model.specs.declared.scalar.Scalar.TheVariants as S
 use Rattle.lt_model.specs.Operators.{is_value}
+use denote.Enum.Bare.{sameb}
+use Rattle.lt_tree.specs.contracts.specifier.Storage.{the_type}
 use Rattle.lt_tree.specs.declared.specifier.Storage.{Storage}
+use Rattle.lt_tree.specs.declared.specifier.Storage.TheVariants as storage
 use Rattle.lt_tree.specs.declared.specifier.BasicType.{BasicType}
 use Rattle.lt_tree.specs.declared.specifier.BasicType.TheVariants as basic
 use Rattle.lt_tree.specs.Tree as c
 use Rattle.lt_tree.specs.Typing.Types.{CType, Void, Num, Struct, Floating, qualified, is_integer}
 use Rattle.lt_tree.specs.Typing.Extents.{Structs, Member, members_of, has_too_many_cells}
 use Rattle.lt_tree.specs.Typing.Constants.{number}
-use Rattle.lt_tree.specs.Typing.Rules.{Rule, broken_if, unless, declared_twice, no_type, incomplete_type, bad_length, bad_case}
+use Rattle.lt_tree.specs.Typing.Rules.{Rule, broken_if, unless, declared_twice, no_type, incomplete_type, bad_length, no_size, bad_case}
 use Rattle.lt_tree.specs.Typing.Entities.{Known, Entity, a_typedef, Tagged, a_struct, an_enum, tagged_in, tag_here, declared_here}
 use Rattle.lt_tree.specs.Typing.Steps.{Walk, ◌>>=◌, ◌>>◌, gives, here, changes, tags}
 use Rattle.lt_tree.specs.Typing.Operands.{holds}
@@ -60,6 +63,12 @@ pub record Specified : Type 0 where
   pub storage : Option Storage
   pub faults : List Rule
 
+abbrev pub is_class : Storage → Option Storage → Bool
+is_class class given = holds (sameb the_type class) given
+
+abbrev pub is_register : Specified → Bool
+is_register it = is_class storage.Register it.storage
+
 -- Exactly one specifier names the type.
 abbrev pub only_type : List Naming → Option CType
 only_type (naming ∷ []) = naming.type
@@ -100,18 +109,42 @@ new_struct tag = do
 abbrev pub struct_tagged : List ℕ → Option Tagged → Walk Naming
 struct_tagged tag None = new_struct tag
 struct_tagged tag (Some (a_struct k)) = gives (names (Struct k))
-struct_tagged tag (Some an_enum) = gives (record { type = Some (Num S.Int); faults = declared_twice ∷ [] })
+struct_tagged tag (Some (an_enum is_complete)) = gives (record { type = Some (Num S.Int); faults = declared_twice ∷ [] })
+
+-- Where type specifiers stand: in a declaration of nothing else, as the whole operand of `sizeof`, or elsewhere.
+pub data Setting : Type 0 where
+  alone : Setting
+  in_sizeof : Setting
+  elsewhere : Setting
+
+abbrev pub is_alone : Setting → Bool
+is_alone alone = true
+is_alone _ = false
+
+-- storage classes, qualifiers or words of functions stand beside the type
+abbrev pub has_words : c.Words → Bool
+has_words words = not (length words.storage == 0) || words.inline || words.noreturn || words.qualifiers.constant || words.qualifiers.volatile
+
+-- Only `struct s;` alone declares a tag anew, C11 6.7.2.3p7; beside other words it is as elsewhere.
+abbrev pub beside_words : c.Words → Setting → Setting
+beside_words words setting = if is_alone setting && has_words words then elsewhere else setting
 
 -- `struct s`: the struct that is visible, or a new one. A declaration of nothing else declares the tag in its own scope.
-abbrev pub struct_by_tag : Bool → List ℕ → Walk Naming
-struct_by_tag is_alone tag = do
+abbrev pub struct_by_tag : Setting → List ℕ → Walk Naming
+struct_by_tag setting tag = do
   known ← here
-  struct_tagged tag (if is_alone then tag_here tag known else tagged_in tag known.frames)
+  struct_tagged tag (if is_alone setting then tag_here tag known else tagged_in tag known.frames)
 
--- `enum e` names an enum that is visible
-abbrev pub enum_tagged : Option Tagged → Naming
-enum_tagged (Some an_enum) = names enum_type
-enum_tagged _ = no_naming
+-- In its own list an enum is incomplete, C11 6.7.2.2p4: it has no size, and elsewhere it names no type.
+abbrev pub incomplete_enum : Setting → Rule
+incomplete_enum in_sizeof = no_size
+incomplete_enum _ = no_type
+
+-- `enum e` names an enum that is visible and complete
+abbrev pub enum_tagged : Setting → Option Tagged → Naming
+enum_tagged setting (Some (an_enum true)) = names enum_type
+enum_tagged setting (Some (an_enum false)) = record { type = Some enum_type; faults = incomplete_enum setting ∷ [] }
+enum_tagged setting _ = no_naming
 
 -- a struct whose members are being declared: its number, and the rules that its tag breaks
 pub record OpenStruct : Type 0 where
@@ -128,7 +161,7 @@ open_new (Some tag) faults = do
 abbrev pub open_tagged : List ℕ → Option Tagged → Walk OpenStruct
 open_tagged tag None = open_new (Some tag) []
 open_tagged tag (Some (a_struct k)) = gives (record { number = k; faults = [] })
-open_tagged tag (Some an_enum) = open_new None (declared_twice ∷ [])
+open_tagged tag (Some (an_enum is_complete)) = open_new None (declared_twice ∷ [])
 
 -- `struct s {`: an incomplete struct of this tag in this scope, or a new one
 abbrev pub open_struct : Option (List ℕ) → Walk OpenStruct
@@ -158,13 +191,20 @@ close_struct opened members = do
     faults = struct_faults before opened members ++ broken_if bad_length (has_too_many_cells after.structs (Struct opened.number));
   })
 
--- an enum is declared once in a scope
+-- `enum e {`: an enum is declared once in a scope
 abbrev pub open_enum : Option (List ℕ) → Walk (List Rule)
 open_enum None = gives []
 open_enum (Some tag) = do
   known ← here
-  tags tag an_enum
+  tags tag (an_enum false)
   gives (broken_if declared_twice (is_some (tag_here tag known)))
+
+-- `}`: the enum is complete
+abbrev pub close_enum : Option (List ℕ) → List Rule → Walk Naming
+close_enum None faults = gives (record { type = Some enum_type; faults = faults })
+close_enum (Some tag) faults = do
+  tags tag (an_enum true)
+  gives (record { type = Some enum_type; faults = faults })
 
 -- ---- enumerators, C11 6.7.2.2
 

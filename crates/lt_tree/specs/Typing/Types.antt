@@ -52,7 +52,7 @@ abbrev pub unqualified : CType → CType
 unqualified (Qualified q t) = t
 unqualified t = t
 
--- its own qualifiers; for an array those of its elements
+-- its qualifiers; for an array those of its elements
 abbrev pub qualifiers_of : CType → Qualifiers
 qualifiers_of (Qualified q t) = q
 qualifiers_of (Array t n) = qualifiers_of t
@@ -171,6 +171,10 @@ is_pointer_to_function _ = false
 abbrev pub element : CType → CType
 element (Array t n) = element t
 element t = t
+
+-- Its own qualifiers: an array has none, since those that are written at it are its elements', C11 6.7.3p9.
+abbrev pub own_qualifiers : CType → Qualifiers
+own_qualifiers t = if is_array t then no_qualifiers else qualifiers_of t
 
 -- ---- parameters, C11 6.7.6.3
 

@@ -8,6 +8,7 @@ use Rattle.lt_tree.specs.Typing.TypedTree.{Items}
 use Rattle.lt_tree.specs.Typing.Entities.{Known, Frame, no_names, at_start}
 use Rattle.lt_tree.specs.Typing.Steps.{Outcome, Goes, Breaks, Walk, ◌>>=◌, ◌>>◌, gives, enter, settle, changes, within}
 use Rattle.lt_tree.specs.Typing.Expressions.{Typed, as_place, finish}
+use Rattle.lt_tree.specs.Typing.Specifying.{elsewhere}
 use Rattle.lt_tree.specs.Typing.Declarators.{Declares, Parameters}
 use Rattle.lt_tree.specs.Typing.Operations.{judge_name, judge_constant, judge_plus, judge_minus, judge_complement, judge_not, judge_address_of, judge_dereference, judge_step, judge_size, judge_member, judge_arrow, judge_index, judge_function, judge_call, judge_cast}
 use Rattle.lt_tree.specs.Typing.BinaryOperations.{judge_binary, judge_logical, judge_conditional, judge_assign, judge_update, judge_comma}
@@ -49,7 +50,7 @@ defines node name it body = do
 abbrev pub external : c.External → Walk (Unit {0})
 external (c.Defines s d body) = do
   node ← enter
-  it ← specifiers s false
+  it ← specifiers s elsewhere
   declared ← declarator d it true (definition_faults it.storage)
   defines node (unwrap_or declared.name []) declared body
 external (c.Declared d) = do

@@ -84,7 +84,8 @@ pub struct Bound {
 pub enum Tagged {
     /// A struct, by its place in the list of structs.
     Struct(u32),
-    Enum,
+    /// Whether it is complete: it is so behind its list.
+    Enum(bool),
 }
 
 /// A tag in scope.

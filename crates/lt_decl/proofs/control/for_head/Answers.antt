@@ -1,7 +1,7 @@
 use Rattle.lt_expr.specs.Parsing.{scope_of}
 use Rattle.lt_decl.specs.HeadView.{head_of}
 use Rattle.lt_decl.specs.Singles.{after_head}
-use Rattle.lt_decl.proofs.Failures.{fails_as, names_fail}
+use Rattle.lt_expr.proofs.Failures.{fails_as, names_fail}
 use Rattle.lt_decl.proofs.Heads.{head_read, head_without_test, head_without_step}
 use Rattle.lt_decl.proofs.control.for_head.Goals as goal
 

@@ -4,8 +4,8 @@ use Rattle.lt_tree.specs.Scope.{after_labels}
 use Rattle.lt_expr.specs.Parsing.{scope_of}
 use Rattle.lt_decl.specs.Singles.{after_label}
 use Rattle.lt_decl.specs.Reading as reading
-use Rattle.lt_decl.proofs.Scopes.{within_declares, declares}
-use Rattle.lt_decl.proofs.Loops.{turned, stopped}
+use Rattle.lt_expr.proofs.Scopes.{within_declares, declares}
+use Rattle.lt_expr.proofs.Loops.{turned, stopped}
 use Rattle.lt_decl.proofs.Turns.{labels_more, labels_end, after_label_more}
 use Rattle.lt_decl.proofs.control.labels.Goals as goal
 

@@ -4,7 +4,7 @@ use Rattle.lt_tree.specs.Scope.{after_labels}
 use Rattle.lt_expr.specs.Fronts.{after}
 use Rattle.lt_expr.specs.Parsing.{rest_of, scope_of}
 use Rattle.lt_decl.specs.Reading as reading
-use Rattle.lt_decl.proofs.Scopes.{Within}
+use Rattle.lt_expr.proofs.Scopes.{Within}
 use Rattle.lt_decl.proofs.control.labels.Given as goal
 
 abbrev pub decreases-more : goal.decreases-more

@@ -10,8 +10,8 @@ use Rattle.lt_expr.specs.Parsing.{rest_of, scope_of}
 use Rattle.lt_expr.specs.Reading as ex
 use Rattle.lt_decl.specs.Singles.{definition, declared_on, behind_external}
 use Rattle.lt_decl.specs.Reading as reading
-use Rattle.lt_decl.proofs.Scopes.{same_scope, read_there, within_here, within_on, within_hides}
-use Rattle.lt_decl.proofs.Failures.{names_through}
+use Rattle.lt_expr.proofs.Scopes.{same_scope, read_there, within_here, within_on, within_hides}
+use Rattle.lt_expr.proofs.Failures.{names_through}
 use Rattle.lt_decl.proofs.Turns.{external_defines, external_declares, scope_behind_definition, scope_behind_declared}
 use Rattle.lt_decl.proofs.external.external.Goals as goal
 

@@ -1,8 +1,8 @@
 use Rattle.std.proofs.Common.{◌++◌, map, refl, sym, ◌∙◌}
 use Rattle.lt_tree.specs.UnitView.{external_of}
 use Rattle.lt_decl.specs.Reading as reading
-use Rattle.lt_decl.proofs.Scopes.{same_scope}
-use Rattle.lt_decl.proofs.Loops.{turned, skipped, stopped}
+use Rattle.lt_expr.proofs.Scopes.{same_scope}
+use Rattle.lt_expr.proofs.Loops.{turned, skipped, stopped}
 use Rattle.lt_decl.proofs.Turns.{externals_more, externals_skip, externals_end}
 use Rattle.lt_decl.proofs.external.externals.Goals as goal
 

@@ -5,8 +5,8 @@ use Rattle.lt_expr.specs.Front.{behind}
 use Rattle.lt_tree.specs.UnitView.{initialisers_in}
 use Rattle.lt_decl.specs.Reading as reading
 use Rattle.lt_decl.proofs.Fronts.{initialisers_before}
-use Rattle.lt_decl.proofs.Scopes.{same_scope, on_through}
-use Rattle.lt_decl.proofs.Loops.{turned, finished}
+use Rattle.lt_expr.proofs.Scopes.{same_scope, on_through}
+use Rattle.lt_expr.proofs.Loops.{turned, finished}
 use Rattle.lt_decl.proofs.Turns.{initialisers_more, initialisers_last, initialisers_closed}
 use Rattle.lt_decl.proofs.initialiser.+initialisers.Goals as goal
 

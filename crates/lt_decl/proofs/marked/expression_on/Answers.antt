@@ -2,8 +2,8 @@ use Rattle.std.proofs.Common.{◌∷◌, [], ◌++◌, sym, ap, ◌∙◌}
 use Rattle.lt_tree.specs.Tree as t
 use Rattle.lt_tree.specs.View.{expression_of, mark_of}
 use Rattle.lt_tree.specs.Records.{expressions_in, marks_in}
-use Rattle.lt_decl.proofs.Failures.{fails_as, gives_fail}
-use Rattle.lt_decl.proofs.Scopes.{same_scope, on_through}
+use Rattle.lt_expr.proofs.Failures.{fails_as, gives_fail}
+use Rattle.lt_expr.proofs.Scopes.{same_scope, on_through}
 use Rattle.lt_decl.proofs.OnMarks.{on_value, on_alone, on_parts, on_without_parts}
 use Rattle.lt_decl.proofs.marked.expression_on.Goals as goal
 

@@ -1,5 +1,5 @@
 use Rattle.std.proofs.Common.{◌∙◌}
-use Rattle.lt_decl.proofs.Scopes.{within_hides}
+use Rattle.lt_expr.proofs.Scopes.{within_hides}
 use Rattle.lt_decl.proofs.NameRows.{initialisers_left, hides_same, braces_hidden}
 use Rattle.lt_decl.proofs.names.+hide.Goals as goal
 

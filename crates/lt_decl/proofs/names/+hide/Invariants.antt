@@ -2,7 +2,7 @@ use Rattle.std.proofs.Common.{◌≡◌, drop}
 use Rattle.lt_tree.specs.UnitView.{initialisers_in}
 use Rattle.lt_tree.specs.Scope.{hiding, enumerators_in_initialisers}
 use Rattle.lt_expr.specs.Parsing.{rest_of, scope_of}
-use Rattle.lt_decl.proofs.Scopes.{Within}
+use Rattle.lt_expr.proofs.Scopes.{Within}
 use Rattle.lt_decl.proofs.names.+hide.Given as goal
 
 abbrev pub invariant-hide_all-parts : goal.invariant-hide_all-parts

@@ -1,5 +1,5 @@
 use Rattle.std.proofs.Common.{◌∙◌}
-use Rattle.lt_decl.proofs.Scopes.{within_hides}
+use Rattle.lt_expr.proofs.Scopes.{within_hides}
 use Rattle.lt_decl.proofs.NameRows.{parameters_left}
 use Rattle.lt_decl.proofs.names.declare_list.Goals as goal
 

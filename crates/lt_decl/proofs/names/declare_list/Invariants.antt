@@ -2,7 +2,7 @@ use Rattle.std.proofs.Common.{◌≡◌, drop}
 use Rattle.lt_tree.specs.Records.{parameter_list_in}
 use Rattle.lt_tree.specs.Scope.{after_list}
 use Rattle.lt_expr.specs.Parsing.{rest_of, scope_of}
-use Rattle.lt_decl.proofs.Scopes.{Within}
+use Rattle.lt_expr.proofs.Scopes.{Within}
 use Rattle.lt_decl.proofs.names.declare_list.Given as goal
 
 abbrev pub invariant-parameters : goal.invariant-parameters

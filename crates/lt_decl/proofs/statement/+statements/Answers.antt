@@ -13,9 +13,9 @@ use Rattle.lt_decl.specs.ItemView.{item_of}
 use Rattle.lt_decl.specs.Reading as reading
 use Rattle.lt_decl.proofs.Fronts.{items_before, cases_before}
 use Rattle.lt_decl.proofs.Joins.{no_items, no_cases}
-use Rattle.lt_decl.proofs.Scopes.{same_scope, on_through, read_there, within_here, within_on, within_hides, within_declares, declares, room, closed, closed_rest}
-use Rattle.lt_decl.proofs.Loops.{turned, stopped}
-use Rattle.lt_decl.proofs.Failures.{fails_as, gives_fail, names_on}
+use Rattle.lt_expr.proofs.Scopes.{same_scope, on_through, read_there, within_here, within_on, within_hides, within_declares, declares, room, closed, closed_rest}
+use Rattle.lt_expr.proofs.Loops.{turned, stopped}
+use Rattle.lt_expr.proofs.Failures.{fails_as, gives_fail, names_on}
 use Rattle.lt_decl.proofs.Turns.{cases_more, cases_end, case_read, for_read, for_no_body, items_more, items_end, item_marked, item_declared, item_stated}
 use Rattle.lt_decl.proofs.statement.+statements.Goals as goal
 

@@ -6,7 +6,7 @@ use Rattle.lt_expr.specs.Fronts.{after}
 use Rattle.lt_expr.specs.Parsing.{rest_of, scope_of}
 use Rattle.lt_decl.specs.Reading as reading
 use Rattle.lt_decl.proofs.Fronts.{items_before, cases_before}
-use Rattle.lt_decl.proofs.Scopes.{Within}
+use Rattle.lt_expr.proofs.Scopes.{Within}
 use Rattle.lt_decl.proofs.statement.+statements.Given as goal
 
 abbrev pub decreases-statement : goal.decreases-statement

@@ -5,9 +5,11 @@ use Rattle.lt_tree.specs.Records.{expressions_in, marks_in, bindings_in, members
 use Rattle.lt_expr.specs.Fronts.{after, marks_before, bindings_before, found_before, members_before, member_declarators_before, enumerators_before, parameters_before}
 use Rattle.lt_expr.specs.FoundView.{found_of}
 use Rattle.lt_expr.specs.Namings.{naming_of}
+use Rattle.lt_tree.specs.Scope.{after_types, after_parts, after_members, after_member_declarators, after_enumerators}
 use Rattle.lt_expr.specs.Parsing.{rest_of, scope_of, GoesOn, Below}
+use Rattle.lt_expr.proofs.Scopes.{Within}
 use Rattle.lt_expr.specs.Reading as reading
-use Rattle.lt_expr.specs.Reading.{joined}
+use Rattle.lt_tree.specs.Grammar.{joined}
 use Rattle.lt_expr.proofs.parser.Parser.+parser.Given as goal
 
 abbrev pub decreases-after : goal.decreases-after
@@ -37,8 +39,8 @@ decreases-boxed_conditional l = l.depth
 abbrev pub decreases-decide : goal.decreases-decide
 decreases-decide l = l.depth
 
-abbrev pub decreases-declarator : goal.decreases-declarator
-decreases-declarator l = l.depth
+abbrev pub decreases-inner_declarator : goal.decreases-inner_declarator
+decreases-inner_declarator l = l.depth
 
 abbrev pub decreases-direct : goal.decreases-direct
 decreases-direct l = l.depth
@@ -106,8 +108,8 @@ decreases-size l = l.depth
 abbrev pub decreases-specifier : goal.decreases-specifier
 decreases-specifier l = l.depth
 
-abbrev pub decreases-specifiers : goal.decreases-specifiers
-decreases-specifiers l = l.depth
+abbrev pub decreases-inner_specifiers : goal.decreases-inner_specifiers
+decreases-inner_specifiers l = l.depth
 
 abbrev pub decreases-structure : goal.decreases-structure
 decreases-structure l = l.depth
@@ -161,7 +163,8 @@ abbrev pub invariant-enumerators-more : goal.invariant-enumerators-more
 invariant-enumerators-more l = record {
   read : after (enumerators_before (enumerators_in l.enumerators.items)) (reading.enumerators l.depth (scope_of l.self) (rest_of l.self)) ≡ reading.enumerators l.fn.depth (scope_of l.fn.self) (rest_of l.fn.self);
   within : l.depth ≤ l.fn.depth;
-  on : GoesOn l.fn.self l.self;
+  scope : scope_of l.self ≡ after_enumerators (enumerators_in l.enumerators.items) (scope_of l.fn.self);
+  names : Within l.fn.self l.self;
 }
 
 abbrev pub decreases-further-more : goal.decreases-further-more
@@ -171,7 +174,8 @@ abbrev pub invariant-further-more : goal.invariant-further-more
 invariant-further-more l = record {
   read : after (found_before (found_of l.found)) (reading.further l.depth (scope_of l.self) l.typed (rest_of l.self)) ≡ reading.further l.fn.depth (scope_of l.fn.self) false (rest_of l.fn.self);
   within : l.depth ≤ l.fn.depth;
-  on : GoesOn l.fn.self l.self;
+  scope : scope_of l.self ≡ after_types (found_of l.found).types (scope_of l.fn.self);
+  names : Within l.fn.self l.self;
 }
 
 abbrev pub decreases-marks-more : goal.decreases-marks-more
@@ -189,9 +193,10 @@ decreases-member_declarators-more l = l.depth
 
 abbrev pub invariant-member_declarators-more : goal.invariant-member_declarators-more
 invariant-member_declarators-more l = record {
-  read : after (member_declarators_before (member_declarators_in l.declarators.items)) (reading.member_declarators l.depth (scope_of l.self) (naming_of l.naming) (rest_of l.self)) ≡ reading.member_declarators l.fn.depth (scope_of l.fn.self) (naming_of l.naming) (rest_of l.fn.self);
+  read : after (member_declarators_before (member_declarators_in l.declarators.items)) (reading.member_declarators l.depth (scope_of l.self) (naming_of l.naming) (rest_of l.self)) ≡ reading.member_declarators l.fn.depth (scope_of l.fn.self) (naming_of l.fn.naming) (rest_of l.fn.self);
   within : l.depth ≤ l.fn.depth;
-  on : GoesOn l.fn.self l.self;
+  scope : scope_of l.self ≡ after_member_declarators (member_declarators_in l.declarators.items) (scope_of l.fn.self);
+  names : Within l.fn.self l.self;
 }
 
 abbrev pub decreases-members-more : goal.decreases-members-more
@@ -201,7 +206,8 @@ abbrev pub invariant-members-more : goal.invariant-members-more
 invariant-members-more l = record {
   read : after (members_before (members_in l.members.items)) (reading.members l.depth (scope_of l.self) (rest_of l.self)) ≡ reading.members l.fn.depth (scope_of l.fn.self) (rest_of l.fn.self);
   within : l.depth ≤ l.fn.depth;
-  on : GoesOn l.fn.self l.self;
+  scope : scope_of l.self ≡ after_members (members_in l.members.items) (scope_of l.fn.self);
+  names : Within l.fn.self l.self;
 }
 
 abbrev pub decreases-parameter_list-more : goal.decreases-parameter_list-more
@@ -242,7 +248,8 @@ decreases-suffixes-more l = l.depth
 
 abbrev pub invariant-suffixes-more : goal.invariant-suffixes-more
 invariant-suffixes-more l = record {
-  read : after (joined (parts_in l.parts.items)) (reading.suffixes l.depth (scope_of l.self) (rest_of l.self)) ≡ after (joined (parts_in l.fn.parts.items)) (reading.suffixes l.fn.depth (scope_of l.fn.self) (rest_of l.fn.self));
+  read : after (joined (parts_in l.parts.items)) (reading.suffixes l.depth (scope_of l.self) (rest_of l.self)) ≡ reading.suffixes l.fn.depth (scope_of l.fn.self) (rest_of l.fn.self);
   within : l.depth ≤ l.fn.depth;
-  on : GoesOn l.fn.self l.self;
+  scope : scope_of l.self ≡ after_parts (parts_in l.parts.items) (scope_of l.fn.self);
+  names : Within l.fn.self l.self;
 }

@@ -6,9 +6,8 @@ use Rattle.lt_tree.specs.declared.stop.Stop.TheVariants.{NotOfForm, NoMemory}
 use Rattle.lt_tree.specs.Scope.{Scope}
 use Rattle.lt_expr.specs.Front.{Rest, Reader}
 use Rattle.lt_expr.specs.Fronts.{after}
-use Rattle.lt_expr.specs.Parsing.{Parsing, scope_of, GoesOn, Fails, Gives}
-use Rattle.lt_decl.specs.Declares.{GivesNames}
-use Rattle.lt_decl.proofs.Scopes.{Within, same_scope, within_here, within_on, within_declares, declares}
+use Rattle.lt_expr.specs.Parsing.{Parsing, scope_of, GoesOn, Fails, Gives, GivesNames}
+use Rattle.lt_expr.proofs.Scopes.{Within, same_scope, within_here, within_on, within_declares, declares}
 
 pub fails_as : {A B : Type 0} (stop : Stop) (a : Option A) (b : Option B) → (a ≡ None → b ≡ None) → Fails stop a → Fails stop b
 fails_as NotOfForm a b goes h = goes h
