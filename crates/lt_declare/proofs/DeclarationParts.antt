@@ -17,9 +17,9 @@ pub kind_same : {a b c d e f : Bool} {l m : Life} → a ≡ b → c ≡ d → l 
 kind_same {a = a} {b = b} {c = c} {d = d} {e = e} {f = f} {l = l} {m = m} p q r s =
     ap (λ x. kind_by x c l e) p ∙ ap (λ x. kind_by b x l e) q ∙ ap (λ x. kind_by b d x e) r ∙ ap (λ x. kind_by b d m x) s
 
-pub again_same : (has_initialiser : Bool) {a b c d e f : Bool} → a ≡ b → c ≡ d → e ≡ f → (not a || c || (has_initialiser && e)) ≡ (not b || d || (has_initialiser && f))
-again_same h {a = a} {b = b} {c = c} {d = d} {e = e} {f = f} p q r =
-    ap (λ x. not x || c || (h && e)) p ∙ ap (λ x. not b || x || (h && e)) q ∙ ap (λ x. not b || d || (h && x)) r
+pub again_same : (has_initialiser : Bool) {a b c d e f g h : Bool} → a ≡ b → c ≡ d → g ≡ h → e ≡ f → (not a || c || g || (has_initialiser && e)) ≡ (not b || d || h || (has_initialiser && f))
+again_same i {a = a} {b = b} {c = c} {d = d} {e = e} {f = f} {g = g} {h = h} p q s r =
+    ap (λ x. not x || c || g || (i && e)) p ∙ ap (λ x. not b || x || g || (i && e)) q ∙ ap (λ x. not b || d || x || (i && e)) s ∙ ap (λ x. not b || d || h || (i && x)) r
 
 -- the functions with bodies have these names, whatever types there are
 pub body_same : (types : List CType) (w : List ℕ) (fs : List held.Function) → list_any (λ f. bytes_eq f.name w) fs ≡ list_any (λ f. bytes_eq f.name w) (map (function_of types) fs)

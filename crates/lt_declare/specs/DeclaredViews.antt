@@ -14,6 +14,8 @@ use Rattle.lt_tree.specs.Typing.Declarators as d
 use Rattle.lt_tree.specs.Typing.Declaring as declaring
 use Rattle.lt_env.specs.NamesValue.{frame_at}
 use Rattle.lt_declare.specs.declared.made.Naming.{Naming}
+use Rattle.lt_declare.specs.declared.made.Setting.{Setting}
+use Rattle.lt_declare.specs.declared.made.Setting.TheVariants as setting
 use Rattle.lt_declare.specs.declared.made.Specified.{Specified}
 use Rattle.lt_declare.specs.declared.made.Parameters.{Parameters}
 use Rattle.lt_declare.specs.declared.made.Built.{Built}
@@ -27,6 +29,11 @@ members_in types members = map (member_of types) members
 
 abbrev pub naming_of : List CType → Naming → s.Naming
 naming_of types n = record { type = option_map (type_in types) n.ty; faults = n.faults }
+
+abbrev pub setting_of : Setting → s.Setting
+setting_of setting.Alone = s.alone
+setting_of setting.InSizeof = s.in_sizeof
+setting_of setting.Elsewhere = s.elsewhere
 
 abbrev pub specified_of : List CType → Specified → s.Specified
 specified_of types it = record { type = type_in types it.ty; storage = it.storage; faults = it.faults }

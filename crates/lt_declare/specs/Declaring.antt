@@ -9,7 +9,7 @@ use Rattle.lt_tree.specs.Typing.Steps.{Walk, ◌>>=◌, ◌>>◌, gives, changes
 use Rattle.lt_tree.specs.Typing.Expressions.{Typed, own_type}
 use Rattle.lt_tree.specs.Typing.Declarators.{Parameters, Declares, is_incomplete}
 use Rattle.lt_tree.specs.Typing.Declaring.{is_compatible}
-use Rattle.lt_tree.specs.Typing.Specifying.{Naming, is_complete_struct, with_members}
+use Rattle.lt_tree.specs.Typing.Specifying.{Naming, no_naming, names, enum_type, Setting, incomplete_enum, is_complete_struct, with_members}
 use Rattle.lt_declare.specs.declared.made.Naming as held
 
 -- what type specifiers break
@@ -20,6 +20,12 @@ all_faults (naming ∷ namings) = naming.faults ++ all_faults namings
 -- the value of an integer constant expression, if it is one
 abbrev pub integer_in : Typed → Option ℤ
 integer_in x = elim (x.constancy) [ number z ↦ (if is_integer (own_type x) then Some z else None) | _ ↦ None ]
+
+-- what a tag names, which is an enum's that is complete or not, or none
+abbrev pub enum_by : Setting → Option Bool → Naming
+enum_by setting None = no_naming
+enum_by setting (Some true) = names enum_type
+enum_by setting (Some false) = record { type = Some enum_type; faults = incomplete_enum setting ∷ [] }
 
 -- what the tag of an enum breaks
 abbrev pub tag_faults : List ℕ → Known → List Rule
@@ -59,10 +65,10 @@ abbrev pub agrees_with : Known → Option ℕ → CType → Bool
 agrees_with known linked t = elim linked [ None ↦ true | Some n ↦ is_compatible t (type_of_object known n) ]
 
 -- an object and its name
-abbrev pub binding_object : List ℕ → Object → Walk (List ℕ)
-binding_object name object = do
+abbrev pub binding_object : List ℕ → Bool → Object → Walk (List ℕ)
+binding_object name is_register object = do
   n ← add_object object
-  binds name (an_object n false)
+  binds name (an_object n is_register)
   gives (n ∷ [])
 
 -- a type behind others

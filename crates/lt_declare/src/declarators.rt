@@ -1,7 +1,6 @@
 // What the parts of declarators make, C11 6.7.6, and which rules they break; parameters stand in a file of their own.
 
 ghost use Rattle.std.specs.Prelude.{◌≡◌, ◌++◌, ◌||◌, [], List, Some, None, option_map, IfOk, if◌then◌else◌};
-ghost use Rattle.lt_model.specs.Layout.{then_some};
 ghost use Rattle.lt_tree.specs.View.{qualifiers_of};
 ghost use Rattle.lt_tree.specs.Typing.Types.{CType, is_function, is_array};
 ghost use Rattle.lt_tree.specs.Typing.TypeRows.{type_in};
@@ -39,7 +38,7 @@ pub fn length_or_none(
         None => Ok(unstated_length(is_outermost)),
         Some(x) => {
             let z = integer_in(&walker.types, &x)?;
-            Ok(length_from(z))
+            Ok(length_given(z))
         }
     }
 }
@@ -50,15 +49,32 @@ fn unstated_length(is_outermost: bool) -> Option<u32>
     if is_outermost { Some(0) } else { None }
 }
 
-// A number of elements: from 1 to 1,048,576.
-fn length_from(z: Option<i128>) -> Option<u32>
-    ensures { result ≡ then_some z typing.length_from }
+fn length_given(z: Option<i128>) -> Option<u32>
+    ensures { result ≡ option_map typing.length_from z }
 {
-    let z = z?;
+    match z {
+        None => None,
+        Some(z) => Some(length_from(z)),
+    }
+}
+
+// A number of elements: from 1 to 1,048,576. Any other counts as one more than that.
+fn length_from(z: i128) -> u32
+    ensures { result ≡ typing.length_from z }
+{
     if 1 <= z && z <= 1048576 {
-        u32::try_from(z).ok()
+        z as u32
     } else {
-        None
+        1048577
+    }
+}
+
+fn is_length(n: Option<u32>) -> bool
+    ensures { result ≡ typing.is_length n }
+{
+    match n {
+        None => false,
+        Some(n) => n <= 1048576,
     }
 }
 
@@ -77,8 +93,8 @@ pub fn built(walker: &mut Walker, t: TypeId) -> Result<Built, TypeStop>
 pub fn array_of(walker: &mut Walker, n: Option<u32>, inner: Built) -> Result<Built, TypeStop>
     ensures { Gives built_of walker.old walker.new result (λ types. answering (λ known. typing.array_of known n (built_of types inner))) }
 {
-    let ty = walker.types.array(inner.ty, n.unwrap_or(1))?;
-    let mut faults = array_faults(walker, n.is_some(), inner.ty, ty)?;
+    let ty = walker.types.array(inner.ty, n.unwrap_or(0))?;
+    let mut faults = array_faults(walker, is_length(n), inner.ty, ty)?;
     faults.append(inner.faults)?;
     Ok(Built {
         ty,
@@ -168,15 +184,10 @@ pub fn judged_faults(
 ) -> Result<Faults, TypeStop>
     ensures { Gives itself walker.old walker.new result (λ types. answering (λ known. typing.all_faults (specified_of types it.now) (built_of types b.now) (judging_of judging name.now known (built_of types b.now)))) }
 {
-    if it.faults.is_empty() {
-        with_judged(walker, judging, name, b)
-    } else {
-        let alloc = walker.types.alloc();
-        let mut faults = it.faults.copied(alloc)?;
-        let own = b.faults.copied(alloc)?;
-        faults.append(own)?;
-        Ok(faults)
-    }
+    let own = with_judged(walker, judging, name, b)?;
+    let mut faults = it.faults.copied(walker.types.alloc())?;
+    faults.append(own)?;
+    Ok(faults)
 }
 
 // What its parts break, and what is judged of what it declares.

@@ -1,19 +1,19 @@
 // Enums and enumerators, C11 6.7.2.2 and 6.7.2.3.
 
-ghost use Rattle.std.specs.Prelude.{◌≡◌, pos, ◌+ℤ◌, List, Some, None, is_some, option_map, unwrap_or, IfOk, IfErr, if◌then◌else◌};
+ghost use Rattle.std.specs.Prelude.{◌≡◌, pos, ◌+ℤ◌, [], ◌∷◌, List, Some, None, is_some, option_map, unwrap_or, IfOk, IfErr};
 ghost use Rattle.lt_tree.specs.Typing.Types.{CType};
-ghost use Rattle.lt_tree.specs.Typing.EntityView.{entity_of, tagged_of};
+ghost use Rattle.lt_tree.specs.Typing.EntityView.{entity_of, tagged_of, rule_of};
 ghost use Rattle.lt_tree.specs.Typing.Entities.{tagged_in, an_enumerator};
 ghost use Rattle.lt_tree.specs.Typing.Specifying as typing;
 ghost use Rattle.lt_tree.specs.Typing.NodeEnds.{end_of_enumerator};
 ghost use Rattle.lt_table.specs.TableRows.{Stays};
 ghost use Rattle.lt_env.specs.Going.{Gives, answering, itself, known_of};
 ghost use Rattle.lt_env.specs.Views.{typed_in, typed_of};
-ghost use Rattle.lt_declare.specs.DeclaredViews.{naming_of};
+ghost use Rattle.lt_declare.specs.DeclaredViews.{naming_of, setting_of};
 ghost use Rattle.lt_env.specs.declared.stop.TypeStop.TheVariants.{NoMemory};
-ghost use Rattle.lt_declare.specs.Declaring.{integer_in, tag_faults, enumerator_end};
+ghost use Rattle.lt_declare.specs.Declaring.{integer_in, tag_faults, enumerator_end, enum_by};
 
-use crate::made::Naming;
+use crate::made::{Naming, Setting};
 use crate::specifiers::{basic_named, no_naming};
 use lt_env::{Faults, TypeStop, Typed, Walker};
 use lt_model::{Name, Scalar, is_value};
@@ -23,22 +23,44 @@ use lt_tree::typed::{Constancy, Entity, Rule, Tagged};
 use std::alloc::AllocError;
 
 /// `enum e`.
-pub fn enum_tagged(walker: &mut Walker, tag: &[u8]) -> Result<Naming, TypeStop>
-    ensures { Gives naming_of walker.old walker.new result (λ types. answering (λ known. typing.enum_tagged (tagged_in tag.now known.frames))) }
+pub fn enum_tagged(walker: &mut Walker, setting: Setting, tag: &[u8]) -> Result<Naming, TypeStop>
+    ensures { Gives naming_of walker.old walker.new result (λ types. answering (λ known. typing.enum_tagged (setting_of setting) (tagged_in tag.now known.frames))) }
 {
-    if is_enum(walker.names.find_tag(tag)) {
-        basic_named(walker, BasicType::Int)
-    } else {
-        no_naming(walker)
+    match enum_found(walker.names.find_tag(tag)) {
+        None => no_naming(walker),
+        Some(true) => basic_named(walker, BasicType::Int),
+        Some(false) => {
+            let faults = incomplete_faults(walker, setting)?;
+            enum_named(walker, faults)
+        }
     }
 }
 
-fn is_enum(found: Option<Tagged>) -> bool
-    ensures { typing.enum_tagged (option_map tagged_of found) ≡ (if result then typing.names typing.enum_type else typing.no_naming) }
+// Whether an enum is complete, if the tag is one's.
+fn enum_found(found: Option<Tagged>) -> Option<bool>
+    ensures { (setting : typing.Setting) → typing.enum_tagged setting (option_map tagged_of found) ≡ enum_by setting result }
 {
     match found {
-        Some(Tagged::Enum) => true,
-        _ => false,
+        Some(Tagged::Enum(is_complete)) => Some(is_complete),
+        _ => None,
+    }
+}
+
+// What an enum breaks that isn't complete.
+fn incomplete_faults(walker: &Walker, setting: Setting) -> Result<Faults, AllocError>
+    ensures { IfOk result (λ faults. faults ≡ typing.incomplete_enum (setting_of setting) ∷ []) }
+{
+    let mut faults = Faults::new(walker.types.alloc());
+    faults.broken_if(incomplete_rule(setting), true)?;
+    Ok(faults)
+}
+
+fn incomplete_rule(setting: Setting) -> Rule
+    ensures { rule_of result ≡ typing.incomplete_enum (setting_of setting) }
+{
+    match setting {
+        Setting::InSizeof => Rule::NoSize,
+        Setting::Alone | Setting::Elsewhere => Rule::NoType,
     }
 }
 
@@ -57,7 +79,7 @@ fn tag_enum(walker: &mut Walker, tag: &[u8]) -> Result<Faults, TypeStop>
     ensures { Gives itself walker.old walker.new result (λ types. typing.open_enum (Some tag.now)) }
 {
     let faults = tag_faults(walker, tag)?;
-    walker.bind_tag(tag, Tagged::Enum)?;
+    walker.bind_tag(tag, Tagged::Enum(false))?;
     Ok(faults)
 }
 
@@ -70,8 +92,30 @@ fn tag_faults(walker: &Walker, tag: &[u8]) -> Result<Faults, AllocError>
     Ok(faults)
 }
 
+/// `}`: the enum is complete.
+pub fn close_enum(
+    walker: &mut Walker,
+    tag: &Option<Name>,
+    faults: Faults,
+) -> Result<Naming, TypeStop>
+    ensures { Gives naming_of walker.old walker.new result (λ types. typing.close_enum tag.now faults) }
+{
+    match tag {
+        None => enum_named(walker, faults),
+        Some(tag) => close_tagged(walker, tag.as_slice(), faults),
+    }
+}
+
+// The enum of this tag is complete.
+fn close_tagged(walker: &mut Walker, tag: &[u8], faults: Faults) -> Result<Naming, TypeStop>
+    ensures { Gives naming_of walker.old walker.new result (λ types. typing.close_enum (Some tag.now) faults) }
+{
+    walker.bind_tag(tag, Tagged::Enum(true))?;
+    enum_named(walker, faults)
+}
+
 /// An enum whose tag breaks these rules.
-pub fn enum_named(walker: &mut Walker, faults: Faults) -> Result<Naming, TypeStop>
+pub(crate) fn enum_named(walker: &mut Walker, faults: Faults) -> Result<Naming, TypeStop>
     ensures { Gives naming_of walker.old walker.new result (λ types. answering (λ known. (record { type = Some typing.enum_type; faults = faults }))) }
 {
     let ty = walker.types.num(Scalar::Int)?;

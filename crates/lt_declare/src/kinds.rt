@@ -6,6 +6,7 @@ ghost use Rattle.lt_tree.specs.Typing.Types.{CType};
 ghost use Rattle.lt_tree.specs.Typing.TypeRows.{type_in};
 ghost use Rattle.lt_tree.specs.Typing.EntityView as view;
 ghost use Rattle.lt_tree.specs.Typing.Entities as entities;
+ghost use Rattle.lt_tree.specs.Typing.Specifying as specifying;
 ghost use Rattle.lt_tree.specs.Typing.Declaring as typing;
 ghost use Rattle.lt_table.specs.TableRows.{Stays};
 ghost use Rattle.lt_env.specs.Going.{known_of};
@@ -49,7 +50,7 @@ fn kind(is_typedef: bool, is_function: bool, life: Life, is_register: bool) -> D
 
 /// Whether this storage class is given.
 pub fn is_class(class: Storage, given: Option<Storage>) -> bool
-    ensures { result ≡ typing.is_class class given }
+    ensures { result ≡ specifying.is_class class given }
 {
     match given {
         Some(other) => class == other,
@@ -64,7 +65,7 @@ fn is_file_scope(walker: &Walker) -> bool
 }
 
 fn is_register(walker: &Walker, class: Option<Storage>) -> bool
-    ensures { (types : List CType) → result ≡ (not (entities.is_file_scope (known_of types walker.now)) && typing.is_class (storage.Register) class) }
+    ensures { (types : List CType) → result ≡ (not (entities.is_file_scope (known_of types walker.now)) && specifying.is_class (storage.Register) class) }
 {
     !is_file_scope(walker) && is_class(Storage::Register, class)
 }
@@ -77,7 +78,7 @@ fn life_of(walker: &Walker, class: Option<Storage>) -> Life
 }
 
 fn has_linkage(walker: &Walker, class: Option<Storage>) -> bool
-    ensures { (types : List CType) → result ≡ (entities.is_file_scope (known_of types walker.now) || typing.is_class (storage.Extern) class) }
+    ensures { (types : List CType) → result ≡ (entities.is_file_scope (known_of types walker.now) || specifying.is_class (storage.Extern) class) }
 {
     is_file_scope(walker) || is_class(Storage::Extern, class)
 }

@@ -15,5 +15,5 @@ pub mod specifiers;
 mod structs;
 
 pub use kinds::{DeclaredKind, kind_of};
-pub use made::{Built, Declares, Judging, Naming, OpenStruct, Parameters, Specified};
+pub use made::{Built, Declares, Judging, Naming, OpenStruct, Parameters, Setting, Specified};
 pub use members::OpenMembers;

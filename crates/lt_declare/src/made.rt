@@ -5,6 +5,16 @@ use lt_model::Name;
 use lt_tree::Storage;
 use lt_tree::typed::TypeId;
 
+/// Where type specifiers stand.
+#[derive(Clone, Copy, PartialEq, Eq, Debug)]
+pub enum Setting {
+    /// In a declaration of nothing else.
+    Alone,
+    /// As the whole operand of `sizeof`.
+    InSizeof,
+    Elsewhere,
+}
+
 /// What one type specifier names, if it names a type, and the rules that it breaks.
 #[derive(Drop)]
 pub struct Naming {

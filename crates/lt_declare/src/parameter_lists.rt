@@ -62,39 +62,46 @@ pub fn with_dots(
 pub fn binds_parameter(
     walker: &mut Walker,
     is_definition: bool,
+    is_register: bool,
     node: u32,
     name: &Option<Name>,
     t: TypeId,
 ) -> Result<Vec<u32>, TypeStop>
-    ensures { Gives (λ types objects. objects.items) walker.old walker.new result (λ types. typing.binds_parameter is_definition node name.now (type_in types t)) }
+    ensures { Gives (λ types objects. objects.items) walker.old walker.new result (λ types. typing.binds_parameter is_definition is_register node name.now (type_in types t)) }
 {
     match name {
         None => Ok(Vec::new(walker.types.alloc())),
-        Some(name) => binds_named(walker, is_definition, node, name.as_slice(), t),
+        Some(name) => binds_named(walker, is_definition, is_register, node, name.as_slice(), t),
     }
 }
 
 fn binds_named(
     walker: &mut Walker,
     is_definition: bool,
+    is_register: bool,
     node: u32,
     name: &[u8],
     t: TypeId,
 ) -> Result<Vec<u32>, TypeStop>
-    ensures { Gives (λ types objects. objects.items) walker.old walker.new result (λ types. typing.binds_parameter is_definition node (Some name.now) (type_in types t)) }
+    ensures { Gives (λ types objects. objects.items) walker.old walker.new result (λ types. typing.binds_parameter is_definition is_register node (Some name.now) (type_in types t)) }
 {
     let object = parameter_object(walker.types.alloc(), is_definition, node, name, t)?;
-    binds_object(walker, object, name)
+    binds_object(walker, object, name, is_register)
 }
 
 // An object, and its name.
-fn binds_object(walker: &mut Walker, object: Object, name: &[u8]) -> Result<Vec<u32>, TypeStop>
-    ensures { Gives (λ types objects. objects.items) walker.old walker.new result (λ types. binding_object name.now (object_of types object)) }
+fn binds_object(
+    walker: &mut Walker,
+    object: Object,
+    name: &[u8],
+    is_register: bool,
+) -> Result<Vec<u32>, TypeStop>
+    ensures { Gives (λ types objects. objects.items) walker.old walker.new result (λ types. binding_object name.now is_register (object_of types object)) }
 {
     let number = walker.add_object(object)?;
     let entity = Entity::Object {
         number,
-        is_register: false,
+        is_register,
     };
     walker.bind(name, entity)?;
     let objects = alone(walker.types.alloc(), number)?;

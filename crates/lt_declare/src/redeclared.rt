@@ -173,13 +173,36 @@ fn is_object_declared_twice(
     let found = walker.names.find_here(name);
     let linked = walker.objects.linked(name);
     let agrees = agrees_with(walker, linked, t)?;
+    let is_function = is_function_elsewhere(walker, name);
     let is_again = has_initialiser & is_started(walker, linked);
-    let differs = !agrees | is_unlinked(walker, found) | is_again;
+    let differs = !agrees | is_unlinked(walker, found) | is_function | is_again;
     Ok(if is_linked(life) {
         differs
     } else {
         found.is_some()
     })
+}
+
+// A name with linkage is a function's or an object's, in whatever scopes it is declared.
+fn is_function_elsewhere(walker: &Walker, name: &[u8]) -> bool
+    ensures { (types : List CType) → result ≡ typing.is_function_elsewhere (known_of types walker.now) name.now }
+{
+    walker.declared.ty(name).is_some()
+}
+
+fn is_object_elsewhere(walker: &Walker, name: &[u8]) -> bool
+    ensures { (types : List CType) → result ≡ typing.is_object_elsewhere (known_of types walker.now) name.now }
+{
+    walker.objects.linked(name).is_some()
+}
+
+fn is_function_declared_twice(walker: &Walker, name: &[u8], t: TypeId) -> Result<bool, AllocError>
+    ensures { IfOk result (λ b. Stays walker.now.types.rows (λ types. b ≡ typing.is_function_declared_twice (known_of types walker.now) name.now (type_in types t))) }
+{
+    let agrees = agrees_with_function(walker, name, t)?;
+    let is_other = is_other_function(walker.names.find_here(name), agrees);
+    let is_object = is_object_elsewhere(walker, name);
+    Ok(is_other | is_object)
 }
 
 fn agrees_with_function(walker: &Walker, name: &[u8], t: TypeId) -> Result<bool, AllocError>
@@ -204,8 +227,8 @@ pub fn is_declared_twice(
             Ok(is_other)
         }
         DeclaredKind::Function => {
-            let agrees = agrees_with_function(walker, name, t)?;
-            Ok(is_other_function(walker.names.find_here(name), agrees))
+            let is_twice = is_function_declared_twice(walker, name, t)?;
+            Ok(is_twice)
         }
         DeclaredKind::Object { life, .. } => {
             is_object_declared_twice(walker, life, name, t, has_initialiser)

@@ -13,11 +13,12 @@ ghost use Rattle.lt_tree.specs.Typing.NodeEnds.{end_of_enumerator};
 ghost use Rattle.lt_table.specs.TableRows.{Makes};
 ghost use Rattle.lt_table.specs.TypesValue.{Widens};
 ghost use Rattle.lt_env.specs.Going.{Gives, answering, known_of};
-ghost use Rattle.lt_declare.specs.DeclaredViews.{naming_of, specified_of};
+ghost use Rattle.lt_declare.specs.DeclaredViews.{naming_of, setting_of, specified_of};
 ghost use Rattle.lt_declare.specs.Declaring.{all_faults};
 
-pub use crate::enums::{end_of_enumerator, enum_named, enum_tagged, open_enum, value_given};
-use crate::made::{Naming, Specified};
+pub use crate::enums::{close_enum, end_of_enumerator, enum_tagged, open_enum, value_given};
+use crate::kinds::is_class;
+use crate::made::{Naming, Setting, Specified};
 pub use crate::structs::{close_struct, open_struct, struct_by_tag};
 use lt_env::{Faults, TypeStop, Walker};
 use lt_model::Scalar;
@@ -25,6 +26,41 @@ use lt_table::Types;
 use lt_tree::typed::{Entity, Rule, TypeId};
 use lt_tree::{BasicType, Specifiers, Storage};
 use std::alloc::AllocError;
+
+/// Where type specifiers stand beside these words, in a declaration or a type name that stands so.
+pub fn beside_words(s: &Specifiers, setting: Setting) -> Setting
+    ensures { setting_of result ≡ typing.beside_words (words_of s.now.storage s.now.inline s.now.noreturn s.now.quals) (setting_of setting) }
+{
+    if is_alone(setting) && has_words(s) {
+        Setting::Elsewhere
+    } else {
+        setting
+    }
+}
+
+/// Whether a declaration is of nothing else.
+pub(crate) fn is_alone(setting: Setting) -> bool
+    ensures { result ≡ typing.is_alone (setting_of setting) }
+{
+    match setting {
+        Setting::Alone => true,
+        Setting::InSizeof | Setting::Elsewhere => false,
+    }
+}
+
+// Whether storage classes, qualifiers or words of functions stand beside the type.
+fn has_words(s: &Specifiers) -> bool
+    ensures { result ≡ typing.has_words (words_of s.now.storage s.now.inline s.now.noreturn s.now.quals) }
+{
+    !s.storage.is_empty() || s.inline || s.noreturn || s.quals.constant || s.quals.volatile
+}
+
+/// Whether they have the storage class `register`.
+pub fn is_register(it: &Specified) -> bool
+    ensures { (types : List CType) → result ≡ typing.is_register (specified_of types it.now) }
+{
+    is_class(Storage::Register, it.storage)
+}
 
 /// Type words that name a type together.
 pub fn basic_named(walker: &mut Walker, basic: BasicType) -> Result<Naming, TypeStop>

@@ -8,38 +8,38 @@ ghost use Rattle.lt_tree.specs.Typing.Rules.{declared_twice};
 ghost use Rattle.lt_tree.specs.Typing.Specifying as typing;
 ghost use Rattle.lt_env.specs.NamesValue.{frames_at};
 ghost use Rattle.lt_env.specs.Going.{Gives, answering, itself, done, known_of};
-ghost use Rattle.lt_declare.specs.DeclaredViews.{members_in, naming_of, open_struct_of};
+ghost use Rattle.lt_declare.specs.DeclaredViews.{members_in, naming_of, open_struct_of, setting_of};
 ghost use Rattle.lt_env.specs.declared.stop.TypeStop.TheVariants.{NoMemory};
 ghost use Rattle.lt_declare.specs.Declaring.{completing, closed};
 
 use crate::enums::enum_named;
-use crate::made::{Naming, OpenStruct};
+use crate::made::{Naming, OpenStruct, Setting};
 use crate::members::OpenMembers;
-use crate::specifiers::names;
+use crate::specifiers::{is_alone, names};
 use lt_env::{Faults, TypeStop, Walker};
 use lt_model::Name;
 use lt_tree::typed::{Member, Rule, Tagged};
 use std::alloc::AllocError;
 
 /// `struct s`: the struct that is visible, or a new one.
-pub fn struct_by_tag(walker: &mut Walker, is_alone: bool, tag: &[u8]) -> Result<Naming, TypeStop>
-    ensures { Gives naming_of walker.old walker.new result (λ types. typing.struct_by_tag is_alone tag.now) }
+pub fn struct_by_tag(walker: &mut Walker, setting: Setting, tag: &[u8]) -> Result<Naming, TypeStop>
+    ensures { Gives naming_of walker.old walker.new result (λ types. typing.struct_by_tag (setting_of setting) tag.now) }
 {
-    match tag_found(walker, is_alone, tag) {
+    match tag_found(walker, setting, tag) {
         None => new_struct(walker, tag),
         Some(Tagged::Struct(number)) => struct_named(walker, number),
-        Some(Tagged::Enum) => {
+        Some(Tagged::Enum(_)) => {
             let faults = declared_twice(walker)?;
             enum_named(walker, faults)
         }
     }
 }
 
-// What a tag stands for, in the innermost frame or in any.
-fn tag_found(walker: &Walker, is_here: bool, tag: &[u8]) -> Option<Tagged>
-    ensures { (types : List CType) → option_map tagged_of result ≡ (if is_here then tag_here tag.now (known_of types walker.now) else tagged_in tag.now (frames_at types walker.now.names)) }
+// What a tag stands for, in the innermost frame where its declaration is of nothing else, or in any.
+fn tag_found(walker: &Walker, setting: Setting, tag: &[u8]) -> Option<Tagged>
+    ensures { (types : List CType) → option_map tagged_of result ≡ (if typing.is_alone (setting_of setting) then tag_here tag.now (known_of types walker.now) else tagged_in tag.now (frames_at types walker.now.names)) }
 {
-    if is_here {
+    if is_alone(setting) {
         walker.names.find_tag_here(tag)
     } else {
         walker.names.find_tag(tag)
@@ -99,7 +99,7 @@ fn open_tagged(walker: &mut Walker, tag: &[u8]) -> Result<OpenStruct, TypeStop>
             number,
             faults: Faults::new(alloc),
         }),
-        Some(Tagged::Enum) => {
+        Some(Tagged::Enum(_)) => {
             let faults = declared_twice(walker)?;
             open_new(walker, faults)
         }

@@ -93,13 +93,10 @@ fn is_read(role: Use) -> bool
 fn reads_volatile(types: &Types, role: Use, typed: &Typed) -> Option<bool>
     ensures { IfSome result (λ b. Stays types.now.rows (λ longer. b ≡ typing.reads_volatile (use_of role) (typed_of longer typed.now))) }
 {
-    let table = types.table();
-    let t = typed.own_type();
-    let is_array = table.is_array(t)?;
-    let quals = table.qualifiers_of(t)?;
+    let quals = types.table().own_qualifiers(typed.own_type())?;
     let is_read = is_read(role);
     let is_lvalue = typed.is_lvalue();
-    Some(is_read && is_lvalue && !is_array && quals.volatile)
+    Some(is_read && is_lvalue && quals.volatile)
 }
 
 impl Walker {

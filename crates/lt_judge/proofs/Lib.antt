@@ -4,3 +4,4 @@ pub mod JudgedBinary
 pub mod JudgedChoices
 pub mod JudgedCommas
 pub mod JudgedMarks
+mod Shifts

@@ -87,7 +87,10 @@ fn can_be_modified(types: &Types, x: &Typed) -> Result<bool, AllocError>
 fn writes_volatile(types: &Types, x: &Typed) -> Result<bool, AllocError>
     ensures { IfOk result (λ b. Stays types.now.rows (λ longer. b ≡ operations.writes_volatile (typed_of longer x.now))) }
 {
-    let quals = types.table().qualifiers_of(x.own_type()).ok_or(AllocError)?;
+    let quals = types
+        .table()
+        .own_qualifiers(x.own_type())
+        .ok_or(AllocError)?;
     Ok(x.is_lvalue() && quals.volatile)
 }
 

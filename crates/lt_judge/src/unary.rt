@@ -20,7 +20,7 @@ ghost use Rattle.lt_tree.specs.Typing.Operations as operations;
 ghost use Rattle.lt_tree.specs.Typing.NodeEnds.{judge_unary};
 ghost use Rattle.lt_tree.specs.Typing.Entities.{Known};
 
-use crate::one_rule::judgement_unless;
+use crate::one_rule::{broken, judgement_unless};
 use crate::shared::{
     converted_value, is_integer, is_pointer, is_scalar, judgement, target_size, write_faults,
 };
@@ -28,7 +28,7 @@ use lt_env::values::{
     cast_to, constant, place_in, placed, scalar_in, target_in, value_in, valued, varies,
 };
 use lt_env::{Faults, Judged, TypeStop, Typed, Walker};
-use lt_model::{DataModel, Op, Scalar, promote};
+use lt_model::{Op, Scalar, promote, size_type};
 use lt_table::{Types, complement, converted, negated, negative};
 use lt_tree::UnaryOp;
 use lt_tree::typed::{Constancy, Place, Rule, TypeId, Value, When, makes};
@@ -221,8 +221,12 @@ fn dereference(types: &mut Types, x: Box<Typed>) -> Result<Box<Judged>, AllocErr
     ensures made { IfOk result (λ j. Stays types.new.rows (λ longer. (known : Known) → known.model ≡ types.old.model → known.structs ≡ structs_at longer types.old → judged_in longer j ≡ operations.judge_dereference (typed_in longer x) known)) }
 {
     let complete = points_to_complete(types, &x)?;
+    if !complete {
+        return broken(types, Rule::BadAddress);
+    }
     let typed = pointed(types, x)?;
-    judgement_unless(types.alloc(), complete, Rule::BadAddress, typed)
+    let alloc = types.alloc();
+    judgement(alloc, Faults::new(alloc), typed)
 }
 
 // Whether it may be changed by adding and subtracting 1.
@@ -318,16 +322,6 @@ pub fn judge_step(
     ensures { Gives judged_in walker.old walker.new result (λ types. answering (λ known. operations.judge_step (when_of gives) op (typed_in types x) known)) }
 {
     Ok(step(&mut walker.types, gives, op, x)?)
-}
-
-// The type that sizes have.
-fn size_type(model: DataModel) -> Scalar
-    ensures { result ≡ extents.size_type model }
-{
-    match model {
-        DataModel::Ilp32 => Scalar::UInt,
-        DataModel::Lp64 => Scalar::ULong,
-    }
 }
 
 #[tactic(auto, unfolding(lt_tree::specs::Typing::Operations::judge_size))]

@@ -14,14 +14,14 @@ use Rattle.lt_tree.specs.Constants.{is_suffix}
 
 -- a type that may not be taken is passed over
 pub passed_over : (m : DataModel) (decimal : Bool) (suffix : List ℕ) (z : ℤ) (types : List Scalar) (i : ℕ) (d : Scalar) → i < length types
-    → (is_listed decimal suffix (get_or types i d) && is_value m (get_or types i d) z) ≡ false → first_that_has m decimal suffix z (drop i types) ≡ first_that_has m decimal suffix z (drop (i + 1) types)
+    → (is_listed m decimal suffix (get_or types i d) && is_value m (get_or types i d) z) ≡ false → first_that_has m decimal suffix z (drop i types) ≡ first_that_has m decimal suffix z (drop (i + 1) types)
 passed_over m decimal suffix z types i d within not =
     ap (first_that_has m decimal suffix z) (drop-cons types i d within)
     ∙ cond-false _ (Some (get_or types i d)) (first_that_has m decimal suffix z (drop (suc i) types)) not
     ∙ ap (λ k. first_that_has m decimal suffix z (drop k types)) (sym (add-one i))
 
 pub taken_here : (m : DataModel) (decimal : Bool) (suffix : List ℕ) (z : ℤ) (types : List Scalar) (i : ℕ) (d : Scalar) → i < length types
-    → (is_listed decimal suffix (get_or types i d) && is_value m (get_or types i d) z) ≡ true → first_that_has m decimal suffix z (drop i types) ≡ Some (get_or types i d)
+    → (is_listed m decimal suffix (get_or types i d) && is_value m (get_or types i d) z) ≡ true → first_that_has m decimal suffix z (drop i types) ≡ Some (get_or types i d)
 taken_here m decimal suffix z types i d within is =
     ap (first_that_has m decimal suffix z) (drop-cons types i d within) ∙ cond-true _ (Some (get_or types i d)) (first_that_has m decimal suffix z (drop (suc i) types)) is
 
@@ -36,8 +36,8 @@ beyond l g n high big = grind (arith, ints)
 too_large : (m : DataModel) (decimal : Bool) (suffix : List ℕ) (n : ℕ) (types : List Scalar) → 2 ^ 64 ≤ n → first_that_has m decimal suffix (pos n) types ≡ None
 too_large m decimal suffix n [] big = refl
 too_large m decimal suffix n (s ∷ types) big =
-    ap (λ has. cond (is_listed decimal suffix s && has) (Some s) (first_that_has m decimal suffix (pos n) types)) (beyond (least_of m s) (greatest_of m s) n (bounds_of m s).high big)
-    ∙ skipped (is_listed decimal suffix s) ∙ too_large m decimal suffix n types big
+    ap (λ has. cond (is_listed m decimal suffix s && has) (Some s) (first_that_has m decimal suffix (pos n) types)) (beyond (least_of m s) (greatest_of m s) n (bounds_of m s).high big)
+    ∙ skipped (is_listed m decimal suffix s) ∙ too_large m decimal suffix n types big
   where
     skipped : (b : Bool) → cond (b && false) (Some s) (first_that_has m decimal suffix (pos n) types) ≡ first_that_has m decimal suffix (pos n) types
     skipped true = refl

@@ -8,3 +8,4 @@ pub mod StructNesting
 pub mod StructTables
 pub mod TypesValue
 pub mod RowsOnce
+pub mod Allocator

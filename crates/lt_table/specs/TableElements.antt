@@ -1,9 +1,8 @@
 -- What a type is made of: of an array its elements, and theirs; of no array the type itself.
 use Rattle.std.specs.Prelude.{◌≡◌, ℕ, ◌*◌, Bool, true, false, not, ◌&&◌, ◌||◌, nat_lt, Option, Some, None, is_some}
 use Rattle.lt_model.specs.declared.scalar.DataModel.{DataModel}
-use Rattle.lt_model.specs.declared.scalar.Scalar.TheVariants as S
 use Rattle.lt_model.specs.declared.sizes.Extent.{Extent}
-use Rattle.lt_model.specs.Layout.{scalar_extent}
+use Rattle.lt_model.specs.Layout.{scalar_extent, pointer_extent}
 use Rattle.lt_tree.specs.Typing.Types.{CType, element, is_floating}
 use Rattle.lt_tree.specs.Typing.Extents.{Structs, members_of, is_complete, elements, type_cells, single_extent, part_is_constant}
 use Rattle.lt_tree.specs.Typing.Declarators.{is_incomplete}
@@ -32,7 +31,7 @@ kind_cells known _ = 0
 
 abbrev pub kind_extent : DataModel → (ℕ → Option Extent) → Kind → Option Extent
 kind_extent m known (kind.Num s) = Some (scalar_extent m s)
-kind_extent m known (kind.Pointer t) = Some (scalar_extent m S.Long)
+kind_extent m known (kind.Pointer t) = Some (pointer_extent m)
 kind_extent m known (kind.Struct k) = known k
 kind_extent m known _ = None
 

@@ -5,6 +5,7 @@ mod queries;
 ghost use Rattle.std.specs.Prelude.{◌≡◌, ◌++◌, ◌∷◌, [], None, Some, length, slice_set, IfOk, OnOk, OnErr};
 ghost use Rattle.lt_table.specs.TableRows.{Grows};
 ghost use Rattle.lt_table.specs.RowsOnce.{AreOnce};
+ghost use Rattle.lt_table.specs.Allocator.{IsTheAllocator};
 
 use crate::structs::StructTable;
 use crate::table::TypeTable;
@@ -45,8 +46,11 @@ impl Types {
         }
     }
 
-    /// Where it takes its memory.
-    pub fn alloc(&self) -> Global {
+    /// Where it takes its memory: the global allocator.
+    #[tactic(auto, unfolding(crate::specs::Allocator::IsTheAllocator))]
+    pub fn alloc(&self) -> Global
+        ensures { IsTheAllocator result }
+    {
         self.alloc
     }
 

@@ -141,23 +141,23 @@ objects_behind : {B : Type 0} (declared : d.Declares) (o : Outcome (List ℕ)) (
 objects_behind declared (Goes objects k) g = refl
 objects_behind declared (Breaks rule node) g = refl
 
-declared_behind : {B : Type 0} (is_definition : Bool) (o : Outcome d.Declares) (g : Found → Walk B)
-    → goes_on o (λ declared k. goes_on (d.binds_parameter is_definition declared.node declared.name (adjusted declared.type) k) (λ objects. g (record { declared = declared; objects = objects })))
-    ≡ goes_on (goes_on o (λ declared k. goes_on (d.binds_parameter is_definition declared.node declared.name (adjusted declared.type) k) (λ objects. gives (record { declared = declared; objects = objects })))) g
-declared_behind is_definition (Goes declared k) g = objects_behind declared (d.binds_parameter is_definition declared.node declared.name (adjusted declared.type) k) g
-declared_behind is_definition (Breaks rule node) g = refl
+declared_behind : {B : Type 0} (is_definition is_register : Bool) (o : Outcome d.Declares) (g : Found → Walk B)
+    → goes_on o (λ declared k. goes_on (d.binds_parameter is_definition is_register declared.node declared.name (adjusted declared.type) k) (λ objects. g (record { declared = declared; objects = objects })))
+    ≡ goes_on (goes_on o (λ declared k. goes_on (d.binds_parameter is_definition is_register declared.node declared.name (adjusted declared.type) k) (λ objects. gives (record { declared = declared; objects = objects })))) g
+declared_behind is_definition is_register (Goes declared k) g = objects_behind declared (d.binds_parameter is_definition is_register declared.node declared.name (adjusted declared.type) k) g
+declared_behind is_definition is_register (Breaks rule node) g = refl
 
 specified_behind : {B : Type 0} (m : c.Declarator) (is_definition : Bool) (o : Outcome s.Specified) (g : Found → Walk B)
-    → goes_on o (λ it k. goes_on (typing.declarator m it false (d.parameter_faults is_definition) k) (λ declared k. goes_on (d.binds_parameter is_definition declared.node declared.name (adjusted declared.type) k) (λ objects. g (record { declared = declared; objects = objects }))))
-    ≡ goes_on (goes_on o (λ it k. goes_on (typing.declarator m it false (d.parameter_faults is_definition) k) (λ declared k. goes_on (d.binds_parameter is_definition declared.node declared.name (adjusted declared.type) k) (λ objects. gives (record { declared = declared; objects = objects }))))) g
-specified_behind m is_definition (Goes it k) g = declared_behind is_definition (typing.declarator m it false (d.parameter_faults is_definition) k) g
+    → goes_on o (λ it k. goes_on (typing.declarator m it false (d.parameter_faults is_definition) k) (λ declared k. goes_on (d.binds_parameter is_definition (s.is_register it) declared.node declared.name (adjusted declared.type) k) (λ objects. g (record { declared = declared; objects = objects }))))
+    ≡ goes_on (goes_on o (λ it k. goes_on (typing.declarator m it false (d.parameter_faults is_definition) k) (λ declared k. goes_on (d.binds_parameter is_definition (s.is_register it) declared.node declared.name (adjusted declared.type) k) (λ objects. gives (record { declared = declared; objects = objects }))))) g
+specified_behind m is_definition (Goes it k) g = declared_behind is_definition (s.is_register it) (typing.declarator m it false (d.parameter_faults is_definition) k) g
 specified_behind m is_definition (Breaks rule node) g = refl
 
 pub list_made : (list : List Parameter) (is_definition : Bool) (k : Known) → goes_on (found.parameters list is_definition k) makes_list ≡ typing.parameter_list (parameter_list_in list) is_definition k
 list_made [] is_definition k = refl
 list_made (p ∷ rest) is_definition k =
     found_before rest is_definition (found.parameter (specifiers_of p.specifiers) (declarator_of p.declarator) is_definition k) (list_made rest is_definition)
-    ∙ sym (specified_behind (declarator_of p.declarator) is_definition (typing.specifiers (specifiers_of p.specifiers) false k) (λ f k. goes_on (typing.parameter_list (parameter_list_in rest) is_definition k) (λ others. gives (with_found f others))))
+    ∙ sym (specified_behind (declarator_of p.declarator) is_definition (typing.specifiers (specifiers_of p.specifiers) s.elsewhere k) (λ f k. goes_on (typing.parameter_list (parameter_list_in rest) is_definition k) (λ others. gives (with_found f others))))
 
 -- ---- from the last to the first
 

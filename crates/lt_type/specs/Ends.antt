@@ -118,8 +118,8 @@ abbrev pub array_end : Bool → Option Typed → Walk Part
 array_end is_outermost n = gives (an_array (length_or_none is_outermost n))
 
 -- a parameter ends
-abbrev pub found_end : Declares → Bool → Walk Found
-found_end declared is_definition = binds_parameter is_definition declared.node declared.name (adjusted declared.type) >>= (λ objects. gives (record { declared = declared; objects = objects }))
+abbrev pub found_end : Declares → (is_definition is_register : Bool) → Walk Found
+found_end declared is_definition is_register = binds_parameter is_definition is_register declared.node declared.name (adjusted declared.type) >>= (λ objects. gives (record { declared = declared; objects = objects }))
 
 abbrev pub without_any : Known → Parameters
 without_any known = no_parameters_yet (innermost known.frames)

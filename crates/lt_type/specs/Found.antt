@@ -9,6 +9,7 @@ use Rattle.lt_tree.specs.Records.{specifiers_of, declarator_of}
 use Rattle.lt_tree.specs.Typing.Types.{CType, adjusted}
 use Rattle.lt_tree.specs.Typing.Entities.{Known}
 use Rattle.lt_tree.specs.Typing.Steps.{Walk, ◌>>=◌, gives, in_block}
+use Rattle.lt_tree.specs.Typing.Specifying.{elsewhere, is_register}
 use Rattle.lt_tree.specs.Typing.Declarators as d
 use Rattle.lt_tree.specs.Typing.ExpressionTyping as typing
 use Rattle.lt_type.specs.declared.walk.shapes.Shape.{Shape}
@@ -61,8 +62,8 @@ found_of types p = record { declared = declares_of types p.declared; objects = p
 
 abbrev pub parameter : c.Specifiers → c.Declarator → (is_definition : Bool) → Walk Found
 parameter s it_declares is_definition =
-    typing.specifiers s false >>= (λ it. typing.declarator it_declares it false (d.parameter_faults is_definition) >>= (λ declared.
-    d.binds_parameter is_definition declared.node declared.name (adjusted declared.type) >>= (λ objects. gives (record { declared = declared; objects = objects }))))
+    typing.specifiers s elsewhere >>= (λ it. typing.declarator it_declares it false (d.parameter_faults is_definition) >>= (λ declared.
+    d.binds_parameter is_definition (is_register it) declared.node declared.name (adjusted declared.type) >>= (λ objects. gives (record { declared = declared; objects = objects }))))
 
 abbrev pub parameters : List Parameter → (is_definition : Bool) → Walk (List Found)
 parameters [] is_definition = gives []

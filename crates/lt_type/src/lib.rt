@@ -5,7 +5,7 @@
 mod walk;
 
 pub use lt_declare::{
-    Built, DeclaredKind, Declares, Judging, Naming, Parameters, Specified, kind_of,
+    Built, DeclaredKind, Declares, Judging, Naming, Parameters, Setting, Specified, kind_of,
 };
 pub use lt_env::values::{constancy_to, converted_to, value_in};
 pub use lt_env::{

@@ -15,12 +15,13 @@ ghost use Rattle.lt_tree.specs.Typing.Steps.{gives};
 ghost use Rattle.lt_tree.specs.Typing.Expressions as expressions;
 ghost use Rattle.lt_table.specs.TableRows.{Stays};
 ghost use Rattle.lt_table.specs.TypesValue.{Widens};
+ghost use Rattle.lt_tree.specs.Typing.Specifying.{alone, elsewhere};
 ghost use Rattle.lt_tree.specs.Typing.DeclarationTyping as typing;
 ghost use Rattle.lt_tree.specs.Typing.StatementTyping as statements;
 ghost use Rattle.lt_env.specs.declared.stop.TypeStop.TheVariants.{NoMemory};
 ghost use Rattle.lt_env.specs.Going.{Gives, answering};
 ghost use Rattle.lt_env.specs.Views.{typed_in};
-ghost use Rattle.lt_declare.specs.DeclaredViews.{specified_of, declares_of};
+ghost use Rattle.lt_declare.specs.DeclaredViews.{specified_of, setting_of, declares_of};
 ghost use Rattle.lt_declare.specs.DeclaredKinds as kinds;
 ghost use Rattle.lt_unit.specs.UnitViews.{locals_of, local_in, declared_locals_of, for_start_in, with_storage, started_of};
 
@@ -33,8 +34,8 @@ use lt_table::Types;
 use lt_tree::typed::{Entity, ForStart as TypedForStart, Life, Local, Start, TypeId, Value};
 use lt_tree::{Declaration, Expr, ForStart, InitDeclarator, Initialiser, Storage};
 use lt_type::{
-    DeclaredKind, Declares, Faults, Judging, Specified, TypeStop, Typed, Use, Walker, declarator,
-    expression, specifiers, value_in,
+    DeclaredKind, Declares, Faults, Judging, Setting, Specified, TypeStop, Typed, Use, Walker,
+    declarator, expression, specifiers, value_in,
 };
 use std::alloc::{AllocError, Global};
 
@@ -57,21 +58,32 @@ pub fn declaration(walker: &mut Walker, d: &Declaration) -> Result<DeclaredLocal
     ensures { Gives declared_locals_of walker.old walker.new result (λ types. typing.declaration (source.declaration_of d.now)) }
 {
     let is_alone = has_no_declarator(d.declarators.as_slice());
-    let it = specifiers(walker, &d.specifiers, is_alone)?;
+    let it = specifiers(walker, &d.specifiers, setting(is_alone))?;
     let class = it.storage;
     let locals = init_declarators(walker, &it, class, d.declarators.as_slice())?;
     left_over(walker, it, is_alone, locals)
 }
 
-// A declaration in the head of a `for`, where only `static` and `typedef` have an effect.
+// A declaration in the head of a `for`, where only `static`, `typedef` and `register` have an effect.
 fn declaration_in_for(walker: &mut Walker, d: &Declaration) -> Result<DeclaredLocals, TypeStop>
     ensures { Gives declared_locals_of walker.old walker.new result (λ types. typing.declaration_in_for (source.declaration_of d.now)) }
 {
     let is_alone = has_no_declarator(d.declarators.as_slice());
-    let it = specifiers(walker, &d.specifiers, is_alone)?;
+    let it = specifiers(walker, &d.specifiers, setting(is_alone))?;
     let class = effective_in_for(it.storage);
     let locals = init_declarators(walker, &it, class, d.declarators.as_slice())?;
     left_over(walker, it, is_alone, locals)
+}
+
+// Where the specifiers of a declaration stand.
+fn setting(is_alone: bool) -> Setting
+    ensures { setting_of result ≡ (if is_alone then alone else elsewhere) }
+{
+    if is_alone {
+        Setting::Alone
+    } else {
+        Setting::Elsewhere
+    }
 }
 
 // Whether no declarator follows.
@@ -90,6 +102,7 @@ fn effective_in_for(class: Option<Storage>) -> Option<Storage>
     match class {
         Some(Storage::Static) => Some(Storage::Static),
         Some(Storage::Typedef) => Some(Storage::Typedef),
+        Some(Storage::Register) => Some(Storage::Register),
         _ => None,
     }
 }

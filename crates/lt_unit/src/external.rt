@@ -28,7 +28,8 @@ use lt_table::TypeTable;
 use lt_tree::typed::{Function, Item as TypedItem, Program, TypeId};
 use lt_tree::{Declaration, External, FunctionDefinition, Item, Unit};
 use lt_type::{
-    Declares, Judging, NameFrame, NameSet, Parameters, TypeStop, Walker, declarator, specifiers,
+    Declares, Judging, NameFrame, NameSet, Parameters, Setting, TypeStop, Walker, declarator,
+    specifiers,
 };
 use std::alloc::{AllocError, Global};
 
@@ -104,7 +105,7 @@ fn definition(walker: &mut Walker, f: &FunctionDefinition) -> Result<(), TypeSto
     ensures { Gives done walker.old walker.new result (λ types. typing.external (c.Defines (specifiers_of f.now.specifiers) (declarator_of f.now.declarator) (source.items_in f.now.body.items))) }
 {
     let node = walker.enter()?;
-    let it = specifiers(walker, &f.specifiers, false)?;
+    let it = specifiers(walker, &f.specifiers, Setting::Elsewhere)?;
     let judging = Judging::Definition { class: it.storage };
     let declared = declarator(walker, &f.declarator, &it, true, judging)?;
     defines(walker, node, declared, f.body.as_slice())

@@ -59,10 +59,10 @@ fn both(p: Quals, q: Quals) -> Quals
 
 // The qualifiers of both.
 fn both_qualifiers(types: &Types, t: TypeId, u: TypeId) -> Result<Quals, AllocError>
-    ensures { IfOk result (λ quals. Stays types.now.rows (λ longer. view.qualifiers_of quals ≡ kinds.both (kinds.qualifiers_of (type_in longer t)) (kinds.qualifiers_of (type_in longer u)))) }
+    ensures { IfOk result (λ quals. Stays types.now.rows (λ longer. view.qualifiers_of quals ≡ kinds.both (kinds.own_qualifiers (type_in longer t)) (kinds.own_qualifiers (type_in longer u)))) }
 {
-    let p = types.table().qualifiers_of(t).ok_or(AllocError)?;
-    let q = types.table().qualifiers_of(u).ok_or(AllocError)?;
+    let p = types.table().own_qualifiers(t).ok_or(AllocError)?;
+    let q = types.table().own_qualifiers(u).ok_or(AllocError)?;
     Ok(both(p, q))
 }
 

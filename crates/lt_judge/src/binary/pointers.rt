@@ -5,7 +5,6 @@ ghost use Rattle.lt_tree.specs.Typing.Types as kinds;
 ghost use Rattle.lt_tree.specs.Typing.TypeRows.{type_in};
 ghost use Rattle.lt_tree.specs.Typing.ValueView.{value_of};
 ghost use Rattle.lt_tree.specs.Typing.ConstancyView.{constancy_of};
-ghost use Rattle.lt_tree.specs.Typing.Extents as extents;
 ghost use Rattle.lt_tree.specs.Typing.Constants as constants;
 ghost use Rattle.lt_tree.specs.Typing.Expressions as typing;
 ghost use Rattle.lt_tree.specs.Typing.BinaryOperations as binary;
@@ -21,7 +20,7 @@ use crate::shared::{
 };
 use lt_env::values::{converted_to, value_in, valued, varies};
 use lt_env::{Objects, Typed};
-use lt_model::{DataModel, Op, Scalar};
+use lt_model::{Op, Scalar, difference_type};
 use lt_table::{Types, moved_back, moved_by};
 use lt_tree::typed::makes::value;
 use lt_tree::typed::{Constancy, TypeId, Value};
@@ -61,16 +60,6 @@ fn moved(
     let value = value::move_by(alloc, ty, op, size, side, left, right)?;
     let all = valued(alloc, value, at, at)?;
     Ok(all)
-}
-
-// The type of a difference of pointers.
-fn difference_type(model: DataModel) -> Scalar
-    ensures { result ≡ extents.difference_type model }
-{
-    match model {
-        DataModel::Ilp32 => Scalar::Int,
-        DataModel::Lp64 => Scalar::Long,
-    }
 }
 
 // The number of elements between two pointers.

@@ -8,7 +8,7 @@ ghost use Rattle.lt_tree.specs.Constants as texts;
 ghost use Rattle.lt_tree.specs.Typing.Constants as typing;
 ghost use Rattle.lt_table.specs.ConstantViews.{constant_in};
 
-use lt_model::{DataModel, Scalar, is_signed, is_value};
+use lt_model::{DataModel, Scalar, convert, is_signed, is_value};
 use lt_tree::{escape, hex_value};
 
 /// A type and a value of it.
@@ -139,14 +139,14 @@ fn is_as_long(ty: Scalar, longs: usize) -> bool
 }
 
 // Whether a constant with this suffix may have a type.
-fn is_listed(decimal: bool, suffix: &[u8], ty: Scalar) -> bool
-    ensures { result ≡ typing.is_listed decimal suffix.now ty }
+fn is_listed(model: DataModel, decimal: bool, suffix: &[u8], ty: Scalar) -> bool
+    ensures { result ≡ typing.is_listed model decimal suffix.now ty }
 {
     let unsigned = has_unsigned_mark(suffix);
     if !is_as_long(ty, long_marks(suffix)) {
         return false;
     }
-    if is_signed(ty) {
+    if is_signed(model, ty) {
         !unsigned
     } else {
         unsigned || !decimal
@@ -156,9 +156,9 @@ fn is_listed(decimal: bool, suffix: &[u8], ty: Scalar) -> bool
 // Whether a constant with this suffix and this value may have a type.
 fn may_have(model: DataModel, decimal: bool, suffix: &[u8], value: u128, ty: Scalar) -> bool
     requires { value ≤ 2 ^ 64 }
-    ensures { result ≡ (typing.is_listed decimal suffix.now ty && is_value model ty (pos value)) }
+    ensures { result ≡ (typing.is_listed model decimal suffix.now ty && is_value model ty (pos value)) }
 {
-    is_listed(decimal, suffix, ty) && is_value(model, ty, value as i128)
+    is_listed(model, decimal, suffix, ty) && is_value(model, ty, value as i128)
 }
 
 // The first of these types that a constant may have and that has its value.
@@ -180,30 +180,19 @@ fn first_that_has(
     None
 }
 
-// The value of a character.
-fn char_value(b: u8) -> i128
-    ensures { result ≡ texts.char_value b }
-{
-    if b < 128 {
-        i128::from(b)
-    } else {
-        i128::from(b) - 256
-    }
-}
-
-fn before_quote(b: u8, rest: &[u8]) -> Option<i128>
+fn before_quote(b: u8, rest: &[u8]) -> Option<u8>
     ensures { result ≡ texts.before_quote (Some (b, rest.now)) }
 {
     if rest == b"'".as_slice() {
-        Some(char_value(b))
+        Some(b)
     } else {
         None
     }
 }
 
-/// The value of a character constant, behind its opening quote.
-pub fn character_value(text: &[u8]) -> Option<i128>
-    ensures { result ≡ texts.character_value text.now }
+/// The byte of a character constant, behind its opening quote.
+pub fn character_byte(text: &[u8]) -> Option<u8>
+    ensures { result ≡ texts.character_byte text.now }
 {
     match text.split_first() {
         None => None,
@@ -255,6 +244,13 @@ fn integer_of(model: DataModel, text: &[u8]) -> Option<TypedConstant>
     typed(model, is_decimal(text), value, suffix)
 }
 
+// The value of a character, as a plain `char` has it.
+fn char_value(model: DataModel, c: u8) -> i128
+    ensures { result ≡ typing.char_value model c }
+{
+    convert(model, Scalar::UChar, Scalar::Char, i128::from(c))
+}
+
 /// The type and the value of an integer or character constant, as written; none where it fits no type of its list.
 pub fn constant_of(model: DataModel, text: &[u8]) -> Option<TypedConstant>
     ensures { option_map constant_in result ≡ typing.constant_of model text.now }
@@ -263,11 +259,11 @@ pub fn constant_of(model: DataModel, text: &[u8]) -> Option<TypedConstant>
         None => None,
         Some((b, rest)) => {
             if *b == b'\'' {
-                match character_value(rest) {
+                match character_byte(rest) {
                     None => None,
-                    Some(value) => Some(TypedConstant {
+                    Some(c) => Some(TypedConstant {
                         ty: Scalar::Int,
-                        value,
+                        value: char_value(model, c),
                     }),
                 }
             } else {

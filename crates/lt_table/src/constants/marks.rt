@@ -3,9 +3,10 @@
 ghost use Rattle.std.specs.Prelude.{◌≡◌, Some};
 ghost use Rattle.std.specs.List.{list_all};
 ghost use Rattle.lt_model.specs.Plain as plain;
+ghost use Rattle.lt_tree.specs.Constants as texts;
 ghost use Rattle.lt_tree.specs.Typing.MarkRules as marks;
 
-use crate::constants::literals::{character_value, integer_parts, is_suffix};
+use crate::constants::literals::{character_byte, integer_parts, is_suffix};
 
 /// The greatest id that a text may have.
 const GREATEST_ID: i128 = 1_000_000_000;
@@ -20,7 +21,18 @@ fn id_from(value: i128) -> Option<u32>
     }
 }
 
-/// The number that an id says, if it may be one.
+// A byte as a `signed char`.
+fn signed_byte(b: u8) -> i128
+    ensures { result ≡ texts.signed_byte b }
+{
+    if b < 128 {
+        i128::from(b)
+    } else {
+        i128::from(b) - 256
+    }
+}
+
+/// The number that an id says, if it may be one. A character is read as signed, whatever plain `char` is.
 pub fn id_of(text: &[u8]) -> Option<u32>
     ensures { result ≡ marks.id_of text.now }
 {
@@ -28,9 +40,9 @@ pub fn id_of(text: &[u8]) -> Option<u32>
         None => None,
         Some((b, rest)) => {
             if *b == b'\'' {
-                match character_value(rest) {
+                match character_byte(rest) {
                     None => None,
-                    Some(value) => id_from(value),
+                    Some(b) => id_from(signed_byte(b)),
                 }
             } else {
                 let (value, suffix) = integer_parts(text);

@@ -1,6 +1,8 @@
 // Integer constant expressions, C11 6.6p6, and their conversions.
 
 ghost use Rattle.std.specs.Prelude.{◌≡◌};
+ghost use Rattle.lt_model.specs.declared.scalar.DataModel.{DataModel};
+ghost use Rattle.lt_model.specs.declared.scalar.Scalar.TheVariants as scalars;
 ghost use Rattle.lt_model.specs.Scalar.{convert_of, IsValue};
 ghost use Rattle.lt_tree.specs.Typing.Constants as typing;
 ghost use Rattle.lt_tree.specs.Typing.ConstancyView.{constancy_of};
@@ -69,10 +71,29 @@ pub fn converted(model: DataModel, ty: Scalar, c: Constancy) -> Constancy
     }
 }
 
-/// What it is once it is converted to an integer type.
+/// What it is once it is converted to an integer type; an address has a truth.
 pub fn constancy_as_number(model: DataModel, ty: Scalar, c: Constancy) -> Constancy
     ensures is { constancy_of result ≡ expressions.constancy_as_number model ty (constancy_of c) }
     ensures fits { IfNumber (constancy_of result) (IsValue model ty) }
 {
-    converted(model, ty, c)
+    match c {
+        Constancy::Number(z) => Constancy::Number(number_as(model, ty, z)),
+        Constancy::Faulty => Constancy::Faulty,
+        _ => match ty {
+            Scalar::Bool => truth_of_address(c),
+            _ => Constancy::Varying,
+        },
+    }
+}
+
+// The truth of an address, C11 6.3.1.2.
+fn truth_of_address(c: Constancy) -> Constancy
+    ensures is { constancy_of result ≡ expressions.truth_of_address (constancy_of c) }
+    ensures fits { (model : DataModel) → IfNumber (constancy_of result) (IsValue model scalars.Bool) }
+{
+    match c {
+        Constancy::NullConstant | Constancy::NullAddress => Constancy::Number(0),
+        Constancy::Address { .. } => Constancy::Number(1),
+        _ => Constancy::Varying,
+    }
 }

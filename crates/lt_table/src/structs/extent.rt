@@ -1,8 +1,8 @@
-ghost use Rattle.std.specs.Prelude.{◌≡◌, ◌+◌, ◌*◌, ◌^◌, min, option_map};
-ghost use Rattle.lt_model.specs.Layout.{within, rounded, resized, member_offset, with_member, no_members, scalar_extent};
+ghost use Rattle.std.specs.Prelude.{◌≡◌, ◌+◌, ◌*◌, ◌≤◌, ◌^◌, min, option_map};
+ghost use Rattle.lt_model.specs.Layout.{within, rounded, resized, member_offset, with_member, no_members, extent_for, scalar_extent, pointer_extent};
 ghost use Rattle.lt_table.specs.StructTables.{extent_value};
 
-use lt_model::{DataModel, Scalar, width};
+use lt_model::{DataModel, Scalar, pointer_width, width};
 
 /// The size and the alignment of a type, in bytes.
 #[derive(Clone, Copy, PartialEq, Eq, Debug)]
@@ -21,15 +21,30 @@ pub fn no_members() -> Extent
     }
 }
 
-/// Of a scalar.
-pub fn scalar_extent(model: DataModel, ty: Scalar) -> Extent
-    ensures { extent_value result ≡ scalar_extent model ty }
+// Of a scalar or a pointer of so many bits.
+fn extent_for(bits: u32) -> Extent
+    requires { bits ≤ 64 }
+    ensures { extent_value result ≡ extent_for bits }
 {
-    let bytes = u64::from((width(model, ty) + 7) / 8);
+    let bytes = u64::from((bits + 7) / 8);
     Extent {
         size: bytes,
         alignment: bytes,
     }
+}
+
+/// Of a scalar.
+pub fn scalar_extent(model: DataModel, ty: Scalar) -> Extent
+    ensures { extent_value result ≡ scalar_extent model ty }
+{
+    extent_for(width(model, ty))
+}
+
+/// Of a pointer.
+pub fn pointer_extent(model: DataModel) -> Extent
+    ensures { extent_value result ≡ pointer_extent model }
+{
+    extent_for(pointer_width(model))
 }
 
 /// The next multiple of an alignment.

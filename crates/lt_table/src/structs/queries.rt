@@ -10,10 +10,9 @@ ghost use Rattle.lt_table.specs.TableElements.{kind_is_complete, kind_is_incompl
 ghost use Rattle.lt_table.specs.TableRows.{Stays};
 ghost use Rattle.lt_table.specs.StructTables.{structs_in, has_members, extent_value, known_at, facts_cells, facts_extent, facts_constant, row_cells, row_extent, row_constant, Suits};
 
-use super::extent::{Extent, repeated, scalar_extent};
+use super::extent::{Extent, pointer_extent, repeated, scalar_extent};
 use super::{StructFacts, StructTable};
 use crate::table::{Kind, RowFacts, TypeTable};
-use lt_model::Scalar;
 use lt_tree::typed::TypeId;
 
 // The most cells that an object may have.
@@ -149,7 +148,7 @@ impl StructTable {
     {
         match kind {
             Kind::Num(scalar) => Some(scalar_extent(self.model, scalar)),
-            Kind::Pointer(_) => Some(scalar_extent(self.model, Scalar::Long)),
+            Kind::Pointer(_) => Some(pointer_extent(self.model)),
             Kind::Struct(number) => match self.known(number) {
                 Some(facts) => facts.extent,
                 None => None,

@@ -170,8 +170,8 @@ impl TypeTable {
     {
         match self.both_targets(t, u)? {
             Some((a, b)) => {
-                let p = self.qualifiers_of(a)?;
-                let q = self.qualifiers_of(b)?;
+                let p = self.own_qualifiers(a)?;
+                let q = self.own_qualifiers(b)?;
                 Some(include(p, q))
             }
             None => Some(false),

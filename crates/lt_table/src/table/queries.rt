@@ -1,5 +1,5 @@
-ghost use Rattle.std.specs.Prelude.{◌≡◌, ◌<◌, ◌↔◌, length, IsSome, IfSome, option_map};
-ghost use Rattle.lt_tree.specs.Typing.Types.{unqualified, element, qualifiers_of, target_of, scalar_of, struct_of, is_void, is_integer, is_pointer, is_struct, is_array, is_function, is_floating, is_scalar, is_pointer_to_function};
+ghost use Rattle.std.specs.Prelude.{◌≡◌, ◌<◌, ◌↔◌, length, IsSome, IfSome, option_map, if◌then◌else◌};
+ghost use Rattle.lt_tree.specs.Typing.Types.{unqualified, element, qualifiers_of, own_qualifiers, no_qualifiers, target_of, scalar_of, struct_of, is_void, is_integer, is_pointer, is_struct, is_array, is_function, is_floating, is_scalar, is_pointer_to_function};
 ghost use Rattle.lt_tree.specs.Typing.TypeRows.{type_in};
 ghost use Rattle.lt_table.specs.TableKinds.{kind_part, IsOfKind};
 ghost use Rattle.lt_table.specs.TableRows.{Stays, IsArrayOf, IsFunctionOf};
@@ -55,13 +55,23 @@ impl TypeTable {
         Some(facts.element)
     }
 
-    /// Its own qualifiers; for an array those of its elements.
+    /// Its qualifiers; for an array those of its elements.
     pub fn qualifiers_of(&self, t: TypeId) -> Option<Quals>
         ensures row { IsSome result ↔ (t.place < length self.now) }
         ensures value { IfSome result (λ q. Stays self.now (λ types. view.qualifiers_of q ≡ qualifiers_of (type_in types t))) }
     {
         let facts = self.facts(t)?;
         Some(facts.quals)
+    }
+
+    /// Its own qualifiers: an array has none.
+    pub fn own_qualifiers(&self, t: TypeId) -> Option<Quals>
+        ensures row { IsSome result ↔ (t.place < length self.now) }
+        ensures value { IfSome result (λ q. Stays self.now (λ types. view.qualifiers_of q ≡ own_qualifiers (type_in types t))) }
+    {
+        let is_array = self.is_array(t)?;
+        let quals = self.qualifiers_of(t)?;
+        Some(own(is_array, quals))
     }
 
     /// What a function takes and gives.
@@ -184,5 +194,19 @@ impl TypeTable {
             Some(target) => self.is_function(target),
             None => Some(false),
         }
+    }
+}
+
+// The own qualifiers of a type whose elements have these, if it is an array.
+fn own(is_array: bool, quals: Quals) -> Quals
+    ensures { view.qualifiers_of result ≡ (if is_array then no_qualifiers else view.qualifiers_of quals) }
+{
+    if is_array {
+        Quals {
+            constant: false,
+            volatile: false,
+        }
+    } else {
+        quals
     }
 }

@@ -14,7 +14,7 @@ ghost use Rattle.lt_type.specs.Found as found;
 ghost use Rattle.lt_type.specs.Found.{part_of};
 ghost use Rattle.lt_type.specs.Ends.{declarator_end, sizeof_type_end, cast_end, array_end};
 ghost use Rattle.lt_env.specs.Views.{use_of, typed_in, judged_in};
-ghost use Rattle.lt_declare.specs.DeclaredViews.{specified_of, built_of, declares_of, judging_of};
+ghost use Rattle.lt_declare.specs.DeclaredViews.{specified_of, setting_of, built_of, declares_of, judging_of};
 ghost use Rattle.std.specs.Prelude.{List, option_map};
 
 use crate::walk::expression;
@@ -22,7 +22,7 @@ use crate::walk::naming::{maybe, specifiers};
 use crate::walk::parameters::block_of_parameters;
 use crate::walk::shapes::{Shape, with_shapes};
 use lt_declare::declarators::{end_of_declarator, enter_if, judged_faults, length_or_none};
-use lt_declare::{Built, Declares, Judging, Specified};
+use lt_declare::{Built, Declares, Judging, Setting, Specified};
 use lt_env::{Faults, Judged, TypeStop, Typed, Use, Walker};
 use lt_judge::{calls, unary};
 use lt_model::Name;
@@ -156,9 +156,21 @@ pub fn size_of_type(walker: &mut Walker, name: &TypeName, role: Use) -> Result<B
     ensures { Gives typed_in walker.old walker.new result (λ types. typing.expression (c.SizeofType (specifiers_of name.now.specifiers) (declarator_of name.now.declarator)) (use_of role)) }
 {
     let node = walker.enter()?;
-    let it = specifiers(walker, &name.specifiers, false)?;
+    let setting = setting_in_sizeof(&name.declarator);
+    let it = specifiers(walker, &name.specifiers, setting)?;
     let t = declarator(walker, &name.declarator, &it, false, Judging::TypeName)?;
     end_size_of_type(walker, node, role, t)
+}
+
+// Where the type specifiers of a type name in `sizeof` stand.
+fn setting_in_sizeof(m: &Declarator) -> Setting
+    ensures { setting_of result ≡ d.setting_in_sizeof (declarator_of m.now) }
+{
+    if is_written(&m.name, m.parts.as_slice()) {
+        Setting::Elsewhere
+    } else {
+        Setting::InSizeof
+    }
 }
 
 // `sizeof` of a type ends.
@@ -203,7 +215,7 @@ pub fn cast(
     ensures { Gives typed_in walker.old walker.new result (λ types. typing.expression (c.Cast (specifiers_of name.now.specifiers) (declarator_of name.now.declarator) (expression_of operand.now)) (use_of role)) }
 {
     let node = walker.enter()?;
-    let it = specifiers(walker, &name.specifiers, false)?;
+    let it = specifiers(walker, &name.specifiers, Setting::Elsewhere)?;
     let t = declarator(walker, &name.declarator, &it, false, Judging::TypeName)?;
     let x = expression(walker, operand, Use::Value)?;
     end_cast(walker, node, role, t, x)

@@ -16,7 +16,7 @@ use lt_env::{TypeStop, Typed, Use, Walker};
 use lt_judge::marks::end_of_mark;
 use lt_tree::{Binding, Expr, Mark, typed};
 
-/// How an expression behind marks is used.
+/// How an expression behind marks, or the operand of a `pc_decide`, is used.
 fn use_in_mark(role: Use) -> Use
     ensures { use_of result ≡ inside_mark (use_of role) }
 {
@@ -111,7 +111,7 @@ pub fn decide(
     ensures { Gives typed_in walker.old walker.new result (λ types. typing.expression (c.Decide (expression_of operand.now) when_true.now when_false.now tag.now) (use_of role)) }
 {
     let node = walker.enter()?;
-    let x = expression(walker, operand, Use::Truth)?;
+    let x = expression(walker, operand, use_in_mark(role))?;
     end_decide(walker, node, role, x, when_true, when_false, tag)
 }
 

@@ -16,7 +16,7 @@ ghost use Rattle.lt_declare.specs.DeclaredViews.{members_in, specified_of, decla
 
 use crate::walk::declarators::declarator;
 use crate::walk::naming::{maybe, specifiers};
-use lt_declare::{Declares, Judging, OpenMembers, Specified};
+use lt_declare::{Declares, Judging, OpenMembers, Setting, Specified};
 use lt_env::{Faults, TypeStop, Walker};
 use lt_model::Name;
 use lt_tree::typed::Rule;
@@ -48,7 +48,7 @@ fn member(walker: &mut Walker, m: &Member, found: OpenMembers) -> Result<OpenMem
     ensures { Gives members_in walker.old walker.new result (λ types. typing.struct_member (member_of m.now) (members_in types found)) }
 {
     let node = walker.enter()?;
-    let it = specifiers(walker, &m.specifiers, false)?;
+    let it = specifiers(walker, &m.specifiers, Setting::Elsewhere)?;
     let all = member_declarators(walker, m.declarators.as_slice(), &it, found)?;
     end_member(
         walker,

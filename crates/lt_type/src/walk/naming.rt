@@ -1,20 +1,20 @@
 // Specifiers, with structs, enums and enumerators, C11 6.7.1 to 6.7.3.
 
-ghost use Rattle.std.specs.Prelude.{◌≡◌, false, pos, map, option_map};
+ghost use Rattle.std.specs.Prelude.{◌≡◌, pos, map, option_map};
 ghost use Rattle.lt_tree.specs.View.{type_of};
 ghost use Rattle.lt_tree.specs.Records.{maybe_in, specifiers_of, types_in, members_in, enumerators_in};
 ghost use Rattle.lt_tree.specs.Tree as c;
 ghost use Rattle.lt_tree.specs.Typing.ExpressionTyping as typing;
 ghost use Rattle.lt_tree.specs.Typing.NodeEnds.{end_of_enumerator};
-ghost use Rattle.lt_tree.specs.Typing.Specifying.{value_given};
+ghost use Rattle.lt_tree.specs.Typing.Specifying.{value_given, elsewhere};
 ghost use Rattle.lt_env.specs.Going.{Gives, itself, done};
 ghost use Rattle.lt_type.specs.Ends.{enumerator};
 ghost use Rattle.lt_env.specs.Views.{typed_in};
-ghost use Rattle.lt_declare.specs.DeclaredViews.{naming_of, specified_of};
+ghost use Rattle.lt_declare.specs.DeclaredViews.{naming_of, setting_of, specified_of};
 
 use crate::walk::members::members;
 use crate::walk::operators::unmarked;
-use lt_declare::{Naming, Specified, specifiers as ends};
+use lt_declare::{Naming, Setting, Specified, specifiers as ends};
 use lt_env::{TypeStop, Typed, Use, Walker};
 use lt_model::Name;
 use lt_tree::{Enumerator, Expr, Member, Specifiers, TypeSpecifier};
@@ -33,16 +33,17 @@ pub fn maybe(walker: &mut Walker, e: &Option<Box<Expr>>) -> Result<Option<Box<Ty
     }
 }
 
-/// Goes over the specifiers of a declaration, which declares nothing but a tag where they are alone.
+/// Goes over the specifiers of a declaration, a parameter or a type name.
 #[cycle(typing)]
 pub fn specifiers(
     walker: &mut Walker,
     s: &Specifiers,
-    is_alone: bool,
+    setting: Setting,
 ) -> Result<Specified, TypeStop>
-    ensures { Gives specified_of walker.old walker.new result (λ types. typing.specifiers (specifiers_of s.now) is_alone) }
+    ensures { Gives specified_of walker.old walker.new result (λ types. typing.specifiers (specifiers_of s.now) (setting_of setting)) }
 {
-    let namings = type_specifiers(walker, s.types.as_slice(), is_alone)?;
+    let beside = ends::beside_words(s, setting);
+    let namings = type_specifiers(walker, s.types.as_slice(), beside)?;
     ends::specified(walker, s, namings)
 }
 
@@ -50,13 +51,13 @@ pub fn specifiers(
 fn type_specifiers(
     walker: &mut Walker,
     list: &[TypeSpecifier],
-    is_alone: bool,
+    setting: Setting,
 ) -> Result<Vec<Naming>, TypeStop>
-    ensures { Gives (λ types all. map (naming_of types) all.items) walker.old walker.new result (λ types. typing.type_specifiers (types_in list.now) is_alone) }
+    ensures { Gives (λ types all. map (naming_of types) all.items) walker.old walker.new result (λ types. typing.type_specifiers (types_in list.now) (setting_of setting)) }
 {
     let mut all = Vec::new(walker.types.alloc());
     'list: for t in list {
-        all.push(type_specifier(walker, t, is_alone)?)?;
+        all.push(type_specifier(walker, t, setting)?)?;
     }
     Ok(all)
 }
@@ -65,16 +66,16 @@ fn type_specifiers(
 fn type_specifier(
     walker: &mut Walker,
     t: &TypeSpecifier,
-    is_alone: bool,
+    setting: Setting,
 ) -> Result<Naming, TypeStop>
-    ensures { Gives naming_of walker.old walker.new result (λ types. typing.type_specifier (type_of t.now) is_alone) }
+    ensures { Gives naming_of walker.old walker.new result (λ types. typing.type_specifier (type_of t.now) (setting_of setting)) }
 {
     match t {
         TypeSpecifier::Basic(basic) => ends::basic_named(walker, *basic),
         TypeSpecifier::Word(_) => ends::no_naming(walker),
-        TypeSpecifier::StructTag(tag) => ends::struct_by_tag(walker, is_alone, tag.as_slice()),
+        TypeSpecifier::StructTag(tag) => ends::struct_by_tag(walker, setting, tag.as_slice()),
         TypeSpecifier::Struct(tag, list) => structure(walker, tag, list.as_slice()),
-        TypeSpecifier::EnumTag(tag) => ends::enum_tagged(walker, tag.as_slice()),
+        TypeSpecifier::EnumTag(tag) => ends::enum_tagged(walker, setting, tag.as_slice()),
         TypeSpecifier::Enum(tag, list) => enumeration(walker, tag, list.as_slice()),
         TypeSpecifier::Named(name) => ends::typedef_named(walker, name.as_slice()),
     }
@@ -83,7 +84,7 @@ fn type_specifier(
 // A struct with its members.
 #[cycle(typing)]
 fn structure(walker: &mut Walker, tag: &Option<Name>, list: &[Member]) -> Result<Naming, TypeStop>
-    ensures { Gives naming_of walker.old walker.new result (λ types. typing.type_specifier (c.Struct tag.now (members_in list.now)) false) }
+    ensures { Gives naming_of walker.old walker.new result (λ types. typing.type_specifier (c.Struct tag.now (members_in list.now)) elsewhere) }
 {
     let opened = ends::open_struct(walker, tag)?;
     let found = members(walker, list)?;
@@ -97,11 +98,11 @@ fn enumeration(
     tag: &Option<Name>,
     list: &[Enumerator],
 ) -> Result<Naming, TypeStop>
-    ensures { Gives naming_of walker.old walker.new result (λ types. typing.type_specifier (c.Enum tag.now (enumerators_in list.now)) false) }
+    ensures { Gives naming_of walker.old walker.new result (λ types. typing.type_specifier (c.Enum tag.now (enumerators_in list.now)) elsewhere) }
 {
     let faults = ends::open_enum(walker, tag)?;
     enumerators(walker, list)?;
-    ends::enum_named(walker, faults)
+    ends::close_enum(walker, tag, faults)
 }
 
 #[cycle(typing)]

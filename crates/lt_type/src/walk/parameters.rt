@@ -16,7 +16,8 @@ ghost use Rattle.lt_declare.specs.DeclaredViews.{parameters_in, declares_of};
 use crate::walk::declarators::declarator;
 use crate::walk::naming::specifiers;
 use lt_declare::declarators::{binds_parameter, parameter_behind, with_dots, without_parameters};
-use lt_declare::{Declares, Judging, Parameters};
+use lt_declare::specifiers::is_register;
+use lt_declare::{Declares, Judging, Parameters, Setting};
 use lt_env::{NameFrame, TypeStop, Walker};
 use lt_tree::typed::TypeId;
 use lt_tree::{Parameter, Parameters as Listing};
@@ -97,10 +98,10 @@ fn parameter(
 ) -> Result<FoundParameter, TypeStop>
     ensures { Gives found_of walker.old walker.new result (λ types. found.parameter (specifiers_of p.now.specifiers) (declarator_of p.now.declarator) is_definition) }
 {
-    let it = specifiers(walker, &p.specifiers, false)?;
+    let it = specifiers(walker, &p.specifiers, Setting::Elsewhere)?;
     let judging = Judging::Parameter { is_definition };
     let declared = declarator(walker, &p.declarator, &it, false, judging)?;
-    end_parameter(walker, declared, is_definition)
+    end_parameter(walker, declared, is_definition, is_register(&it))
 }
 
 // The type of a parameter that is declared with this type.
@@ -115,11 +116,13 @@ fn end_parameter(
     walker: &mut Walker,
     declared: Declares,
     is_definition: bool,
+    is_register: bool,
 ) -> Result<FoundParameter, TypeStop>
-    ensures { Gives found_of walker.old walker.new result (λ types. found_end (declares_of types declared) is_definition) }
+    ensures { Gives found_of walker.old walker.new result (λ types. found_end (declares_of types declared) is_definition is_register) }
 {
     let t = adjusted_in(walker, declared.ty)?;
-    let objects = binds_parameter(walker, is_definition, declared.node, &declared.name, t)?;
+    let node = declared.node;
+    let objects = binds_parameter(walker, is_definition, is_register, node, &declared.name, t)?;
     Ok(FoundParameter { declared, objects })
 }
 

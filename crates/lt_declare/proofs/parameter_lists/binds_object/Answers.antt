@@ -1,4 +1,4 @@
-use Rattle.std.proofs.Common.{◌∷◌, [], false}
+use Rattle.std.proofs.Common.{◌∷◌, []}
 use Rattle.lt_tree.specs.Typing.Steps as steps
 use Rattle.lt_env.specs.Going.{answering}
 use Rattle.lt_env.proofs.Judgements.{judged, widens_none}
@@ -11,4 +11,4 @@ returns c =
     let n = c.in_ok-number.number in
     let name = c.args.name.now in
     let bound = gives_then (λ types _. answering (λ known. n ∷ [])) c.in_ok-bind.ensures.gives (judged widens_none (λ types h. c.in_ok-objects.ensures)) in
-    gives_then (λ types m. steps.◌>>◌ (steps.binds name (an_object m false)) (steps.gives (m ∷ []))) c.in_ok-number.ensures.gives bound
+    gives_then (λ types m. steps.◌>>◌ (steps.binds name (an_object m c.args.is_register)) (steps.gives (m ∷ []))) c.in_ok-number.ensures.gives bound

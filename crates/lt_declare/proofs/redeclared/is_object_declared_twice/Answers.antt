@@ -20,9 +20,10 @@ returns-then-is_linked c = λ longer h.
     again_same c.args.has_initialiser
     (c.in_ok-agrees.ensures longer h ∙ ap (λ n. agrees_with known n t) (c.linked-linked.ensures longer))
     (c.is_unlinked.ensures longer ∙ ap (holds (λ e. not (declaring.is_linked_object known e))) (c.find_here-found.ensures longer))
+    (c.is_function_elsewhere-is_function.ensures longer)
     (c.is_started.ensures longer ∙ ap (holds (λ n. holds (λ object. is_some object.start) (slice_get known.objects n))) (c.linked-linked.ensures longer))
     ∙ ap (λ b. if b then
-    not (declaring.agrees_with_object known name t) || holds (λ e. not (declaring.is_linked_object known e)) (declared_here name known) || (c.args.has_initialiser && declaring.is_initialised known name)
+    not (declaring.agrees_with_object known name t) || holds (λ e. not (declaring.is_linked_object known e)) (declared_here name known) || declaring.is_function_elsewhere known name || (c.args.has_initialiser && declaring.is_initialised known name)
     else is_some (declared_here name known)) c.if-is_linked.ensures
 
 pub returns-else-is_linked : goal.returns-else-is_linked
@@ -32,5 +33,5 @@ returns-else-is_linked c = λ longer h.
     let t = type_in longer c.args.t in
     c.is_some.ensures ∙ some_mapped (entity_of longer) _ _ (c.find_here-found.ensures longer)
     ∙ ap (λ b. if b then
-    not (declaring.agrees_with_object known name t) || holds (λ e. not (declaring.is_linked_object known e)) (declared_here name known) || (c.args.has_initialiser && declaring.is_initialised known name)
+    not (declaring.agrees_with_object known name t) || holds (λ e. not (declaring.is_linked_object known e)) (declared_here name known) || declaring.is_function_elsewhere known name || (c.args.has_initialiser && declaring.is_initialised known name)
     else is_some (declared_here name known)) c.if-is_linked.ensures

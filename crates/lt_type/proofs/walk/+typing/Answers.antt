@@ -7,7 +7,7 @@ use Rattle.lt_tree.specs.Typing.Expressions.{as_value, as_truth, as_place, as_ca
 use Rattle.lt_tree.specs.Typing.ExpressionTyping as typing
 use Rattle.lt_type.specs.Ends.{index_end, call_end, member_end, arrow_end, step_end, unary_end, size_end, binary_end, logical_end, conditional_end, assignment_end, comma_end, marked_end, decide_end, after_end, members_end, declarator_end, sizeof_type_end, cast_end, found_end, without_any}
 use Rattle.lt_env.specs.Views.{use_of, typed_in, all_typed, bindings_with}
-use Rattle.lt_declare.specs.DeclaredViews.{naming_of, members_in, specified_of, open_struct_of, declares_of, judging_of}
+use Rattle.lt_declare.specs.DeclaredViews.{naming_of, setting_of, members_in, specified_of, open_struct_of, declares_of, judging_of}
 use Rattle.lt_env.proofs.Goings.{longer_still, as_long}
 use Rattle.lt_type.proofs.Sequences.{gives_then, gives_stops, gives_entered, gives_so, stopped, gives_itself, gives_in_block, stops_in_block}
 use Rattle.lt_type.proofs.Turns.{turns_start, lacks_memory, one_more, all_alone, list_on, list_stop, list_end, before, before_more, length_more, turns_from, turns_on, turns_stop, turns_end, passes_on, passes_stop, passes_end, collected, opened, behind_both}
@@ -179,9 +179,9 @@ operators::comma-returns t c =
 
 pub marks::decide-returns : goal.marks::decide-returns
 marks::decide-returns t c =
-    gives_entered (λ types node. typing.expression (expression_of c.args.operand.now) as_truth >>= (λ x. decide_end node (use_of c.args.role) x c.args.when_true.now c.args.when_false.now c.args.tag.now))
+    gives_entered (λ types node. typing.expression (expression_of c.args.operand.now) (inside_mark (use_of c.args.role)) >>= (λ x. decide_end node (use_of c.args.role) x c.args.when_true.now c.args.when_false.now c.args.tag.now))
     c.in_ok-node.ensures.entered c.in_ok-node.ensures.node (
-    gives_then _ c.in_ok-x.ensures
+    gives_then _ (rw c.use_in_mark.ensures at c.in_ok-x.ensures)
     c.end_decide.ensures)
 
 pub marks::after-returns : goal.marks::after-returns
@@ -317,29 +317,29 @@ expression-returns-in-Cast t c =
 
 pub declarators::size_of_type-returns-in_err-t : goal.declarators::size_of_type-returns-in_err-t
 declarators::size_of_type-returns-in_err-t t c =
-    gives_entered (λ types node. typing.specifiers (specifiers_of c.args.name.now.specifiers) false >>= (λ it. typing.declarator (declarator_of c.args.name.now.declarator) it false (λ name known b. d.type_name_faults b) >>= (λ t. sizeof_type_end node (use_of c.args.role) t)))
+    gives_entered (λ types node. typing.specifiers (specifiers_of c.args.name.now.specifiers) (d.setting_in_sizeof (declarator_of c.args.name.now.declarator)) >>= (λ it. typing.declarator (declarator_of c.args.name.now.declarator) it false (λ name known b. d.type_name_faults b) >>= (λ t. sizeof_type_end node (use_of c.args.role) t)))
     c.in_ok-node.ensures.entered c.in_ok-node.ensures.node (
-    gives_then _ c.in_ok-it.ensures (
+    gives_then _ (rw c.setting_in_sizeof-setting.ensures at c.in_ok-it.ensures) (
     gives_stops _ c.in_err-t.ensures (stopped c.from_residual-in_err-t.ensures)))
 
 pub declarators::size_of_type-returns : goal.declarators::size_of_type-returns
 declarators::size_of_type-returns t c =
-    gives_entered (λ types node. typing.specifiers (specifiers_of c.args.name.now.specifiers) false >>= (λ it. typing.declarator (declarator_of c.args.name.now.declarator) it false (λ name known b. d.type_name_faults b) >>= (λ t. sizeof_type_end node (use_of c.args.role) t)))
+    gives_entered (λ types node. typing.specifiers (specifiers_of c.args.name.now.specifiers) (d.setting_in_sizeof (declarator_of c.args.name.now.declarator)) >>= (λ it. typing.declarator (declarator_of c.args.name.now.declarator) it false (λ name known b. d.type_name_faults b) >>= (λ t. sizeof_type_end node (use_of c.args.role) t)))
     c.in_ok-node.ensures.entered c.in_ok-node.ensures.node (
-    gives_then _ c.in_ok-it.ensures (
+    gives_then _ (rw c.setting_in_sizeof-setting.ensures at c.in_ok-it.ensures) (
     gives_then _ c.in_ok-t.ensures
     c.end_size_of_type.ensures))
 
 pub declarators::cast-returns-in_err-t : goal.declarators::cast-returns-in_err-t
 declarators::cast-returns-in_err-t t c =
-    gives_entered (λ types node. typing.specifiers (specifiers_of c.args.name.now.specifiers) false >>= (λ it. typing.declarator (declarator_of c.args.name.now.declarator) it false (λ name known b. d.type_name_faults b) >>= (λ t. typing.expression (expression_of c.args.operand.now) as_value >>= (λ x. cast_end node (use_of c.args.role) t x))))
+    gives_entered (λ types node. typing.specifiers (specifiers_of c.args.name.now.specifiers) s.elsewhere >>= (λ it. typing.declarator (declarator_of c.args.name.now.declarator) it false (λ name known b. d.type_name_faults b) >>= (λ t. typing.expression (expression_of c.args.operand.now) as_value >>= (λ x. cast_end node (use_of c.args.role) t x))))
     c.in_ok-node.ensures.entered c.in_ok-node.ensures.node (
     gives_then _ c.in_ok-it.ensures (
     gives_stops _ c.in_err-t.ensures (stopped c.from_residual-in_err-t.ensures)))
 
 pub declarators::cast-returns-in_err-x : goal.declarators::cast-returns-in_err-x
 declarators::cast-returns-in_err-x t c =
-    gives_entered (λ types node. typing.specifiers (specifiers_of c.args.name.now.specifiers) false >>= (λ it. typing.declarator (declarator_of c.args.name.now.declarator) it false (λ name known b. d.type_name_faults b) >>= (λ t. typing.expression (expression_of c.args.operand.now) as_value >>= (λ x. cast_end node (use_of c.args.role) t x))))
+    gives_entered (λ types node. typing.specifiers (specifiers_of c.args.name.now.specifiers) s.elsewhere >>= (λ it. typing.declarator (declarator_of c.args.name.now.declarator) it false (λ name known b. d.type_name_faults b) >>= (λ t. typing.expression (expression_of c.args.operand.now) as_value >>= (λ x. cast_end node (use_of c.args.role) t x))))
     c.in_ok-node.ensures.entered c.in_ok-node.ensures.node (
     gives_then _ c.in_ok-it.ensures (
     gives_then _ c.in_ok-t.ensures (
@@ -347,12 +347,20 @@ declarators::cast-returns-in_err-x t c =
 
 pub declarators::cast-returns : goal.declarators::cast-returns
 declarators::cast-returns t c =
-    gives_entered (λ types node. typing.specifiers (specifiers_of c.args.name.now.specifiers) false >>= (λ it. typing.declarator (declarator_of c.args.name.now.declarator) it false (λ name known b. d.type_name_faults b) >>= (λ t. typing.expression (expression_of c.args.operand.now) as_value >>= (λ x. cast_end node (use_of c.args.role) t x))))
+    gives_entered (λ types node. typing.specifiers (specifiers_of c.args.name.now.specifiers) s.elsewhere >>= (λ it. typing.declarator (declarator_of c.args.name.now.declarator) it false (λ name known b. d.type_name_faults b) >>= (λ t. typing.expression (expression_of c.args.operand.now) as_value >>= (λ x. cast_end node (use_of c.args.role) t x))))
     c.in_ok-node.ensures.entered c.in_ok-node.ensures.node (
     gives_then _ c.in_ok-it.ensures (
     gives_then _ c.in_ok-t.ensures (
     gives_then _ c.in_ok-x.ensures
     c.end_cast.ensures)))
+
+pub naming::specifiers-returns-in_err-namings : goal.naming::specifiers-returns-in_err-namings
+naming::specifiers-returns-in_err-namings t c =
+    gives_stops _ (rw (c.beside_words-beside.ensures, c.as_slice.ensures.value) at c.in_err-namings.ensures) (stopped c.from_residual.ensures)
+
+pub naming::specifiers-returns : goal.naming::specifiers-returns
+naming::specifiers-returns t c =
+    gives_then _ (rw (c.beside_words-beside.ensures, c.as_slice.ensures.value) at c.in_ok-namings.ensures) c.specified.ensures
 
 pub naming::type_specifiers-list-init : goal.naming::type_specifiers-list-init
 naming::type_specifiers-list-init t c =
@@ -360,7 +368,7 @@ naming::type_specifiers-list-init t c =
 
 pub naming::type_specifiers-returns-in_err-type_specifier : goal.naming::type_specifiers-returns-in_err-type_specifier
 naming::type_specifiers-returns-in_err-type_specifier t c =
-    list_stop (λ list. typing.type_specifiers (types_in list) c.args.is_alone) ◌∷◌ (λ types all. map (naming_of types) c.list.all.items ++ all) c.args.list.now c.list.t-index c.t-item.result c.list-test.true c.t-item.is
+    list_stop (λ list. typing.type_specifiers (types_in list) (setting_of c.args.setting)) ◌∷◌ (λ types all. map (naming_of types) c.list.all.items ++ all) c.args.list.now c.list.t-index c.t-item.result c.list-test.true c.t-item.is
     (λ types rest k. refl) c.list.invariant c.in_err-type_specifier.ensures (stopped c.from_residual.ensures)
 
 pub naming::type_specifiers-returns-in_err-push : goal.naming::type_specifiers-returns-in_err-push
@@ -369,20 +377,20 @@ naming::type_specifiers-returns-in_err-push t c =
 
 pub naming::type_specifiers-list-preserved : goal.naming::type_specifiers-list-preserved
 naming::type_specifiers-list-preserved t c =
-    list_on (λ list. typing.type_specifiers (types_in list) c.args.is_alone) ◌∷◌ (λ types all. map (naming_of types) c.list.all.items ++ all) (λ types all. map (naming_of types) c.push.new.self.items ++ all) c.args.list.now c.list.t-index c.t-item.result c.list-test.true c.t-item.is
+    list_on (λ list. typing.type_specifiers (types_in list) (setting_of c.args.setting)) ◌∷◌ (λ types all. map (naming_of types) c.list.all.items ++ all) (λ types all. map (naming_of types) c.push.new.self.items ++ all) c.args.list.now c.list.t-index c.t-item.result c.list-test.true c.t-item.is
     (λ types rest k. refl) c.list.invariant c.in_ok-type_specifier.ensures (λ types all. one_more (naming_of types) c.list.all.items c.push.new.self.items c.in_ok-type_specifier.field-0 all c.in_ok-push.ensures.items)
 
 pub naming::type_specifiers-returns : goal.naming::type_specifiers-returns
 naming::type_specifiers-returns t c =
-    list_end (λ list. typing.type_specifiers (types_in list) c.args.is_alone) [] (λ types all. map (naming_of types) c.list.all.items ++ all) c.args.list.now c.list.t-index c.list-test.false (λ k. refl) (λ types. all_alone (naming_of types) c.list.all.items) c.list.invariant
+    list_end (λ list. typing.type_specifiers (types_in list) (setting_of c.args.setting)) [] (λ types all. map (naming_of types) c.list.all.items ++ all) c.args.list.now c.list.t-index c.list-test.false (λ k. refl) (λ types. all_alone (naming_of types) c.list.all.items) c.list.invariant
 
 pub naming::type_specifier-returns-in-Struct : goal.naming::type_specifier-returns-in-Struct
 naming::type_specifier-returns-in-Struct t c =
-    gives_so (λ types k. ap (λ t. typing.type_specifier t c.args.is_alone k) (struct_seen c.args.t.now _ c.in-Struct.list _ c.in-Struct.is c.as_slice-in-Struct.ensures.value)) c.structure.ensures
+    gives_so (λ types k. ap (λ t. typing.type_specifier t (setting_of c.args.setting) k) (struct_seen c.args.t.now _ c.in-Struct.list _ c.in-Struct.is c.as_slice-in-Struct.ensures.value)) c.structure.ensures
 
 pub naming::type_specifier-returns-in-Enum : goal.naming::type_specifier-returns-in-Enum
 naming::type_specifier-returns-in-Enum t c =
-    gives_so (λ types k. ap (λ t. typing.type_specifier t c.args.is_alone k) (enum_seen c.args.t.now _ c.in-Enum.list _ c.in-Enum.is c.as_slice-in-Enum.ensures.value)) c.enumeration.ensures
+    gives_so (λ types k. ap (λ t. typing.type_specifier t (setting_of c.args.setting) k) (enum_seen c.args.t.now _ c.in-Enum.list _ c.in-Enum.is c.as_slice-in-Enum.ensures.value)) c.enumeration.ensures
 
 pub naming::structure-returns-in_err-found : goal.naming::structure-returns-in_err-found
 naming::structure-returns-in_err-found t c =
@@ -394,11 +402,11 @@ naming::structure-returns t c =
 
 pub naming::enumeration-returns-in_err-enumerators : goal.naming::enumeration-returns-in_err-enumerators
 naming::enumeration-returns-in_err-enumerators t c =
-    gives_then (λ types faults. typing.enumerators (enumerators_in c.args.list.now) (pos 0) >>= (λ u. gives (record { type = Some s.enum_type; faults = faults }))) c.in_ok-faults.ensures (gives_stops (λ types u. gives (record { type = Some s.enum_type; faults = c.in_ok-faults.faults })) c.in_err-enumerators.ensures (stopped c.from_residual-in_err-enumerators.ensures))
+    gives_then (λ types faults. typing.enumerators (enumerators_in c.args.list.now) (pos 0) >>= (λ u. s.close_enum c.args.tag.now faults)) c.in_ok-faults.ensures (gives_stops (λ types u. s.close_enum c.args.tag.now c.in_ok-faults.faults) c.in_err-enumerators.ensures (stopped c.from_residual-in_err-enumerators.ensures))
 
 pub naming::enumeration-returns : goal.naming::enumeration-returns
 naming::enumeration-returns t c =
-    gives_then (λ types faults. typing.enumerators (enumerators_in c.args.list.now) (pos 0) >>= (λ u. gives (record { type = Some s.enum_type; faults = faults }))) c.in_ok-faults.ensures (gives_then (λ types u. gives (record { type = Some s.enum_type; faults = c.in_ok-faults.faults })) c.in_ok-enumerators.ensures c.enum_named.ensures)
+    gives_then (λ types faults. typing.enumerators (enumerators_in c.args.list.now) (pos 0) >>= (λ u. s.close_enum c.args.tag.now faults)) c.in_ok-faults.ensures (gives_then (λ types u. s.close_enum c.args.tag.now c.in_ok-faults.faults) c.in_ok-enumerators.ensures c.close_enum.ensures)
 
 pub naming::enumerators-list-init : goal.naming::enumerators-list-init
 naming::enumerators-list-init t c =
@@ -446,19 +454,19 @@ members::members-returns t c =
 pub members::member-returns-in_err-it : goal.members::member-returns-in_err-it
 members::member-returns-in_err-it t c =
     gives_so (λ types k. ap (λ w. typing.struct_member w (members_in types c.args.found) k) (sym (member_out c.args.m.now)))
-    (gives_entered (λ types node. typing.specifiers (specifiers_of (views.out-Member c.args.m.now).specifiers) false >>= (λ it. typing.member_declarators (tree.member_declarators_in (views.out-Member c.args.m.now).declarators.items) it (members_in types c.args.found) >>= (λ all. members_end node (is_no_declarator (tree.member_declarators_in (views.out-Member c.args.m.now).declarators.items)) it all)))
+    (gives_entered (λ types node. typing.specifiers (specifiers_of (views.out-Member c.args.m.now).specifiers) s.elsewhere >>= (λ it. typing.member_declarators (tree.member_declarators_in (views.out-Member c.args.m.now).declarators.items) it (members_in types c.args.found) >>= (λ all. members_end node (is_no_declarator (tree.member_declarators_in (views.out-Member c.args.m.now).declarators.items)) it all)))
     c.in_ok-node.ensures.entered c.in_ok-node.ensures.node (gives_stops _ c.in_err-it.ensures (stopped c.from_residual-in_err-it.ensures)))
 
 pub members::member-returns-in_err-all : goal.members::member-returns-in_err-all
 members::member-returns-in_err-all t c =
     gives_so (λ types k. ap (λ w. typing.struct_member w (members_in types c.args.found) k) (sym (member_out c.args.m.now)))
-    (gives_entered (λ types node. typing.specifiers (specifiers_of (views.out-Member c.args.m.now).specifiers) false >>= (λ it. typing.member_declarators (tree.member_declarators_in (views.out-Member c.args.m.now).declarators.items) it (members_in types c.args.found) >>= (λ all. members_end node (is_no_declarator (tree.member_declarators_in (views.out-Member c.args.m.now).declarators.items)) it all)))
+    (gives_entered (λ types node. typing.specifiers (specifiers_of (views.out-Member c.args.m.now).specifiers) s.elsewhere >>= (λ it. typing.member_declarators (tree.member_declarators_in (views.out-Member c.args.m.now).declarators.items) it (members_in types c.args.found) >>= (λ all. members_end node (is_no_declarator (tree.member_declarators_in (views.out-Member c.args.m.now).declarators.items)) it all)))
     c.in_ok-node.ensures.entered c.in_ok-node.ensures.node (gives_then _ c.in_ok-it.ensures (gives_stops _ (rw c.as_slice.ensures.value at c.in_err-all.ensures) (stopped c.from_residual-in_err-all.ensures))))
 
 pub members::member-returns : goal.members::member-returns
 members::member-returns t c =
     gives_so (λ types k. ap (λ w. typing.struct_member w (members_in types c.args.found) k) (sym (member_out c.args.m.now)))
-    (gives_entered (λ types node. typing.specifiers (specifiers_of (views.out-Member c.args.m.now).specifiers) false >>= (λ it. typing.member_declarators (tree.member_declarators_in (views.out-Member c.args.m.now).declarators.items) it (members_in types c.args.found) >>= (λ all. members_end node (is_no_declarator (tree.member_declarators_in (views.out-Member c.args.m.now).declarators.items)) it all)))
+    (gives_entered (λ types node. typing.specifiers (specifiers_of (views.out-Member c.args.m.now).specifiers) s.elsewhere >>= (λ it. typing.member_declarators (tree.member_declarators_in (views.out-Member c.args.m.now).declarators.items) it (members_in types c.args.found) >>= (λ all. members_end node (is_no_declarator (tree.member_declarators_in (views.out-Member c.args.m.now).declarators.items)) it all)))
     c.in_ok-node.ensures.entered c.in_ok-node.ensures.node (gives_then _ c.in_ok-it.ensures (gives_then _ (rw c.as_slice.ensures.value at c.in_ok-all.ensures)
     (gives_so (λ types k. ap (λ b. members_end c.in_ok-node.node b (specified_of types c.in_ok-it.it) (membered_of types c.in_ok-all.all) k) (c.is_no_declarator.ensures ∙ ap (λ l. is_no_declarator (tree.member_declarators_in l)) c.as_slice-2.ensures.value)) c.end_member.ensures))))
 
@@ -604,8 +612,9 @@ parameters::found_parameters-returns t c =
 
 pub parameters::parameter-returns-in_err-declared : goal.parameters::parameter-returns-in_err-declared
 parameters::parameter-returns-in_err-declared t c =
-    gives_then (λ types it. typing.declarator (declarator_of c.args.p.now.declarator) it false (d.parameter_faults c.args.is_definition) >>= (λ declared. found_end declared c.args.is_definition)) c.in_ok-it.ensures (gives_stops (λ types declared. found_end declared c.args.is_definition) c.in_err-declared.ensures (stopped c.from_residual-in_err-declared.ensures))
+    gives_then (λ types it. typing.declarator (declarator_of c.args.p.now.declarator) it false (d.parameter_faults c.args.is_definition) >>= (λ declared. found_end declared c.args.is_definition (s.is_register it))) c.in_ok-it.ensures (gives_stops (λ types declared. found_end declared c.args.is_definition (s.is_register (specified_of types c.in_ok-it.it))) c.in_err-declared.ensures (stopped c.from_residual-in_err-declared.ensures))
 
 pub parameters::parameter-returns : goal.parameters::parameter-returns
 parameters::parameter-returns t c =
-    gives_then (λ types it. typing.declarator (declarator_of c.args.p.now.declarator) it false (d.parameter_faults c.args.is_definition) >>= (λ declared. found_end declared c.args.is_definition)) c.in_ok-it.ensures (gives_then (λ types declared. found_end declared c.args.is_definition) c.in_ok-declared.ensures c.end_parameter.ensures)
+    gives_then (λ types it. typing.declarator (declarator_of c.args.p.now.declarator) it false (d.parameter_faults c.args.is_definition) >>= (λ declared. found_end declared c.args.is_definition (s.is_register it))) c.in_ok-it.ensures (gives_then (λ types declared. found_end declared c.args.is_definition (s.is_register (specified_of types c.in_ok-it.it))) c.in_ok-declared.ensures
+    (gives_so (λ types k. ap (λ b. found_end (declares_of types c.in_ok-declared.declared) c.args.is_definition b k) (c.is_register.ensures types)) c.end_parameter.ensures))

@@ -11,7 +11,7 @@ use Rattle.lt_tree.specs.Records.{expressions_in, bindings_in, marks_in, types_i
 use Rattle.lt_tree.specs.Typing.Steps.{gives}
 use Rattle.lt_tree.specs.Typing.ExpressionTyping as typing
 use Rattle.lt_env.specs.Views.{all_typed, bindings_with}
-use Rattle.lt_declare.specs.DeclaredViews.{naming_of, members_in, specified_of}
+use Rattle.lt_declare.specs.DeclaredViews.{naming_of, setting_of, members_in, specified_of}
 use Rattle.lt_type.proofs.Turns.{Turning, before}
 use Rattle.lt_type.proofs.walk.+typing.Given as goal
 
@@ -28,7 +28,7 @@ abbrev pub invariant-marks::marks-list : goal.invariant-marks::marks-list
 invariant-marks::marks-list l = Turning l.initial.walker l.walker (λ types. typing.marks (marks_in l.list)) (λ types. typing.marks (marks_in (drop l.m-index l.list))) (λ types ms. gives (before (mark_before types) l.all.items ms))
 
 abbrev pub invariant-naming::type_specifiers-list : goal.invariant-naming::type_specifiers-list
-invariant-naming::type_specifiers-list l = Turning l.initial.walker l.walker (λ types. typing.type_specifiers (types_in l.list) l.is_alone) (λ types. typing.type_specifiers (types_in (drop l.t-index l.list)) l.is_alone) (λ types all. gives (map (naming_of types) l.all.items ++ all))
+invariant-naming::type_specifiers-list l = Turning l.initial.walker l.walker (λ types. typing.type_specifiers (types_in l.list) (setting_of l.setting)) (λ types. typing.type_specifiers (types_in (drop l.t-index l.list)) (setting_of l.setting)) (λ types all. gives (map (naming_of types) l.all.items ++ all))
 
 abbrev pub invariant-naming::enumerators-list : goal.invariant-naming::enumerators-list
 invariant-naming::enumerators-list l = Turning l.initial.walker l.walker (λ types. typing.enumerators (enumerators_in l.list) (pos 0)) (λ types. typing.enumerators (enumerators_in (drop l.e-index l.list)) l.counted) (λ types t. gives t)
