@@ -1,5 +1,5 @@
 -- The code of a function's body does what the body does.
-use Rattle.std.proofs.Common.{◌≡◌, ℕ, zero, suc, ◌+◌, ◌≤◌, List, [], ◌∷◌, length, Option, Some, None, Bool, true, false, refl, sym, ap, ◌∙◌, subst, arith}
+use Rattle.std.proofs.Common.{◌≡◌, ℕ, zero, suc, ◌+◌, ◌<◌, ◌≤◌, List, [], ◌∷◌, length, Option, Some, None, Bool, true, false, refl, sym, ap, ◌∙◌, subst, arith}
 use Rattle.std.specs.Prelude.{if◌then◌else◌, slice_get, nat_lt, map}
 use Rattle.std.specs.Str.{bytes_eq}
 use Rattle.lt_model.specs.declared.cell.Content.{Content}
@@ -8,18 +8,27 @@ use Rattle.lt_model.specs.declared.run.End.{End as RunEnd}
 use Rattle.lt_tree.specs.Typing.Entities.{Function}
 use Rattle.lt_tree.specs.Typing.Programs.{Program}
 use Rattle.lt_model.specs.State.{Gives, Ends}
-use Rattle.lt_ir.specs.Running.{Variable, parameter, At, Answer, Step, Over, ◌>>◌, gives, most_calls, ends, seals, one_deeper, statics_of, with_scope, begin_parameters, end_parameters, without}
-use Rattle.lt_code.specs.Meaning.Expressions.{Calls, shape}
-use Rattle.lt_code.specs.Meaning.Statements.{Flow, Next, Breaks, Continues, Returns, exec_items, is_sealed_object, type_of_object}
+use Rattle.lt_ir.specs.declared.variable.Variable.{Variable}
+use Rattle.lt_ir.specs.declared.variable.Variable.TheVariants as variable
+use Rattle.lt_ir.specs.declared.graph.Graph.{Graph}
+use Rattle.lt_ir.specs.declared.code.Code.{Code}
+use Rattle.lt_ir.specs.declared.node.Given.{Given}
+use Rattle.lt_ir.specs.declared.node.Given.TheVariants as given
+use Rattle.lt_ir.specs.declared.node.Node.TheVariants as node
+use Rattle.lt_ir.specs.Running.{At, Answer, Step, Over, ◌>>◌, gives, most_calls, ends, seals, one_deeper, statics_of, with_scope, begin_parameters, end_parameters, without}
 use Rattle.lt_ir.specs.Evaluation.{store_parameters}
-use Rattle.lt_code.specs.Meaning.Runs.{variable_of, shapes_of, seal_parameters, value_of_call, body_of, function_among, name_of_object}
-use Rattle.lt_ir.specs.Graph as g
-use Rattle.lt_ir.specs.Graph.{Graph, Node, Code, Config, Frame, Register, Goes, Stops, register_at, contents_from, content_at, had, blanks, act, going, goes, puts, node_at, nodes_of, step, steps, next_of, shapes_in, names_in, entering, targets, are_static, one_less, returns, returned, launch, Runs}
-use Rattle.lt_code.specs.Code.{Places, Setting, around, number_among, HasSeal, HasItems, HasParameterEnds, HasParameterSeals, at_the_end, parameters_of, HasCode}
-use Rattle.lt_code.proofs.Finishing.{finish, Finishes, conf, stands_at, Later, Keeps, later_same, later_still, go, through, step_at, with_bind}
-use Rattle.lt_code.proofs.CalmObjects.{Holds, through_so, calm_seals, ends_holds, Ended, deeper_holds, Deeper}
+use Rattle.lt_ir.specs.Graph.{Frame, Register, register_at, had, blanks, shapes_in, names_in, entering, are_static, one_less, given as given_in, structs_of, locals_of, nodes_of, code_at}
+use Rattle.lt_meaning.specs.Expressions.{Calls, shape}
+use Rattle.lt_meaning.specs.Statements.{Flow, Next, Breaks, Continues, Returns, exec_items, is_sealed_object, type_of_object}
+use Rattle.lt_meaning.specs.Runs.{shapes_of, seal_parameters, value_at_end, value_of_call, body_of, function_among, name_of_object}
+use Rattle.lt_code.specs.Code.{number_among}
+use Rattle.lt_code.specs.Bodies.{sealed_if, parameters_end, parameters_sealed, parameters_of, stands_in, site_of, HasCode}
+use Rattle.lt_code.proofs.Finishing.{finish, Finishes, conf, Later, Keeps, later_same, later_still, through, step_at, with_bind}
+use Rattle.lt_code.proofs.Nodes.{Scene, Run}
+use Rattle.lt_code.proofs.Sequences.{CallsRun}
+use Rattle.lt_code.proofs.FullExpressions.{tracked_here, full_runs, full_tests}
+use Rattle.lt_code.proofs.CalmObjects.{Holds, through_so, calm-seals, ends_holds, Ended, deeper_holds, Deeper}
 use Rattle.lt_code.proofs.CalmRuns.{holds_bind, dropped, dropped_begun, statics_are_static, Begun, begin_holds, calm_parameters}
-use Rattle.lt_code.proofs.AgreeObjects.{at_set, ExpressionsRun}
 use Rattle.lt_code.proofs.AgreeStatements.{items_run}
 
 -- ---- names of functions
@@ -92,43 +101,63 @@ one_less_of (suc m) d e = omega arith
 
 -- ---- bodies
 
-module _ (graph : Graph) (f : ℕ) (stack : List Frame) where
-  parameter_ends_run : (program : Program) (k : ℕ) (ps : List ℕ) (from to : ℕ) → HasParameterEnds k ps (stands_at graph f) from to → (rs : List Register) (at : At) (next : Unit {0} → At → Over) → ((u : Unit {0}) (at1 : At) → at1.ticks ≤ at.ticks → at1.depth ≡ at.depth → at1.scope ≡ dropped k ps at.scope → Finishes graph (conf f to rs stack at1) (next u at1)) → Finishes graph (conf f from rs stack at) (finish (end_parameters k (shapes_of program ps) at) next)
-  parameter_ends_run program k [] from to has rs at next h = subst (λ i. Finishes graph (conf f i rs stack at) (next tt at)) (sym has) (h tt at (omega arith) refl refl)
-  parameter_ends_run program k (p ∷ ps) from to has rs at next h =
-      with_bind graph _ (end_parameters (suc k) (shapes_of program ps)) (λ u. ends (parameter k)) at next (parameter_ends_run program (suc k) ps from has.0 has.1 rs at _ (λ u at1 t d e.
-      through_so graph (Ended at1 (parameter k)) (conf f has.0 rs stack at1) (ends (parameter k) at1) (λ u at2. conf f to rs stack at2) _ (step_at graph f has.0 (g.End (parameter k) to) rs stack at1 has.2) (ends_holds (parameter k) at1) (λ u at2 ended.
-      h u at2 (omega (arith, ended.0, t)) (ended.2 ∙ d) (ended.1 ∙ ap (λ l. without l (parameter k)) e))))
+-- a function's code in a graph
+abbrev pub scene_of : (graph : Graph) (program : Program) → graph.model ≡ program.model → (calls : Calls) (n f : ℕ) (stack : List Frame) (fun : Function) (code : Code) → code_at graph f ≡ Some code → Scene
+scene_of graph program same calls n f stack fun code is = record {
+  graph = graph;
+  site = site_of program graph.labels fun code (stands_in code.nodes);
+  calls = calls;
+  most = n;
+  code = f;
+  stack = stack;
+  model = same;
+  labels = refl;
+  structs = ap structs_of is;
+  locals = ap locals_of is;
+  nodes = λ i m has. ap (λ q. slice_get (nodes_of q) i) is ∙ has;
+}
 
-  parameter_seal_run : (b : Bool) (v : Variable) (from to : ℕ) → HasSeal b v (stands_at graph f) from to → (rs : List Register) (at : At) (next : Unit {0} → At → Over) → ((u : Unit {0}) (at1 : At) → Later at at1 → Finishes graph (conf f to rs stack at1) (next u at1)) → Finishes graph (conf f from rs stack at) (finish ((if b then seals v else gives tt) at) next)
-  parameter_seal_run true v from to has rs at next h =
-      through graph at (conf f from rs stack at) (seals v at) (λ u at1. conf f to rs stack at1) next (step_at graph f from (g.Seal v to) rs stack at has) (calm_seals v at) h
-  parameter_seal_run false v from to has rs at next h = subst (λ i. Finishes graph (conf f i rs stack at) (next tt at)) (sym has) (h tt at (later_same at))
+parameter_ends_run : (z : Scene) (program : Program) (k : ℕ) (ps : List ℕ) (from to : ℕ) → parameters_end z.site.stands k ps from to → (rs : List Register) (at : At) (next : Unit {0} → At → Over) → ((u : Unit {0}) (at1 : At) → at1.ticks ≤ at.ticks → at1.depth ≡ at.depth → at1.scope ≡ dropped k ps at.scope → Run z to rs at1 (next u at1)) → Run z from rs at (finish (end_parameters k (shapes_of program ps) at) next)
+parameter_ends_run z program k [] from to has rs at next h = subst (λ i. Run z i rs at (next tt at)) (sym has) (h tt at (omega arith) refl refl)
+parameter_ends_run z program k (p ∷ ps) from to has rs at next h =
+    with_bind z.graph _ (end_parameters (suc k) (shapes_of program ps)) (λ u. ends (variable.Parameter k)) at next (parameter_ends_run z program (suc k) ps from has.0 has.1 rs at _ (λ u at1 t d e.
+    through_so z.graph (Ended at1 (variable.Parameter k)) (conf z.code has.0 rs z.stack at1) (ends (variable.Parameter k) at1) (λ u at2. conf z.code to rs z.stack at2) _ (step_at z.graph z.code has.0 (node.End (variable.Parameter k) to) rs z.stack at1 (z.nodes has.0 _ has.2)) (ends_holds (variable.Parameter k) at1) (λ u at2 ended.
+    h u at2 (omega (arith, ended.0, t)) (ended.2 ∙ d) (ended.1 ∙ ap (λ l. without l (variable.Parameter k)) e))))
 
-  parameter_seals_run : (program : Program) (k : ℕ) (ps : List ℕ) (from to : ℕ) → HasParameterSeals program k ps (stands_at graph f) from to → (rs : List Register) (at : At) (next : Unit {0} → At → Over) → ((u : Unit {0}) (at1 : At) → Later at at1 → Finishes graph (conf f to rs stack at1) (next u at1)) → Finishes graph (conf f from rs stack at) (finish (seal_parameters program k ps at) next)
-  parameter_seals_run program k [] from to has rs at next h = subst (λ i. Finishes graph (conf f i rs stack at) (next tt at)) (sym has) (h tt at (later_same at))
-  parameter_seals_run program k (p ∷ ps) from to has rs at next h =
-      with_bind graph _ (if is_sealed_object program p then seals (parameter k) else gives tt) (λ u. seal_parameters program (suc k) ps) at next (parameter_seal_run (is_sealed_object program p) (parameter k) from has.0 has.1 rs at _ (λ u at1 l.
-      parameter_seals_run program (suc k) ps has.0 to has.2 rs at1 next (λ u at2 l2. h u at2 (later_still at at1 at2 l l2))))
+parameter_seal_run : (z : Scene) (b : Bool) (v : Variable) (from to : ℕ) → sealed_if z.site.stands b v from to → (rs : List Register) (at : At) (next : Unit {0} → At → Over) → ((u : Unit {0}) (at1 : At) → Later at at1 → Run z to rs at1 (next u at1)) → Run z from rs at (finish ((if b then seals v else gives tt) at) next)
+parameter_seal_run z true v from to has rs at next h =
+    through z.graph at (conf z.code from rs z.stack at) (seals v at) (λ u at1. conf z.code to rs z.stack at1) next (step_at z.graph z.code from (node.Seal v to) rs z.stack at (z.nodes from _ has)) (calm-seals v at) h
+parameter_seal_run z false v from to has rs at next h = subst (λ i. Run z i rs at (next tt at)) (sym has) (h tt at (later_same at))
 
-  -- the body of a function from its start on, whose parameters have their values
-  pub body_run : (program : Program) → graph.model ≡ program.model → (calls : Calls) (n : ℕ) (fun : Function) → ExpressionsRun graph (record { program = program; variable = variable_of program fun.parameters }) calls n f stack → (code : Code) → slice_get graph.codes f ≡ Some code → HasCode program fun code → (at : At) → at.ticks ≤ n → (k : Flow → At → Over) → ((flow : Flow) (at1 : At) (i : ℕ) (rs : List Register) → stands_at graph f i (g.Return (Some 0)) → (register_at rs 0).content ≡ Some (value_of_call fun.name flow) → at1.ticks ≤ at.ticks → at1.depth ≡ at.depth → at1.scope ≡ dropped 0 fun.parameters at.scope → Finishes graph (conf f i rs stack at1) (k flow at1)) → Finishes graph (conf f code.start (blanks code.registers) stack at) (finish (body_of program calls fun at) k)
-  body_run program same calls n fun ex code is has at le k h =
-      let s : Setting = record { program = program; variable = variable_of program fun.parameters } in
-      let P : Option Code → Places = λ q i m. slice_get (nodes_of q) i ≡ Some m in
-      let seals_there = subst (λ q. HasParameterSeals program 0 fun.parameters (P q) code.start has.first) (sym is) has.seals in
-      let body_there = subst (λ q. HasItems s fun.body (P q) code.registers has.first (record { next = has.next; back = has.back; breaks = has.next; continues = has.next })) (sym is) has.body in
-      let end_there = subst (λ q. P q has.next (g.Constant 0 (at_the_end fun.name) false has.back)) (sym is) has.ends_without in
-      let ends_there = subst (λ q. HasParameterEnds 0 fun.parameters (P q) has.back has.last) (sym is) has.parameters_end in
-      let return_there = subst (λ q. P q has.last (g.Return (Some 0))) (sym is) has.returns in
-      let closing : (flow : Flow) (at2 : At) (rs : List Register) → Later at at2 → (register_at rs 0).content ≡ Some (value_of_call fun.name flow) → Finishes graph (conf f has.back rs stack at2) (finish ((end_parameters 0 (shapes_of program fun.parameters) >> gives flow) at2) k) = λ flow at2 rs l2 e2.
-      with_bind graph _ (end_parameters 0 (shapes_of program fun.parameters)) (λ u. gives flow) at2 k (parameter_ends_run program 0 fun.parameters has.back has.last ends_there rs at2 _ (λ u at3 t d e. h flow at3 has.last rs return_there e2 (omega (arith, l2.ticks)) (d ∙ l2.depth) (e ∙ ap (dropped 0 fun.parameters) l2.scope))) in
-      let without_value : (flow : Flow) (at2 : At) (rs : List Register) → length rs ≡ code.registers → Later at at2 → at_the_end fun.name ≡ value_of_call fun.name flow → Finishes graph (conf f has.next rs stack at2) (finish ((end_parameters 0 (shapes_of program fun.parameters) >> gives flow) at2) k) = λ flow at2 rs long l2 e2.
-      go graph _ _ _ (step_at graph f has.next (g.Constant 0 (at_the_end fun.name) false has.back) rs stack at2 end_there) (closing flow at2 _ l2 (ap (λ q. q.content) (at_set rs 0 _ (omega (arith, has.room))) ∙ ap Some e2)) in
-      with_bind graph _ (seal_parameters program 0 fun.parameters) _ at k (parameter_seals_run program 0 fun.parameters code.start has.first seals_there (blanks code.registers) at _ (λ u at1 l1.
-      with_bind graph _ (exec_items (around s calls) fun.body) _ at1 k (items_run graph s same calls n f stack ex fun.body code.registers has.first _ body_there (blanks code.registers) (long_blanks code.registers) at1 (omega (arith, l1.ticks)) _ (record {
-        next = λ at2 rs long l2. without_value Next at2 rs long (later_still at at1 at2 l1 l2) refl;
-        back = λ c at2 rs long e2 l2. closing (Returns c) at2 rs (later_still at at1 at2 l1 l2) e2;
-        breaks = λ at2 rs long l2. without_value Breaks at2 rs long (later_still at at1 at2 l1 l2) refl;
-        continues = λ at2 rs long l2. without_value Continues at2 rs long (later_still at at1 at2 l1 l2) refl;
-      }))))
+parameter_seals_run : (z : Scene) (program : Program) (k : ℕ) (ps : List ℕ) (from to : ℕ) → parameters_sealed z.site.stands program k ps from to → (rs : List Register) (at : At) (next : Unit {0} → At → Over) → ((u : Unit {0}) (at1 : At) → Later at at1 → Run z to rs at1 (next u at1)) → Run z from rs at (finish (seal_parameters program k ps at) next)
+parameter_seals_run z program k [] from to has rs at next h = subst (λ i. Run z i rs at (next tt at)) (sym has) (h tt at (later_same at))
+parameter_seals_run z program k (p ∷ ps) from to has rs at next h =
+    with_bind z.graph _ (if is_sealed_object program p then seals (variable.Parameter k) else gives tt) (λ u. seal_parameters program (suc k) ps) at next (parameter_seal_run z (is_sealed_object program p) (variable.Parameter k) from has.0 has.1 rs at _ (λ u at1 l.
+    parameter_seals_run z program (suc k) ps has.0 to has.2 rs at1 next (λ u at2 l2. h u at2 (later_still at at1 at2 l l2))))
+
+-- how a body is left: at a return node that gives the value of the call
+abbrev pub Left : Scene → Function → Flow → ℕ → List Register → Type 0
+Left z fun flow i rs = (it : Given) × z.site.stands i (node.Return it) × ((at : At) → given_in rs it at ≡ Gives (value_of_call fun flow) at)
+
+-- where register 0 has a content there are registers
+has_first : (rs : List Register) (n : ℕ) (c : Content) → length rs ≡ n → (register_at rs 0).content ≡ Some c → 0 < n
+has_first [] n c long has = absurd (cc)
+has_first (it ∷ rs) n c long has = omega (arith, long)
+
+-- the body of a function from its start on, whose parameters have their values
+pub body_run : (graph : Graph) (program : Program) (same : graph.model ≡ program.model) (calls : Calls) (n : ℕ) → CallsRun graph program calls n → (f : ℕ) (stack : List Frame) (fun : Function) (code : Code) (is : code_at graph f ≡ Some code) → HasCode program graph.labels fun code → (at : At) → at.ticks ≤ n → (k : Flow → At → Over) → ((flow : Flow) (at1 : At) (i : ℕ) (rs : List Register) → Left (scene_of graph program same calls n f stack fun code is) fun flow i rs → at1.ticks ≤ at.ticks → at1.depth ≡ at.depth → at1.scope ≡ dropped 0 fun.parameters at.scope → Finishes graph (conf f i rs stack at1) (k flow at1)) → Finishes graph (conf f code.start (blanks code.registers) stack at) (finish (body_of program calls fun at) k)
+body_run graph program same calls n ok f stack fun code is has at le k h =
+    let z = scene_of graph program same calls n f stack fun code is in
+    let ps = fun.parameters in
+    let closing : (flow : Flow) (at2 : At) (rs : List Register) (from to : ℕ) → parameters_end z.site.stands 0 ps from to → Left z fun flow to rs → Later at at2 → Run z from rs at2 (finish ((end_parameters 0 (shapes_of program ps) >> gives flow) at2) k) = λ flow at2 rs from to ends_there left l2.
+    with_bind graph _ (end_parameters 0 (shapes_of program ps)) (λ u. gives flow) at2 k (parameter_ends_run z program 0 ps from to ends_there rs at2 _ (λ u at3 t d e. h flow at3 to rs left (omega (arith, l2.ticks)) (d ∙ l2.depth) (e ∙ ap (dropped 0 ps) l2.scope))) in
+    let with_none : (flow : Flow) (at2 : At) (rs : List Register) → Later at at2 → value_at_end fun ≡ value_of_call fun flow → Run z has.leaves rs at2 (finish ((end_parameters 0 (shapes_of program ps) >> gives flow) at2) k) = λ flow at2 rs l2 e2.
+    closing flow at2 rs has.leaves has.end has.ends_without (given.Fixed (value_at_end fun), has.gives_none, λ at. ap (λ c. Gives c at) e2) l2 in
+    with_bind graph _ (seal_parameters program 0 ps) _ at k (parameter_seals_run z program 0 ps code.start has.first has.seals (blanks code.registers) at _ (λ u at1 l1.
+    with_bind graph _ (exec_items (tracked_here z) fun.body) _ at1 k (items_run z (full_runs z ok) (full_tests z ok) fun.body has.first _ has.body (blanks code.registers) (long_blanks code.registers) at1 (omega (arith, l1.ticks)) _ (record {
+      next = λ at2 rs long l2. with_none Next at2 rs (later_still at at1 at2 l1 l2) refl;
+      back = λ c at2 rs long e2 l2. closing (Returns (Some c)) at2 rs has.back has.last has.ends_with (given.Held 0, has.gives_it (has_first rs code.registers c long e2), λ at. ap (λ o. had o at) e2) (later_still at at1 at2 l1 l2);
+      leaves = λ at2 rs long l2. with_none (Returns None) at2 rs (later_still at at1 at2 l1 l2) refl;
+      breaks = λ at2 rs long l2. with_none Breaks at2 rs (later_still at at1 at2 l1 l2) refl;
+      continues = λ at2 rs long l2. with_none Continues at2 rs (later_still at at1 at2 l1 l2) refl;
+    }))))

@@ -1,179 +1,94 @@
 -- The code of objects that begin does what the beginning does.
-use Rattle.std.proofs.Common.{◌≡◌, ◌≢◌, ℕ, zero, suc, ◌+◌, ◌<◌, ◌≤◌, List, [], ◌∷◌, length, Option, Some, Bool, true, false, refl, sym, ap, ◌∙◌, subst, arith}
-use Rattle.std.specs.Prelude.{if◌then◌else◌, slice_set, pos}
-use Rattle.lt_model.specs.declared.cell.Content.{Content}
+use Rattle.std.proofs.Common.{◌≡◌, ℕ, ◌+◌, ◌<◌, ◌≤◌, List, [], ◌∷◌, length, Option, Bool, true, false, refl, sym, ap, ap₂, ◌∙◌, subst, arith}
+use Rattle.std.specs.Prelude.{pos}
 use Rattle.lt_model.specs.declared.cell.Content.TheVariants as content
 use Rattle.lt_model.specs.declared.cell.Address.{Address}
-use Rattle.lt_model.specs.declared.cell.Shape.{Shape}
-use Rattle.lt_model.specs.declared.cell.CellType.{CellType}
-use Rattle.lt_model.specs.declared.scalar.DataModel.{DataModel}
 use Rattle.lt_model.specs.declared.scalar.Scalar.{Scalar}
-use Rattle.lt_model.specs.State.{Footprint, Valued, untouched, Gives, Ends}
-use Rattle.lt_tree.specs.Typing.Types.{CType, Num, is_struct}
+use Rattle.lt_model.specs.State.{untouched, Gives, Ends}
+use Rattle.lt_tree.specs.Typing.Types.{Num, is_struct}
 use Rattle.lt_tree.specs.Typing.TypedTree as e
-use Rattle.lt_tree.specs.Typing.TypedTree.{Value, Mark, Local, StartPart, type_of}
-use Rattle.lt_ir.specs.Running.{Variable, At, Answer, Step, Over, ◌>>=◌, ◌>>◌, gives, tick, place, begins, seals}
-use Rattle.lt_ir.specs.Evaluation.{valued, address_in, used, stored, copied, with_reads, member_at}
-use Rattle.lt_code.specs.Meaning.Expressions.{Calls, eval, taken, assigned, shape, cell_type, marked}
-use Rattle.lt_code.specs.Meaning.Statements.{filled, filled_all, spelled, put_at, opened, sealed_if, is_zeroed, parts_in, is_sealed_object, type_of_object}
-use Rattle.lt_ir.specs.Graph as g
-use Rattle.lt_ir.specs.Graph.{Graph, Node, Config, Frame, Register, Goes, Stops, Read, register_at, content_at, had, act, step, going, goes, puts, puts_with, tracks}
-use Rattle.lt_code.specs.Code.{Places, Setting, around, either, HasMark, HasLetters, HasPart, HasAllParts, HasSeal, HasOpening}
-use Rattle.lt_code.proofs.Finishing.{finish, Finishes, conf, stands_at, Later, Calm, later_same, later_still, go, stop, through, step_at, with_bind, ExprRuns, TestRuns}
-use Rattle.lt_code.proofs.CalmObjects.{through_so, calm_bind, calm_place, calm_seals, calm_member, calm_address, calm_used, calm_stored, calm_copied, calm_with_reads, begins_holds, Began, tick_holds, Ticked}
+use Rattle.lt_tree.specs.Typing.TypedTree.{Value, Local, StartPart, type_of}
+use Rattle.lt_ir.specs.declared.variable.Variable.{Variable}
+use Rattle.lt_ir.specs.declared.node.Node.TheVariants as node
+use Rattle.lt_ir.specs.Running.{At, Answer, Step, Over, ◌>>=◌, ◌>>◌, gives, tick, place, begins, seals}
+use Rattle.lt_ir.specs.Evaluation.{valued, stored, member_at}
+use Rattle.lt_ir.specs.Graph.{Register, shape_at, going, goes}
+use Rattle.lt_meaning.specs.Expressions.{wanted, eval, assigned as assigned_in, shape, cell_type}
+use Rattle.lt_meaning.specs.Statements.{filled, filled_all, spelled, put_at, opened, sealed_if as sealed_in, is_zeroed, parts_in, is_sealed_object, type_of_object}
+use Rattle.lt_code.specs.Pieces.{Piece}
+use Rattle.lt_code.specs.Bodies.{part_address, letters, part, parts, sealed_if, opening}
+use Rattle.lt_code.proofs.Finishing.{finish, conf, Later, later_same, later_still, stop, through, step_at, with_bind}
+use Rattle.lt_code.proofs.Registers.{After}
+use Rattle.lt_code.proofs.Nodes.{Scene, program_at, here_in, model_of, wide, Run, constant_node, address_node, member_node, store_node, bind_run}
+use Rattle.lt_code.proofs.FullExpressions.{tracked_at, tracked_here, Full, full_then}
+use Rattle.lt_code.proofs.Stores.{assigned_run}
+use Rattle.lt_code.proofs.CalmObjects.{through_so, calm-seals, begins_holds, Began, tick_holds, Ticked}
 
--- ---- registers
+-- a tick, which leaves fewer
+pub tick_run : {B : Type 0} (z : Scene) (i to : ℕ) (rs : List Register) (at : At) (rest : Step B) (k : B → At → Over) → z.site.stands i (node.Tick to) → ((at1 : At) → at1.ticks < at.ticks → Later at at1 → Run z to rs at1 (finish (rest at1) k)) → Run z i rs at (finish ((tick >> rest) at) k)
+tick_run z i to rs at rest k has h =
+    with_bind z.graph _ tick (λ u. rest) at k (through_so z.graph (Ticked at) (conf z.code i rs z.stack at) (tick at) (λ u at1. conf z.code to rs z.stack at1) _ (step_at z.graph z.code i (node.Tick to) rs z.stack at (z.nodes i _ has)) (tick_holds at) (λ u at1 l. h at1 l.0 (record { ticks = omega (arith, l.0); scope = l.1; depth = l.2 })))
 
-pub at_set : (rs : List Register) (r : ℕ) (v : Register) → r < length rs → register_at (slice_set rs r v) r ≡ v
-at_set [] r v lt = absurd (omega arith)
-at_set (x ∷ rs) zero v lt = refl
-at_set (x ∷ rs) (suc r) v lt = at_set rs r v (omega arith)
+-- the code of a step that gives nothing and leaves the scope
+abbrev pub Effect : Scene → Step (Unit {0}) → Piece → Type 0
+Effect z m piece =
+    (from to : ℕ) → piece from to → (rs : List Register) → length rs ≡ wide z → (at : At) → at.ticks ≤ z.most → (k : Unit {0} → At → Over) → ((u : Unit {0}) (at1 : At) (rs1 : List Register) → length rs1 ≡ wide z → Later at at1 → Run z to rs1 at1 (k u at1)) → Run z from rs at (finish (m at) k)
 
-pub at_other : (rs : List Register) (r i : ℕ) (v : Register) → i ≢ r → register_at (slice_set rs r v) i ≡ register_at rs i
-at_other [] r i v ne = refl
-at_other (x ∷ rs) zero zero v ne = absurd (ne refl)
-at_other (x ∷ rs) zero (suc i) v ne = refl
-at_other (x ∷ rs) (suc r) zero v ne = refl
-at_other (x ∷ rs) (suc r) (suc i) v ne = at_other rs r i v (λ e. ne (ap suc e))
-
-pub long_set : (rs : List Register) (r : ℕ) (v : Register) → length (slice_set rs r v) ≡ length rs
-long_set [] r v = refl
-long_set (x ∷ rs) zero v = refl
-long_set (x ∷ rs) (suc r) v = ap suc (long_set rs r v)
-
--- one register has a new content and a footprint
-pub record Wrote (w r : ℕ) (rs rs1 : List Register) (c : Content) (p : Footprint) : Type 0 where
-  pub content : (register_at rs1 r).content ≡ Some c
-  pub footprint : (register_at rs1 r).footprint ≡ p
-  pub others : (i : ℕ) → i ≢ r → register_at rs1 i ≡ register_at rs i
-  pub long : length rs1 ≡ w
-
-pub wrote : (w r : ℕ) (rs : List Register) (o : Option Content) (c : Content) (p : Footprint) → o ≡ Some c → r < w → length rs ≡ w → Wrote w r rs (slice_set rs r (record { content = o; footprint = p })) c p
-wrote w r rs o c p e lt long =
-    let v : Register = record { content = o; footprint = p } in
-    let same = at_set rs r v (omega arith) in
-    record { content = ap (λ q. q.content) same ∙ e; footprint = ap (λ q. q.footprint) same; others = λ i ne. at_other rs r i v ne; long = long_set rs r v ∙ long }
-
-calm_assigned : (s : Setting) (t : CType) (a : Option Address) (c : Content) (p : Footprint) (b : Bool) → Calm (assigned s.program t a c p b)
-calm_assigned s t a c p true =
-    calm_bind (address_in c) (λ from. copied s.program.model (shape s.program t) a from p >>= (λ footprint. gives (valued (content.Address a) footprint))) (calm_address c) (λ from. calm_bind (copied s.program.model (shape s.program t) a from p) (λ footprint. gives (valued (content.Address a) footprint)) (calm_copied s.program.model (shape s.program t) a from p) (λ u at. later_same at))
-calm_assigned s t a c p false =
-    calm_bind (used c) (λ it. stored s.program.model (cell_type s.program t) a it p >>= (λ footprint. gives (valued it footprint))) (calm_used c) (λ it. calm_bind (stored s.program.model (cell_type s.program t) a it p) (λ footprint. gives (valued it footprint)) (calm_stored s.program.model (cell_type s.program t) a it p) (λ u at. later_same at))
-
--- what a copy node and a store node do, over what their registers have
-abbrev copies : DataModel → Shape → Option Content → Option Content → Footprint → Step (Valued Content)
-copies model sh o1 o2 p = had o1 >>= address_in >>= (λ a. had o2 >>= address_in >>= (λ b. copied model sh a b p >>= (λ footprint. gives (valued (content.Address a) footprint))))
-
-abbrev stores : DataModel → CellType → Option Content → Option Content → Footprint → Step (Valued Content)
-stores model ty o1 o2 p = had o1 >>= address_in >>= (λ a. had o2 >>= used >>= (λ x. had o2 >>= (λ y. stored model ty a x p >>= (λ footprint. gives (valued y footprint)))))
-
-stored_itself : (s : Setting) (t : CType) (a : Option Address) (c : Content) (p : Footprint) → stores s.program.model (cell_type s.program t) (Some (content.Address a)) (Some c) p ≡ assigned s.program t a c p false
-stored_itself s t a content.Unset p = refl
-stored_itself s t a (content.Number z) p = refl
-stored_itself s t a (content.Address b) p = refl
+-- the address of a part of a variable goes to register 0
+address_run : {B : Type 0} (z : Scene) (v : Variable) (offset from to : ℕ) → 1 < wide z → part_address z.site v offset from to → (rs : List Register) → length rs ≡ wide z → (at : At) (on : Option Address → Step B) (k : B → At → Over) → ((p : Option Address) (at1 : At) (rs1 : List Register) → After true (wide z) 0 rs rs1 (valued (content.Address p) untouched) → Later at at1 → Run z to rs1 at1 (finish (on p at1) k)) → Run z from rs at (finish ((place v >>= (λ a. member_at offset a >>= on)) at) k)
+address_run z v offset from to lt has rs long at on k h =
+    bind_run z from rs (place v) (λ a. member_at offset a >>= on) at k (address_node z from 0 has.0 v rs at _ has.1 (omega (arith, lt)) (λ a at1 rs1 w1 l1.
+    bind_run z has.0 rs1 (member_at offset a) on at1 k (member_node z has.0 0 to offset rs1 at1 a _ has.2 (omega (arith, lt, w1.long)) (ap (λ x. x.content) w1.here) (λ p at2 rs2 re l2.
+    h p at2 rs2 (record { content = λ e. re.content; footprint = re.footprints 0 ∙ ap (λ x. x.footprint) w1.here; below = λ i under. absurd (omega arith); long = re.long ∙ w1.long ∙ long }) (later_still at at1 at2 l1 l2)))))
 
 -- what follows an answer, put behind it
-pub without_bind : {A B : Type 0} (graph : Graph) (c : Config) (m : Step A) (go_on : A → Step B) (at : At) (k : B → At → Over) → Finishes graph c (finish ((m >>= go_on) at) k) → Finishes graph c (finish (m at) (λ a at1. finish (go_on a at1) k))
-without_bind graph c m go_on at k h = by_answer (m at) h
+without_bind : {A B : Type 0} (z : Scene) (i : ℕ) (rs : List Register) (m : Step A) (go_on : A → Step B) (at : At) (k : B → At → Over) → Run z i rs at (finish ((m >>= go_on) at) k) → Run z i rs at (finish (m at) (λ a at1. finish (go_on a at1) k))
+without_bind z i rs m go_on at k h = by_answer (m at) h
   where
-    by_answer : (a : Answer _) → Finishes graph c (finish (elim (a) [ Gives a at1 ↦ go_on a at1 | Ends end at1 ↦ Ends end at1 ]) k) → Finishes graph c (finish a (λ a at1. finish (go_on a at1) k))
+    by_answer : (a : Answer _) → Run z i rs at (finish (elim (a) [ Gives a at1 ↦ go_on a at1 | Ends end at1 ↦ Ends end at1 ]) k) → Run z i rs at (finish a (λ a at1. finish (go_on a at1) k))
     by_answer (Gives a at1) h = h
     by_answer (Ends end at1) h = h
 
-module _ (graph : Graph) (f : ℕ) (stack : List Frame) where
-  abbrev P : Places
-  P = stands_at graph f
+letters_run : (z : Scene) (v : Variable) (t : Scalar) (offset : ℕ) (bytes : List ℕ) → Effect z (spelled (program_at z) v t offset bytes) (letters z.site v t offset bytes)
+letters_run z v t offset [] from to has rs long at le k h = subst (λ i. Run z i rs at (k tt at)) (sym has) (h tt at rs long (later_same at))
+letters_run z v t offset (b ∷ bytes) from to has rs long at le k h =
+    let P = has.1 in
+    let c = content.Number (pos b) in
+    let ty = cell_type (program_at z) (Num t) in
+    with_bind z.graph _ (put_at (program_at z) v offset (Num t) c) _ at k (address_run z v offset from P.0 has.0 P.1 rs long at (λ p. stored false (model_of z) ty p c untouched >> gives tt) _ (λ p at2 rs2 a2 l2.
+    constant_node z P.0 1 P.2.0 c rs2 at2 _ P.2.1 (omega (arith, a2.long, has.0)) (λ rs3 w3.
+    bind_run z P.2.0 rs3 (stored false (model_of z) ty p c untouched) (λ q. gives tt) at2 _
+    (without_bind z P.2.0 rs3 (stored false (model_of z) ty p c untouched) (λ q. gives (valued c q)) at2 (λ x at4. finish (spelled (program_at z) v t (offset + 1) bytes at4) k)
+    (store_node z false P.2.0 0 1 1 P.2.2.0 ty rs3 at2 p c c untouched _ P.2.2.1 (omega (arith, w3.long, a2.long, has.0)) (ap (λ y. y.content) (w3.others 0 (λ e. absurd (omega arith))) ∙ a2.content refl) (ap (λ y. y.content) w3.here) (ap (λ y. y.content) w3.here) (ap (λ y. y.footprint) (w3.others 0 (λ e. absurd (omega arith))) ∙ a2.footprint) (λ x at4 rs4 w4 l4.
+    letters_run z v t (offset + 1) bytes P.2.2.0 to P.2.2.2 rs4 (w4.long ∙ w3.long ∙ a2.long) at4 (omega (arith, l2.ticks, l4.ticks)) k (λ u at5 rs5 long5 l5. h u at5 rs5 long5 (later_still at at2 at5 l2 (later_still at2 at4 at5 l4 l5)))))))))
 
-  -- a tick, which leaves fewer
-  pub tick_run : {B : Type 0} (i to : ℕ) (rs : List Register) (at : At) (rest : Step B) (k : B → At → Over) → P i (g.Tick to) → ((at1 : At) → at1.ticks < at.ticks → Later at at1 → Finishes graph (conf f to rs stack at1) (finish (rest at1) k)) → Finishes graph (conf f i rs stack at) (finish ((tick >> rest) at) k)
-  tick_run i to rs at rest k has h =
-      with_bind graph _ tick (λ u. rest) at k (through_so graph (Ticked at) (conf f i rs stack at) (tick at) (λ u at1. conf f to rs stack at1) _ (step_at graph f i (g.Tick to) rs stack at has) (tick_holds at) (λ u at1 l. h at1 l.0 (record { ticks = omega (arith, l.0); scope = l.1; depth = l.2 })))
+part_run : (z : Scene) → ((v : Value) → Full z v) → (v : Variable) (it : StartPart) → Effect z (filled (tracked_here z) v it) (part z.site v it)
+part_run z expr v (e.stored offset value) from to has rs long at le k h =
+    let P = has.1 in
+    let t = type_of value in
+    address_run z v offset from P.0 has.0 P.1 rs long at (λ p. eval (tracked_here z) wanted value >>= (λ x. assigned_in (here_in (tracked_at false z)) t p x.value untouched (is_struct t) >> gives tt)) k (λ p at2 rs2 a2 l2.
+    full_then z value (expr value) wanted 1 P.0 P.2.0 P.2.1 rs2 a2.long at2 (omega (arith, l2.ticks)) (λ c. assigned_in (here_in (tracked_at false z)) t p c untouched (is_struct t) >> gives tt) k (λ x at3 rs3 a3 l3.
+    bind_run z P.2.0 rs3 (assigned_in (here_in (tracked_at false z)) t p x.value untouched (is_struct t)) (λ y. gives tt) at3 k (assigned_run (tracked_at false z) t 0 1 P.2.0 to P.2.2 rs3 at3 p x.value untouched (omega (arith, a3.long, has.0)) (ap (λ y. y.content) (a3.below 0 (omega arith)) ∙ a2.content refl) (a3.content refl) (ap (λ y. y.footprint) (a3.below 0 (omega arith)) ∙ a2.footprint) _ (λ y at4 rs4 w4 l4.
+    h tt at4 rs4 (w4.long ∙ a3.long) (later_still at at2 at4 l2 (later_still at2 at3 at4 l3 l4))))))
+part_run z expr v (e.fixed offset t c) from to has rs long at le k h = stop z.graph _ _ at (step_at z.graph z.code from node.Stop rs z.stack at (z.nodes from _ has))
+part_run z expr v (e.letters offset t bytes) from to has rs long at le k h = letters_run z v t offset bytes from to has rs long at le k h
 
-  address_run : (w r i to : ℕ) (v : Variable) → P i (g.Address r v to) → r < w → (rs : List Register) → length rs ≡ w → (at : At) → (k : Option Address → At → Over) → ((a : Option Address) (at1 : At) (rs1 : List Register) → Wrote w r rs rs1 (content.Address a) untouched → Later at at1 → Finishes graph (conf f to rs1 stack at1) (k a at1)) → Finishes graph (conf f i rs stack at) (finish (place v at) k)
-  address_run w r i to v has lt rs long at k h =
-      through graph at (conf f i rs stack at) (place v at) (λ a at1. conf f to (slice_set rs r (record { content = Some (content.Address a); footprint = untouched })) stack at1) k (step_at graph f i (g.Address r v to) rs stack at has) (calm_place v at) (λ a at1 l. h a at1 _ (wrote w r rs _ _ _ refl lt long) l)
+parts_run : (z : Scene) → ((v : Value) → Full z v) → (v : Variable) (its : List StartPart) → Effect z (filled_all (tracked_here z) v its) (parts z.site v its)
+parts_run z expr v [] from to has rs long at le k h = subst (λ i. Run z i rs at (k tt at)) (sym has) (h tt at rs long (later_same at))
+parts_run z expr v (it ∷ its) from to has rs long at le k h =
+    with_bind z.graph _ (filled (tracked_here z) v it) _ at k (part_run z expr v it from has.0 has.1 rs long at le _ (λ u at1 rs1 long1 l1. parts_run z expr v its has.0 to has.2 rs1 long1 at1 (omega (arith, l1.ticks)) k (λ u at2 rs2 long2 l2. h u at2 rs2 long2 (later_still at at1 at2 l1 l2))))
 
-  member_run : (w r i to offset : ℕ) (a : Option Address) → P i (g.Member r r offset to) → r < w → (rs : List Register) → length rs ≡ w → (register_at rs r).content ≡ Some (content.Address a) → (at : At) → (k : Option Address → At → Over) → ((b : Option Address) (at1 : At) (rs1 : List Register) → Wrote w r rs rs1 (content.Address b) (register_at rs r).footprint → Later at at1 → Finishes graph (conf f to rs1 stack at1) (k b at1)) → Finishes graph (conf f i rs stack at) (finish (member_at offset a at) k)
-  member_run w r i to offset a has lt rs long has_a at k h =
-      through graph at (conf f i rs stack at) (member_at offset a at) (λ b at1. conf f to (slice_set rs r (record { content = Some (content.Address b); footprint = (register_at rs r).footprint })) stack at1) k (step_at graph f i (g.Member r r offset to) rs stack at has ∙ ap (λ c. going (had c >>= address_in >>= member_at offset) at (λ b. puts (conf f i rs stack at) r (content.Address b) to)) has_a) (calm_member offset a at) (λ b at1 l. h b at1 _ (wrote w r rs _ _ _ refl lt long) l)
+seal_run : (z : Scene) (b : Bool) (v : Variable) → Effect z (sealed_in b v) (sealed_if z.site.stands b v)
+seal_run z true v from to has rs long at le k h =
+    through z.graph at (conf z.code from rs z.stack at) (seals v at) (λ u at1. conf z.code to rs z.stack at1) k (step_at z.graph z.code from (node.Seal v to) rs z.stack at (z.nodes from _ has)) (calm-seals v at) (λ u at1 l. h u at1 rs long l)
+seal_run z false v from to has rs long at le k h = subst (λ i. Run z i rs at (k tt at)) (sym has) (h tt at rs long (later_same at))
 
-  reads_run : (b : Bool) (sh : Shape) (w r i to : ℕ) → either b (P i (g.Clash (Read sh r) to)) (i ≡ to) → r < w → (rs : List Register) → length rs ≡ w → (x : Valued Content) → (register_at rs r).content ≡ Some x.value → (register_at rs r).footprint ≡ x.footprint → (at : At) → (k : Footprint → At → Over) → ((p : Footprint) (at1 : At) (rs1 : List Register) → Wrote w r rs rs1 x.value p → Later at at1 → Finishes graph (conf f to rs1 stack at1) (k p at1)) → Finishes graph (conf f i rs stack at) (finish ((if b then with_reads sh x else gives x.footprint) at) k)
-  reads_run true sh w r i to has lt rs long x has_x has_p at k h =
-      through graph at (conf f i rs stack at) (with_reads sh x at) (λ p at1. conf f to (slice_set rs r (record { content = (register_at rs r).content; footprint = p })) stack at1) k (step_at graph f i (g.Clash (Read sh r) to) rs stack at has
-      ∙ ap (λ c. going (had c >>= (λ y. with_reads sh (valued y (register_at rs r).footprint))) at (λ p. tracks (conf f i rs stack at) r p to)) has_x
-      ∙ ap (λ q. going (with_reads sh (valued x.value q)) at (λ p. tracks (conf f i rs stack at) r p to)) has_p) (calm_with_reads sh x at) (λ p at1 l. h p at1 _ (wrote w r rs _ _ _ has_x lt long) l)
-  reads_run false sh w r i to has lt rs long x has_x has_p at k h =
-      subst (λ j. Finishes graph (conf f j rs stack at) (k x.footprint at)) (sym has) (h x.footprint at rs (record { content = has_x; footprint = has_p; others = λ i ne. refl; long = long }) (later_same at))
-
-  module _ (s : Setting) (same : graph.model ≡ s.program.model) where
-    -- a content goes to the address in another register
-    assign_run : (b : Bool) (t : CType) (w r q i to : ℕ) → either b (P i (g.Copy r r q q (shape s.program t) to)) (P i (g.Store r r q q q (cell_type s.program t) to)) → r < w → (rs : List Register) → length rs ≡ w → (a : Option Address) (c : Content) (p : Footprint) → (register_at rs r).content ≡ Some (content.Address a) → (register_at rs q).content ≡ Some c → (register_at rs q).footprint ≡ p → (at : At) → (k : Valued Content → At → Over) → ((x : Valued Content) (at1 : At) (rs1 : List Register) → length rs1 ≡ w → Later at at1 → Finishes graph (conf f to rs1 stack at1) (k x at1)) → Finishes graph (conf f i rs stack at) (finish (assigned s.program t a c p b at) k)
-    assign_run true t w r q i to has lt rs long a c p has_a has_c has_p at k h =
-        let conf0 = conf f i rs stack at in
-        through graph at conf0 (assigned s.program t a c p true at) (λ x at1. conf f to (slice_set rs r (record { content = Some x.value; footprint = x.footprint })) stack at1) k (step_at graph f i (g.Copy r r q q (shape s.program t) to) rs stack at has
-        ∙ ap (λ m. going (copies m (shape s.program t) (register_at rs r).content (register_at rs q).content (register_at rs q).footprint) at (λ x. puts_with conf0 r x.value x.footprint to)) same
-        ∙ ap (λ o. going (copies s.program.model (shape s.program t) o (register_at rs q).content (register_at rs q).footprint) at (λ x. puts_with conf0 r x.value x.footprint to)) has_a
-        ∙ ap (λ o. going (copies s.program.model (shape s.program t) (Some (content.Address a)) o (register_at rs q).footprint) at (λ x. puts_with conf0 r x.value x.footprint to)) has_c
-        ∙ ap (λ o. going (copies s.program.model (shape s.program t) (Some (content.Address a)) (Some c) o) at (λ x. puts_with conf0 r x.value x.footprint to)) has_p) (calm_assigned s t a c p true at) (λ x at1 l. h x at1 _ (long_set rs r _ ∙ long) l)
-    assign_run false t w r q i to has lt rs long a c p has_a has_c has_p at k h =
-        let conf0 = conf f i rs stack at in
-        through graph at conf0 (assigned s.program t a c p false at) (λ x at1. conf f to (slice_set rs r (record { content = Some x.value; footprint = x.footprint })) stack at1) k (step_at graph f i (g.Store r r q q q (cell_type s.program t) to) rs stack at has
-        ∙ ap (λ m. going (stores m (cell_type s.program t) (register_at rs r).content (register_at rs q).content (register_at rs q).footprint) at (λ x. puts_with conf0 r x.value x.footprint to)) same
-        ∙ ap (λ o. going (stores s.program.model (cell_type s.program t) o (register_at rs q).content (register_at rs q).footprint) at (λ x. puts_with conf0 r x.value x.footprint to)) has_a
-        ∙ ap (λ o. going (stores s.program.model (cell_type s.program t) (Some (content.Address a)) o (register_at rs q).footprint) at (λ x. puts_with conf0 r x.value x.footprint to)) has_c
-        ∙ ap (λ o. going (stores s.program.model (cell_type s.program t) (Some (content.Address a)) (Some c) o) at (λ x. puts_with conf0 r x.value x.footprint to)) has_p
-        ∙ ap (λ m. going m at (λ x. puts_with conf0 r x.value x.footprint to)) (stored_itself s t a c p)) (calm_assigned s t a c p false at) (λ x at1 l. h x at1 _ (long_set rs r _ ∙ long) l)
-
--- what is known of expressions in a function's code
-pub record ExpressionsRun (graph : Graph) (s : Setting) (calls : Calls) (n : ℕ) (f : ℕ) (stack : List Frame) : Type 0 where
-  pub expr : (v : Value) → ExprRuns graph s calls n f stack v
-  pub test : (v : Value) → TestRuns graph s calls n f stack v
-  pub mark : (label : Mark) (from to : ℕ) → HasMark s label (stands_at graph f) from to → (rs : List Register) (at : At) (o : Over) → Finishes graph (conf f to rs stack (marked (around s calls) label at)) o → Finishes graph (conf f from rs stack at) o
-
-module _ (graph : Graph) (s : Setting) (same : graph.model ≡ s.program.model) (calls : Calls) (n : ℕ) (f : ℕ) (stack : List Frame) (ex : ExpressionsRun graph s calls n f stack) where
-  -- the code of a step that gives nothing and leaves the scope
-  abbrev pub Effect : Step (Unit {0}) → (w from to : ℕ) → Type 0
-  Effect m w from to = (rs : List Register) → length rs ≡ w → (at : At) → at.ticks ≤ n → (k : Unit {0} → At → Over) → ((u : Unit {0}) (at1 : At) (rs1 : List Register) → length rs1 ≡ w → Later at at1 → Finishes graph (conf f to rs1 stack at1) (k u at1)) → Finishes graph (conf f from rs stack at) (finish (m at) k)
-
-  letters_run : (v : Variable) (t : Scalar) (offset : ℕ) (bytes : List ℕ) (w from to : ℕ) → HasLetters s v t offset bytes (stands_at graph f) w from to → Effect (spelled s.program v t offset bytes) w from to
-  letters_run v t offset [] w from to has rs long at le k h = subst (λ i. Finishes graph (conf f i rs stack at) (k tt at)) (sym has) (h tt at rs long (later_same at))
-  letters_run v t offset (b ∷ bytes) w from to has rs long at le k h =
-      with_bind graph _ (put_at s.program v offset (Num t) (content.Number (pos b))) _ at k
-      (with_bind graph _ (place v) _ at _ (address_run graph f stack w 0 from has.0 v has.5 (omega (arith, has.4)) rs long at _ (λ a at1 rs1 w1 l1.
-      with_bind graph _ (member_at offset a) _ at1 _ (member_run graph f stack w 0 has.0 has.1 offset a has.6 (omega (arith, has.4)) rs1 w1.long w1.content at1 _ (λ p at2 rs2 w2 l2.
-      let rs3 = slice_set rs2 1 (record { content = Some (content.Number (pos b)); footprint = untouched }) in
-      let w3 = wrote w 1 rs2 _ _ untouched refl has.4 w2.long in
-      go graph _ _ _ (step_at graph f has.1 (g.Constant 1 (content.Number (pos b)) false has.2) rs2 stack at2 has.7)
-      (with_bind graph _ (stored s.program.model (cell_type s.program (Num t)) p (content.Number (pos b)) untouched) _ at2 _
-      (without_bind graph _ (stored s.program.model (cell_type s.program (Num t)) p (content.Number (pos b)) untouched) (λ q. gives (valued (content.Number (pos b)) q)) at2 (λ x at4. finish (spelled s.program v t (offset + 1) bytes at4) k)
-      (assign_run graph f stack s same false (Num t) w 0 1 has.2 has.3 has.8 (omega (arith, has.4)) rs3 w3.long p (content.Number (pos b)) untouched (ap (λ q. q.content) (w3.others 0 (omega arith)) ∙ w2.content) w3.content w3.footprint at2 _ (λ x at4 rs4 long4 l4.
-      letters_run v t (offset + 1) bytes w has.3 to has.9 rs4 long4 at4 (omega (arith, l1.ticks, l2.ticks, l4.ticks)) k (λ u at5 rs5 long5 l5. h u at5 rs5 long5 (later_still at at4 at5 (later_still at at2 at4 (later_still at at1 at2 l1 l2) l4) l5)))))))))))
-
-  part_run : (v : Variable) (part : StartPart) (w from to : ℕ) → HasPart s v part (stands_at graph f) w from to → Effect (filled (around s calls) v part) w from to
-  part_run v (e.stored offset value) w from to has rs long at le k h =
-      with_bind graph _ (place v) _ at k (address_run graph f stack w 0 from has.0 v has.5 (omega (arith, has.4)) rs long at _ (λ a at1 rs1 w1 l1.
-      with_bind graph _ (member_at offset a) _ at1 k (member_run graph f stack w 0 has.0 has.1 offset a has.6 (omega (arith, has.4)) rs1 w1.long w1.content at1 _ (λ p at2 rs2 w2 l2.
-      with_bind graph _ (eval (around s calls) true value) _ at2 k (ex.expr value true w 1 has.1 has.2 has.7 rs2 w2.long at2 (omega (arith, l1.ticks, l2.ticks)) _ (λ x at3 rs3 a3 l3.
-      with_bind graph _ (taken s.program (type_of value) x) _ at3 k (reads_run graph f stack (is_struct (type_of value)) (shape s.program (type_of value)) w 1 has.2 has.3 has.8 has.4 rs3 a3.long x (a3.content refl) a3.footprint at3 _ (λ footprint at4 rs4 w4 l4.
-      with_bind graph _ (assigned s.program (type_of value) p x.value footprint (is_struct (type_of value))) _ at4 k (assign_run graph f stack s same (is_struct (type_of value)) (type_of value) w 0 1 has.3 to has.9 (omega (arith, has.4)) rs4 w4.long p x.value footprint
-      (ap (λ q. q.content) (w4.others 0 (omega arith) ∙ a3.below 0 (omega arith)) ∙ w2.content) w4.content w4.footprint at4 _ (λ y at5 rs5 long5 l5. h tt at5 rs5 long5 (later_still at at4 at5 (later_still at at3 at4 (later_still at at2 at3 (later_still at at1 at2 l1 l2) l3) l4) l5)))))))))))
-  part_run v (e.fixed offset t c) w from to has rs long at le k h = stop graph _ _ at (step_at graph f from g.Stop rs stack at has)
-  part_run v (e.letters offset t bytes) w from to has rs long at le k h = letters_run v t offset bytes w from to has rs long at le k h
-
-  parts_run : (v : Variable) (parts : List StartPart) (w from to : ℕ) → HasAllParts s v parts (stands_at graph f) w from to → Effect (filled_all (around s calls) v parts) w from to
-  parts_run v [] w from to has rs long at le k h = subst (λ i. Finishes graph (conf f i rs stack at) (k tt at)) (sym has) (h tt at rs long (later_same at))
-  parts_run v (part ∷ parts) w from to has rs long at le k h =
-      with_bind graph _ (filled (around s calls) v part) _ at k (part_run v part w from has.0 has.1 rs long at le _ (λ u at1 rs1 long1 l1. parts_run v parts w has.0 to has.2 rs1 long1 at1 (omega (arith, l1.ticks)) k (λ u at2 rs2 long2 l2. h u at2 rs2 long2 (later_still at at1 at2 l1 l2))))
-
-  pub seal_run : (b : Bool) (v : Variable) (w from to : ℕ) → HasSeal b v (stands_at graph f) from to → Effect (sealed_if b v) w from to
-  seal_run true v w from to has rs long at le k h =
-      through graph at (conf f from rs stack at) (seals v at) (λ u at1. conf f to rs stack at1) k (step_at graph f from (g.Seal v to) rs stack at has) (calm_seals v at) (λ u at1 l. h u at1 rs long l)
-  seal_run false v w from to has rs long at le k h = subst (λ i. Finishes graph (conf f i rs stack at) (k tt at)) (sym has) (h tt at rs long (later_same at))
-
-  -- a variable begins, and is the innermost one in scope
-  pub opening_run : (it : Local) (w from to : ℕ) → HasOpening s it (stands_at graph f) w from to → (rs : List Register) → length rs ≡ w → (at : At) → at.ticks ≤ n → (k : Unit {0} → At → Over) → ((u : Unit {0}) (at1 : At) (rs1 : List Register) → length rs1 ≡ w → Began at (s.variable it.object) u at1 → Finishes graph (conf f to rs1 stack at1) (k u at1)) → Finishes graph (conf f from rs stack at) (finish (opened (around s calls) it at) k)
-  opening_run it w from to has rs long at le k h =
-      let v = s.variable it.object in
-      with_bind graph _ (begins v (shape s.program (type_of_object s.program it.object)) (is_zeroed it.start)) _ at k (through_so graph (Began at v) (conf f from rs stack at) (begins v (shape s.program (type_of_object s.program it.object)) (is_zeroed it.start) at) (λ u at1. conf f has.0 rs stack at1) _ (step_at graph f from (g.Create v (shape s.program (type_of_object s.program it.object)) (is_zeroed it.start) has.0) rs stack at has.2) (begins_holds v (shape s.program (type_of_object s.program it.object)) (is_zeroed it.start) at) (λ u at1 began.
-      with_bind graph _ (filled_all (around s calls) v (parts_in it.start)) _ at1 k (parts_run v (parts_in it.start) w has.0 has.1 has.3 rs long at1 (omega (arith, began.1)) _ (λ u at2 rs2 long2 l2.
-      seal_run (is_sealed_object s.program it.object) v w has.1 to has.4 rs2 long2 at2 (omega (arith, began.1, l2.ticks)) k (λ u at3 rs3 long3 l3. h u at3 rs3 long3 (began.0, omega (arith, began.1, l2.ticks, l3.ticks), l3.scope ∙ l2.scope ∙ began.2, l3.depth ∙ l2.depth ∙ began.3))))))
+-- a variable begins, and is the innermost one in scope
+pub opening_run : (z : Scene) → ((v : Value) → Full z v) → (it : Local) (from to : ℕ) → opening z.site it from to → (rs : List Register) → length rs ≡ wide z → (at : At) → at.ticks ≤ z.most → (k : Unit {0} → At → Over) → ((u : Unit {0}) (at1 : At) (rs1 : List Register) → length rs1 ≡ wide z → Began at (z.site.names.variable it.object) u at1 → Run z to rs1 at1 (k u at1)) → Run z from rs at (finish (opened (tracked_here z) it at) k)
+opening_run z expr it from to has rs long at le k h =
+    let v = z.site.names.variable it.object in
+    let sh = shape (program_at z) (type_of_object (program_at z) it.object) in
+    let m = has.1 in
+    with_bind z.graph _ (begins v sh (is_zeroed it.start)) _ at k (through_so z.graph (Began at v) (conf z.code from rs z.stack at) (begins v sh (is_zeroed it.start) at) (λ u at1. conf z.code has.0 rs z.stack at1) _ (step_at z.graph z.code from (node.Create m.0 (is_zeroed it.start) has.0) rs z.stack at (z.nodes from _ m.3) ∙ ap₂ (λ w shape. going (begins w shape (is_zeroed it.start)) at (λ u. goes (conf z.code from rs z.stack at) has.0)) (sym m.1) (ap (λ l. shape_at l m.0) z.locals ∙ m.2)) (begins_holds v sh (is_zeroed it.start) at) (λ u at1 began.
+    with_bind z.graph _ (filled_all (tracked_here z) v (parts_in it.start)) _ at1 k (parts_run z expr v (parts_in it.start) has.0 has.2.0 has.2.1 rs long at1 (omega (arith, began.1)) _ (λ u at2 rs2 long2 l2.
+    seal_run z (is_sealed_object (program_at z) it.object) v has.2.0 to has.2.2 rs2 long2 at2 (omega (arith, began.1, l2.ticks)) k (λ u at3 rs3 long3 l3. h u at3 rs3 long3 (began.0, omega (arith, began.1, l2.ticks, l3.ticks), l3.scope ∙ l2.scope ∙ began.2, l3.depth ∙ l2.depth ∙ began.3))))))

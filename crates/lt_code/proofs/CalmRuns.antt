@@ -11,15 +11,19 @@ use Rattle.lt_model.specs.declared.run.End.{End as RunEnd}
 use Rattle.lt_model.specs.Memory.{Block, new_block, cells_alive, most_cells}
 use Rattle.lt_model.specs.State.{untouched, Gives, Ends}
 use Rattle.lt_tree.specs.Typing.Programs.{Program}
-use Rattle.lt_ir.specs.Running.{Variable, parameter, static, Bound, At, Answer, Step, ◌>>=◌, ◌>>◌, gives, place, begins, without, statics_of, is_static, begin_parameters, bound_to, Initial, placed, block_of_initial, start_statics}
+use Rattle.lt_ir.specs.declared.variable.Variable.{Variable}
+use Rattle.lt_ir.specs.declared.variable.Variable.TheVariants.{Parameter, Static as StaticObject}
+use Rattle.lt_ir.specs.declared.code.Static.{Static}
+use Rattle.lt_ir.specs.Running.{Bound, At, Answer, Step, ◌>>=◌, ◌>>◌, gives, place, begins, without, statics_of, is_static, begin_parameters, bound_to, placed, block_of_static, start_statics}
 use Rattle.lt_ir.specs.Evaluation.{used, stored, store_one, store_parameters}
 use Rattle.lt_ir.specs.Starting.{Root, started, start_blocks, start_parameters, parameter_roots, static_roots, sets}
-use Rattle.lt_code.specs.Meaning.Expressions.{shape}
-use Rattle.lt_code.specs.Meaning.Statements.{type_of_object}
-use Rattle.lt_code.specs.Meaning.Runs.{shapes_of}
+use Rattle.lt_meaning.specs.Expressions.{shape}
+use Rattle.lt_meaning.specs.Statements.{type_of_object}
+use Rattle.lt_meaning.specs.Runs.{shapes_of}
 use Rattle.lt_ir.specs.Graph.{are_static}
 use Rattle.lt_code.proofs.Finishing.{Calm, later_same}
-use Rattle.lt_code.proofs.CalmObjects.{Holds, calm_bind, calm_used, calm_place, calm_stored, begins_holds, Began}
+use Rattle.lt_code.proofs.CalmSteps.{calm-bind, calm-used, calm-place, calm-stored}
+use Rattle.lt_code.proofs.CalmObjects.{Holds, begins_holds, Began}
 
 -- ---- steps one behind the other
 
@@ -49,12 +53,12 @@ bind_same {A} {B} m f g h at = by_answer (m at)
 -- parameters in scope, from one on, before others
 abbrev pub begun : ℕ → List ℕ → List Bound → List Bound
 begun k [] scope = scope
-begun k (b ∷ bs) scope = begun (suc k) bs (record { variable = parameter k; block = b } ∷ scope)
+begun k (b ∷ bs) scope = begun (suc k) bs (record { variable = Parameter k; block = b } ∷ scope)
 
 -- parameters that leave scope
 abbrev pub dropped : ℕ → List ℕ → List Bound → List Bound
 dropped k [] scope = scope
-dropped k (p ∷ ps) scope = without (dropped (suc k) ps scope) (parameter k)
+dropped k (p ∷ ps) scope = without (dropped (suc k) ps scope) (Parameter k)
 
 same : (k : ℕ) → nat_eq k k ≡ true
 same k = grind arith
@@ -64,8 +68,8 @@ dropped_begun k [] [] scope e = refl
 dropped_begun k [] (p ∷ ps) scope e = absurd (omega arith)
 dropped_begun k (b ∷ bs) [] scope e = absurd (omega arith)
 dropped_begun k (b ∷ bs) (p ∷ ps) scope e =
-    let bound : Bound = record { variable = parameter k; block = b } in
-    ap (λ l. without l (parameter k)) (dropped_begun (suc k) bs ps (bound ∷ scope) (omega arith)) ∙ ap (λ t. if t then scope else bound ∷ without scope (parameter k)) (same k)
+    let bound : Bound = record { variable = Parameter k; block = b } in
+    ap (λ l. without l (Parameter k)) (dropped_begun (suc k) bs ps (bound ∷ scope) (omega arith)) ∙ ap (λ t. if t then scope else bound ∷ without scope (Parameter k)) (same k)
 
 pub statics_are_static : (scope : List Bound) → are_static (statics_of scope) ≡ true
 statics_are_static [] = refl
@@ -82,9 +86,9 @@ Begun k ps at u at1 = (bs : List ℕ) × (length bs ≡ length ps) × (at1.scope
 pub begin_holds : (program : Program) (k : ℕ) (ps : List ℕ) (at : At) → Holds (Begun k ps at) (begin_parameters k (shapes_of program ps) at)
 begin_holds program k [] at = ([], refl, refl, omega arith, refl)
 begin_holds program k (p ∷ ps) at =
-    holds_bind (Began at (parameter k)) (Begun k (p ∷ ps) at) (begins (parameter k) (shape program (type_of_object program p)) false) (λ u. begin_parameters (suc k) (shapes_of program ps)) at (begins_holds _ _ _ at) (λ u at1 began. more at1 began.0 began.1 began.2 began.3 (begin_parameters (suc k) (shapes_of program ps) at1) (begin_holds program (suc k) ps at1))
+    holds_bind (Began at (Parameter k)) (Begun k (p ∷ ps) at) (begins (Parameter k) (shape program (type_of_object program p)) false) (λ u. begin_parameters (suc k) (shapes_of program ps)) at (begins_holds _ _ _ at) (λ u at1 began. more at1 began.0 began.1 began.2 began.3 (begin_parameters (suc k) (shapes_of program ps) at1) (begin_holds program (suc k) ps at1))
   where
-    more : (at1 : At) (b : ℕ) → at1.ticks ≤ at.ticks → at1.scope ≡ record { variable = parameter k; block = b } ∷ at.scope → at1.depth ≡ at.depth → (a : Answer (Unit {0})) → Holds (Begun (suc k) ps at1) a → Holds (Begun k (p ∷ ps) at) a
+    more : (at1 : At) (b : ℕ) → at1.ticks ≤ at.ticks → at1.scope ≡ record { variable = Parameter k; block = b } ∷ at.scope → at1.depth ≡ at.depth → (a : Answer (Unit {0})) → Holds (Begun (suc k) ps at1) a → Holds (Begun k (p ∷ ps) at) a
     more at1 b t e d (Gives u at2) h = (b ∷ h.0, ap suc h.1, h.2 ∙ ap (begun (suc k) h.0) e, omega (arith, h.3), h.4 ∙ d)
     more at1 b t e d (Ends end at2) h = tt
 
@@ -93,15 +97,15 @@ begin_holds program k (p ∷ ps) at =
 calm_one : (model : DataModel) (k : ℕ) (cells : List ShapeCell) (c : Content) → Calm (store_one model k cells c)
 calm_one model k [] c at = tt
 calm_one model k (cell ∷ cells) c at =
-    calm_bind (used c) (λ it. place (parameter k) >>= (λ a. stored model cell.ty a it untouched >> gives (tt {0}))) (calm_used c) (λ it.
-    calm_bind (place (parameter k)) (λ a. stored model cell.ty a it untouched >> gives (tt {0})) (calm_place (parameter k)) (λ a.
-    calm_bind (stored model cell.ty a it untouched) (λ u. gives (tt {0})) (calm_stored model cell.ty a it untouched) (λ u at1. later_same at1))) at
+    calm-bind (used c) (λ it. place (Parameter k) >>= (λ a. stored false model cell.ty a it untouched >> gives (tt {0}))) (calm-used c) (λ it.
+    calm-bind (place (Parameter k)) (λ a. stored false model cell.ty a it untouched >> gives (tt {0})) (calm-place (Parameter k)) (λ a.
+    calm-bind (stored false model cell.ty a it untouched) (λ u. gives (tt {0})) (calm-stored false model cell.ty a it untouched) (λ u at1. later_same at1))) at
 
 pub calm_parameters : (model : DataModel) (k : ℕ) (shapes : List Shape) (xs : List Content) → Calm (store_parameters model k shapes xs)
 calm_parameters model k [] xs at = later_same at
 calm_parameters model k (shape ∷ shapes) [] at = later_same at
 calm_parameters model k (shape ∷ shapes) (c ∷ cs) at =
-    calm_bind (store_one model k shape.cells c) (λ u. store_parameters model (suc k) shapes cs) (calm_one model k shape.cells c) (λ u. calm_parameters model (suc k) shapes cs) at
+    calm-bind (store_one model k shape.cells c) (λ u. store_parameters model (suc k) shapes cs) (calm_one model k shape.cells c) (λ u. calm_parameters model (suc k) shapes cs) at
 
 -- ---- a run that starts
 
@@ -125,10 +129,10 @@ slow_placed block at = by_room (nat_le (cells_alive at.memory + length block.cel
 slow_bound : (v : Variable) (b : ℕ) → Slow (bound_to v b)
 slow_bound v b at = omega arith
 
-slow_statics : (k : ℕ) (its : List Initial) → Slow (start_statics k its)
+slow_statics : (k : ℕ) (its : List Static) → Slow (start_statics k its)
 slow_statics k [] at = omega arith
 slow_statics k (it ∷ its) at =
-    slow_bind (placed (block_of_initial it) >>= bound_to (static k)) (λ u. start_statics (suc k) its) (slow_bind (placed (block_of_initial it)) (bound_to (static k)) (slow_placed (block_of_initial it)) (slow_bound (static k))) (λ u. slow_statics (suc k) its) at
+    slow_bind (placed (block_of_static it) >>= bound_to (StaticObject k)) (λ u. start_statics (suc k) its) (slow_bind (placed (block_of_static it)) (bound_to (StaticObject k)) (slow_placed (block_of_static it)) (slow_bound (StaticObject k))) (λ u. slow_statics (suc k) its) at
 
 slow_blocks : (its : List BlockIn) → Slow (start_blocks its)
 slow_blocks [] at = omega arith
@@ -144,9 +148,9 @@ slow_begins v sh z at = only (begins v sh z at) (begins_holds v sh z at)
 
 slow_parameters : (k : ℕ) (shapes : List Shape) → Slow (start_parameters k shapes)
 slow_parameters k [] at = omega arith
-slow_parameters k (sh ∷ shs) at = slow_bind (begins (parameter k) sh true) (λ u. start_parameters (suc k) shs) (slow_begins (parameter k) sh true) (λ u. slow_parameters (suc k) shs) at
+slow_parameters k (sh ∷ shs) at = slow_bind (begins (Parameter k) sh true) (λ u. start_parameters (suc k) shs) (slow_begins (Parameter k) sh true) (λ u. slow_parameters (suc k) shs) at
 
-pub slow_started : (statics : List Initial) (names : List (List ℕ)) (shapes : List Shape) (input : Input) → Slow (started statics names shapes input)
+pub slow_started : (statics : List Static) (names : List (List ℕ)) (shapes : List Shape) (input : Input) → Slow (started statics names shapes input)
 slow_started statics names shapes input =
     let last : List Root → Step (Unit {0}) = λ roots at. sets (parameter_roots at.scope 0 names (roots ++ static_roots 0 statics)) input.cells at in
     slow_bind (start_statics 0 statics) (λ u. start_blocks input.blocks >>= (λ roots. start_parameters 0 shapes >> last roots)) (slow_statics 0 statics) (λ u.

@@ -1,10 +1,11 @@
 -- Each primitive gives no ticks back, and begins and ends nothing.
-use Rattle.std.proofs.Common.{ℕ, zero, suc, ◌≤◌, ℤ, pos, List, ◌∷◌, Option, Some, None, Result, Ok, Err, Bool, true, false, if◌then◌else◌, refl, arith}
+use Rattle.std.proofs.Common.{ℕ, zero, suc, ◌≤◌, ℤ, pos, List, Option, Some, None, Result, Ok, Err, Bool, true, false, if◌then◌else◌, refl, arith}
 use Rattle.lt_model.specs.declared.cell.Address.{Address}
 use Rattle.lt_model.specs.declared.cell.CellType.{CellType}
 use Rattle.lt_model.specs.declared.cell.Content.{Content}
 use Rattle.lt_model.specs.declared.cell.Content.TheVariants as content
 use Rattle.lt_model.specs.declared.cell.Shape.{Shape}
+use Rattle.lt_model.specs.declared.cell.ShapeCell.{ShapeCell}
 use Rattle.lt_model.specs.declared.scalar.DataModel.{DataModel}
 use Rattle.lt_model.specs.declared.scalar.Scalar.{Scalar}
 use Rattle.lt_model.specs.declared.operator.Op.{Op}
@@ -14,10 +15,16 @@ use Rattle.lt_model.specs.declared.run.End.{End}
 use Rattle.lt_model.specs.declared.run.End.TheVariants.{Undefined}
 use Rattle.lt_model.specs.Operators.{value_of}
 use Rattle.lt_model.specs.Memory.{Memory, load, store, copy_struct, checked_address, then_result, move_by, compare, subtract, not_null}
-use Rattle.lt_model.specs.State.{CellName, Footprint, Valued, clash, joined, meets, Left, Gives, Ends}
-use Rattle.lt_ir.specs.Running.{Variable, At, Answer, Step, gives, over, defined, absurdity, asked, changed, ◌>>=◌, ◌>>◌, spent, tick, living_block, with_block, place, took, next_value, stub_value}
-use Rattle.lt_ir.specs.Evaluation.{number_in, address_in, used, is_some_address, truth_in, apart, cells_there, writes, target, free_target, aimed, loaded, stored, copied, with_reads, signed_count, moved, member_at, applied, counted, compared}
-use Rattle.lt_ir.specs.Graph.{How, to_integer, to_truth, to_pointer, to_void, as_it_is, Register, register_at, had, content_at, contents_from, convert_as}
+use Rattle.lt_model.specs.State.{Footprint, Valued, clash, joined, meets, Left, Gives, Ends}
+use Rattle.lt_ir.specs.declared.variable.Variable.{Variable}
+use Rattle.lt_ir.specs.declared.pure.How.{How}
+use Rattle.lt_ir.specs.declared.pure.How.TheVariants as how
+use Rattle.lt_ir.specs.declared.node.Movement.{Movement}
+use Rattle.lt_ir.specs.declared.node.Movement.TheVariants.{Elements, Member}
+use Rattle.lt_ir.specs.Pure.{convert_as}
+use Rattle.lt_ir.specs.Running.{At, Answer, Step, gives, over, defined, absurdity, asked, changed, ◌>>=◌, ◌>>◌, spent, tick, living_block, with_block, place, took, next_value, stub_value}
+use Rattle.lt_ir.specs.Evaluation.{number_in, address_in, used, is_some_address, truth_in, apart, cells_met, aimed, loaded, stored, copied, with_reads, signed_count, moved, member_at, applied, counted, compared}
+use Rattle.lt_ir.specs.Graph.{Register, register_at, had, content_at, moves}
 use Rattle.lt_code.proofs.Finishing.{Later, Keeps, Calm, later_same, later_still}
 
 pub keeps_still : {A : Type 0} (at at1 : At) (m : Answer A) → Later at at1 → Keeps at1 m → Keeps at m
@@ -116,43 +123,36 @@ calm-had (Some c) at = later_same at
 pub calm-content_at : (rs : List Register) (r : ℕ) → Calm (content_at rs r)
 calm-content_at rs r at = calm-had (register_at rs r).content at
 
-pub calm-contents_from : (rs : List Register) (n r : ℕ) → Calm (contents_from rs r n)
-calm-contents_from rs zero r at = later_same at
-calm-contents_from rs (suc n) r at =
-    calm-bind (content_at rs r) (λ c. contents_from rs (suc r) n >>= (λ cs. gives (c ∷ cs))) (calm-content_at rs r) (λ c. calm-bind (contents_from rs (suc r) n) (λ cs. gives (c ∷ cs)) (calm-contents_from rs n (suc r)) (λ cs at1. later_same at1)) at
-
 -- ---- footprints
 
 keeps-refused : {A : Type 0} (at : At) (b : Bool) (r : Result A Ub) (a : A) → Keeps at ((if b then defined r else gives a) at)
 keeps-refused at true r a = calm-defined r at
 keeps-refused at false r a = later_same at
 
-pub calm-apart : (p q : Footprint) → Calm (apart p q)
-calm-apart p q at = keeps-refused at (clash p q) (Err Unsequenced) (joined p q)
+pub calm-apart : (tracks : Bool) (p q : Footprint) → Calm (apart tracks p q)
+calm-apart true p q at = keeps-refused at (clash p q) (Err Unsequenced) (joined p q)
+calm-apart false p q at = later_same at
 
-pub calm-free_target : (cells : List CellName) (operands : Footprint) → Calm (free_target cells operands)
-calm-free_target cells operands at = keeps-refused at (meets cells operands.pending) (Err Unsequenced) tt
-
-pub calm-aimed : (ty : CellType) (place : Option Address) (operands : Footprint) → Calm (aimed ty place operands)
-calm-aimed ty place operands at =
-    calm-bind (free_target (target ty place at.memory) operands) (λ _. gives operands) (calm-free_target (target ty place at.memory) operands) (λ _ at1. later_same at1) at
+pub calm-aimed : (tracks : Bool) (cells : List ShapeCell) (place : Option Address) (operands : Footprint) → Calm (aimed tracks cells place operands)
+calm-aimed false cells place operands at = later_same at
+calm-aimed true cells place operands at = keeps-refused at (meets (cells_met cells place at.memory) operands.pending) (Err Unsequenced) operands
 
 -- ---- memory
 
-pub calm-loaded : (model : DataModel) (ty : CellType) (p : Valued (Option Address)) → Calm (loaded model ty p)
-calm-loaded model ty p at = calm-bind (asked (λ memory. load model memory p.value ty)) _ (calm-asked (λ memory. load model memory p.value ty)) (λ c at1. later_same at1) at
+pub calm-loaded : (tracks : Bool) (model : DataModel) (ty : CellType) (p : Valued (Option Address)) → Calm (loaded tracks model ty p)
+calm-loaded tracks model ty p at = calm-bind (asked (λ memory. load model memory p.value ty)) _ (calm-asked (λ memory. load model memory p.value ty)) (λ c at1. later_same at1) at
 
-pub calm-stored : (model : DataModel) (ty : CellType) (place : Option Address) (c : Content) (operands : Footprint) → Calm (stored model ty place c operands)
-calm-stored model ty place c operands at =
-    calm-bind (changed (λ memory. store model memory place ty c)) (λ _. gives (joined operands (writes (target ty place at.memory)))) (calm-changed (λ memory. store model memory place ty c)) (λ _ at1. later_same at1) at
+calm-written : (change : Memory → Result Memory Ub) (p : Footprint) → Calm (changed change >> gives p)
+calm-written change p = calm-then (changed change) (gives p) (calm-changed change) (calm-gives p)
 
-pub calm-copied : (model : DataModel) (shape : Shape) (place from : Option Address) (operands : Footprint) → Calm (copied model shape place from operands)
-calm-copied model shape place from operands at =
-    let cells = cells_there shape.cells place in
-    calm-bind (free_target cells operands) (λ _. changed (λ memory. copy_struct model memory place from shape) >>= (λ _. gives (joined operands (writes cells)))) (calm-free_target cells operands) (λ _. calm-bind (changed (λ memory. copy_struct model memory place from shape)) (λ _. gives (joined operands (writes cells))) (calm-changed (λ memory. copy_struct model memory place from shape)) (λ _ at1. later_same at1)) at
+pub calm-stored : (tracks : Bool) (model : DataModel) (ty : CellType) (place : Option Address) (c : Content) (operands : Footprint) → Calm (stored tracks model ty place c operands)
+calm-stored tracks model ty place c operands at = calm-written (λ memory. store model memory place ty c) _ at
 
-pub calm-with_reads : (shape : Shape) (x : Valued Content) → Calm (with_reads shape x)
-calm-with_reads shape x at = calm-bind (address_in x.value) _ (calm-address_in x.value) (λ a at1. later_same at1) at
+pub calm-copied : (tracks : Bool) (model : DataModel) (shape : Shape) (place from : Option Address) (operands : Footprint) → Calm (copied tracks model shape place from operands)
+calm-copied tracks model shape place from operands at = calm-written (λ memory. copy_struct model memory place from shape) _ at
+
+pub calm-with_reads : (tracks : Bool) (cells : List ShapeCell) (x : Valued Content) → Calm (with_reads tracks cells x)
+calm-with_reads tracks cells x at = later_same at
 
 -- ---- operators
 
@@ -175,9 +175,16 @@ pub calm-compared : (op : Op) (p q : Content) → Calm (compared op p q)
 calm-compared op p q at =
     calm-bind (address_in p) _ (calm-address_in p) (λ a. calm-bind (address_in q) _ (calm-address_in q) (λ b. calm-asked (λ memory. compare memory op a b))) at
 
-pub calm-convert_as : (model : DataModel) (how : How) (c : Content) → Calm (convert_as model how c)
-calm-convert_as model (to_integer s) c at = calm-bind (number_in c) _ (calm-number_in c) (λ z at1. later_same at1) at
-calm-convert_as model to_truth c at = calm-bind (truth_in c) _ (calm-truth_in c) (λ b at1. later_same at1) at
-calm-convert_as model to_pointer c at = calm-bind (address_in c) _ (calm-address_in c) (λ a at1. later_same at1) at
-calm-convert_as model to_void c at = later_same at
-calm-convert_as model as_it_is c at = later_same at
+pub calm-moves : (rs : List Register) (by : Movement) (c : Content) → Calm (moves rs by c)
+calm-moves rs (Elements count op size) c at =
+    calm-bind (content_at rs count) _ (calm-content_at rs count) (λ d. calm-bind (moved op size c d) _ (calm-moved op size c d) (λ a at1. later_same at1)) at
+calm-moves rs (Member offset) c at =
+    calm-bind (address_in c) _ (calm-address_in c) (λ a. calm-bind (member_at offset a) _ (calm-member_at offset a) (λ b at1. later_same at1)) at
+
+pub calm-convert_as : (model : DataModel) (conversion : How) (c : Content) → Calm (convert_as model conversion c)
+calm-convert_as model (how.ToInteger s) c at = calm-bind (number_in c) _ (calm-number_in c) (λ z at1. later_same at1) at
+calm-convert_as model how.ToTruth c at = calm-bind (truth_in c) _ (calm-truth_in c) (λ b at1. later_same at1) at
+calm-convert_as model how.ToPointer c at = calm-bind (address_in c) _ (calm-address_in c) (λ a at1. later_same at1) at
+calm-convert_as model how.ToVoid c at = later_same at
+calm-convert_as model how.ToValue c at = calm-used c at
+calm-convert_as model how.AsItIs c at = later_same at

@@ -1,11 +1,11 @@
 -- Two answers that say the same: where nothing changes but reads are recorded. Over answers alone, for the lemmas on pure expressions.
-use Rattle.std.proofs.Common.{◌≡◌, List, [], Bool, false, refl, sym, ap, ◌∙◌, subst}
+use Rattle.std.proofs.Common.{◌≡◌, List, [], Bool, true, false, refl, sym, ap, ◌∙◌, subst}
 use Rattle.std.specs.Prelude.{◌++◌, if◌then◌else◌, Err}
 use Rattle.lt_model.specs.declared.cell.Content.{Content}
 use Rattle.lt_model.specs.declared.operator.Ub.TheVariants as U
 use Rattle.lt_model.specs.State.{CellName, Footprint, Valued, clash, joined, settle, untouched, Gives, Ends}
 use Rattle.lt_ir.specs.Running.{At, Answer, Step, ◌>>=◌, gives, defined, quietly}
-use Rattle.lt_ir.specs.Evaluation.{apart}
+use Rattle.lt_ir.specs.Evaluation.{grown, settled_in, apart}
 
 -- an expression that wrote nothing
 pub record Quiet (p : Footprint) : Type 0 where
@@ -24,9 +24,18 @@ quiet_joined p q a b = record { settled = both p.settled q.settled a.settled b.s
 pub quiet_settled : (p : Footprint) → Quiet p → Quiet (settle p)
 quiet_settled p a = record { settled = subst (λ l. l ++ p.pending ≡ []) (sym a.settled) a.pending; pending = refl }
 
+pub quiet_grown : (tracks : Bool) (p q : Footprint) → Quiet p → Quiet q → Quiet (grown tracks p q)
+quiet_grown true p q a b = quiet_joined p q a b
+quiet_grown false p q a b = a
+
+pub quiet_settled_in : (tracks : Bool) (p : Footprint) → Quiet p → Quiet (settled_in tracks p)
+quiet_settled_in true p a = quiet_settled p a
+quiet_settled_in false p a = a
+
 -- two such expressions don't clash
-pub apart_quiet : (p q : Footprint) → Quiet p → Quiet q → (at : At) → apart p q at ≡ Gives (joined p q) at
-apart_quiet p q a b at = ap (λ c. by_clash c) (lists p.reads q.reads p.settled p.pending q.settled q.pending a.settled a.pending b.settled b.pending)
+pub apart_quiet : (tracks : Bool) (p q : Footprint) → Quiet p → Quiet q → (at : At) → apart tracks p q at ≡ Gives (grown tracks p q) at
+apart_quiet false p q a b at = refl
+apart_quiet true p q a b at = ap (λ c. by_clash c) (lists p.reads q.reads p.settled p.pending q.settled q.pending a.settled a.pending b.settled b.pending)
   where
     by_clash : Bool → Answer Footprint
     by_clash c = (if c then defined (Err U.Unsequenced) else gives (joined p q)) at
@@ -73,8 +82,8 @@ same_step f at (Gives a at1) g h e k = subst (λ t. Same f at (g a t) (h a t)) (
 same_step f at (Ends end at1) g h e k = tt
 
 -- the tree asks whether two parts clash
-pub same_apart : {C D : Type 0} (f : D → C) (at : At) (m : Answer C) (p q : Footprint) (h : Footprint → Step (Valued D)) → Quiet p → Quiet q → Same f at m (h (joined p q) at) → Same f at m ((apart p q >>= h) at)
-same_apart f at m p q h a b k = subst (λ n. Same f at m (elim (n) [ Gives x at1 ↦ h x at1 | Ends end at1 ↦ Ends end at1 ])) (sym (apart_quiet p q a b at)) k
+pub same_apart : {C D : Type 0} (f : D → C) (tracks : Bool) (at : At) (m : Answer C) (p q : Footprint) (h : Footprint → Step (Valued D)) → Quiet p → Quiet q → Same f at m (h (grown tracks p q) at) → Same f at m ((apart tracks p q >>= h) at)
+same_apart f tracks at m p q h a b k = subst (λ n. Same f at m (elim (n) [ Gives x at1 ↦ h x at1 | Ends end at1 ↦ Ends end at1 ])) (sym (apart_quiet tracks p q a b at)) k
 
 -- what both give, to which something is done
 pub same_quietly : {A : Type 0} (at : At) (m : Answer Content) (n : Answer (Valued Content)) (step : Content → Step A) → Same (λ c. c) at m n → quietly (λ _. elim (m) [ Gives a at1 ↦ step a at1 | Ends end at1 ↦ Ends end at1 ]) at ≡ quietly (λ _. elim (n) [ Gives x at1 ↦ step x.value at1 | Ends end at1 ↦ Ends end at1 ]) at

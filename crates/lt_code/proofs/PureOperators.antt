@@ -9,12 +9,15 @@ use Rattle.lt_model.specs.declared.scalar.DataModel.{DataModel}
 use Rattle.lt_model.specs.declared.scalar.Scalar.{Scalar}
 use Rattle.lt_model.specs.declared.operator.Op.{Op}
 use Rattle.lt_model.specs.declared.operator.Ub.{Ub}
-use Rattle.lt_model.specs.State.{Footprint, Valued, joined, untouched, Gives, Ends}
+use Rattle.lt_model.specs.State.{Footprint, Valued, Gives, Ends}
 use Rattle.lt_model.specs.Memory.{Memory, load, checked_address}
-use Rattle.lt_ir.specs.Running.{Variable, At, Answer, Step, ◌>>=◌, gives, defined, asked, absurdity, place, living_block}
-use Rattle.lt_ir.specs.Evaluation.{valued, number_in, address_in, truth_in, loaded, moved, member_at, applied, counted, compared, reads, cell_at, is_some_address}
-use Rattle.lt_ir.specs.Graph.{How, to_integer, to_truth, to_pointer, to_void, as_it_is, convert_as}
-use Rattle.lt_code.proofs.PureAnswers.{Quiet, quiet_joined, Stays, Same}
+use Rattle.lt_ir.specs.declared.variable.Variable.{Variable}
+use Rattle.lt_ir.specs.declared.pure.How.{How}
+use Rattle.lt_ir.specs.declared.pure.How.TheVariants as how
+use Rattle.lt_ir.specs.Pure.{convert_as}
+use Rattle.lt_ir.specs.Running.{At, Answer, Step, ◌>>=◌, gives, defined, asked, absurdity, place, living_block}
+use Rattle.lt_ir.specs.Evaluation.{valued, number_in, address_in, truth_in, grown, loaded, moved, member_at, applied, counted, compared, reads, cell_at, is_some_address, used}
+use Rattle.lt_code.proofs.PureAnswers.{Quiet, quiet_grown, Stays, Same}
 
 pub stays_bind : {A B : Type 0} (at : At) (m : Answer A) (g : A → Step B) → Stays at m → ((a : A) → Stays at (g a at)) → Stays at (elim (m) [ Gives a at1 ↦ g a at1 | Ends end at1 ↦ Ends end at1 ])
 stays_bind at (Gives a at1) g e k = subst (λ t. Stays at (g a t)) (sym e) (k a)
@@ -36,6 +39,11 @@ pub stays_address_in : (c : Content) (at : At) → Stays at (address_in c at)
 stays_address_in content.Unset at = tt
 stays_address_in (content.Number z) at = tt
 stays_address_in (content.Address a) at = refl
+
+pub stays_used : (c : Content) (at : At) → Stays at (used c at)
+stays_used content.Unset at = tt
+stays_used (content.Number z) at = refl
+stays_used (content.Address a) at = refl
 
 pub stays_truth_in : (c : Content) (at : At) → Stays at (truth_in c at)
 stays_truth_in content.Unset at = tt
@@ -64,19 +72,20 @@ stays_place v at = by_block (living_block v at)
     by_block None = tt
     by_block (Some block) = refl
 
-pub stays_converted : (model : DataModel) (how : How) (c : Content) (at : At) → Stays at (convert_as model how c at)
-stays_converted model (to_integer s) c at = stays_bind at (number_in c at) _ (stays_number_in c at) (λ z. refl)
-stays_converted model to_truth c at = stays_bind at (truth_in c at) _ (stays_truth_in c at) (λ b. refl)
-stays_converted model to_pointer c at = stays_bind at (address_in c at) _ (stays_address_in c at) (λ a. refl)
-stays_converted model to_void c at = refl
-stays_converted model as_it_is c at = refl
+pub stays_converted : (model : DataModel) (conversion : How) (c : Content) (at : At) → Stays at (convert_as model conversion c at)
+stays_converted model (how.ToInteger s) c at = stays_bind at (number_in c at) _ (stays_number_in c at) (λ z. refl)
+stays_converted model how.ToTruth c at = stays_bind at (truth_in c at) _ (stays_truth_in c at) (λ b. refl)
+stays_converted model how.ToPointer c at = stays_bind at (address_in c at) _ (stays_address_in c at) (λ a. refl)
+stays_converted model how.ToVoid c at = refl
+stays_converted model how.ToValue c at = stays_used c at
+stays_converted model how.AsItIs c at = refl
 
 -- a scalar is read
-pub same_loaded : (model : DataModel) (ty : CellType) (a : Option Address) (p : Footprint) (at : At) → Quiet p → Same (λ c. c) at ((loaded model ty (valued a untouched) >>= (λ x. gives x.value)) at) (loaded model ty (valued a p) at)
-same_loaded model ty a p at q = by_result (load model at.memory a ty)
+pub same_loaded : (tracks : Bool) (model : DataModel) (ty : CellType) (a : Option Address) (p : Footprint) (at : At) → Quiet p → Same (λ c. c) at (asked (λ memory. load model memory a ty) at) (loaded tracks model ty (valued a p) at)
+same_loaded tracks model ty a p at q = by_result (load model at.memory a ty)
   where
-    by_result : (r : Result Content Ub) → Same (λ c. c) at (((defined r >>= (λ c. gives (valued c (joined untouched (reads (cell_at a 0)))))) >>= (λ x. gives x.value)) at) ((defined r >>= (λ c. gives (valued c (joined p (reads (cell_at a 0)))))) at)
-    by_result (Ok c) = (refl, refl, refl, quiet_joined p (reads (cell_at a 0)) q (record { settled = refl; pending = refl }))
+    by_result : (r : Result Content Ub) → Same (λ c. c) at (defined r at) ((defined r >>= (λ c. gives (valued c (grown tracks p (reads (cell_at a 0)))))) at)
+    by_result (Ok c) = (refl, refl, refl, quiet_grown tracks p (reads (cell_at a 0)) q (record { settled = refl; pending = refl }))
     by_result (Err kind) = tt
 
 -- a conversion, or what else both do last

@@ -1,47 +1,185 @@
--- The worked examples of runs compute.
-use Rattle.std.proofs.Common.{refl}
-use Rattle.lt_model.specs.Memory.{load, store, create_shaped}
-use Rattle.lt_tree.specs.Typing.UnitTyping.{typing}
-use Rattle.lt_tree.specs.Typing.Extents.{struct_cells, struct_extent}
-use Rattle.lt_tree.specs.Typing.Shapes.{struct_cells_at}
+-- The worked examples of sizes and of a code compute.
+use Rattle.std.proofs.Common.{◌≡◌, ℕ, zero, suc, ◌+◌, ◌<◌, ◌≤◌, List, [], ◌∷◌, Option, Some, None, inr, refl, sym, ap, subst, arith}
+use Rattle.std.specs.Prelude.{slice_get}
+use Rattle.lt_ir.specs.declared.node.Node.{Node}
+use Rattle.lt_code.specs.Bodies.{HasCode}
+use Rattle.lt_code.specs.Bounds.{successors, callee, HasEdge, HasCall, IsBounded}
+use Rattle.lt_code.specs.Sizes.{size_of}
 use Rattle.lt_code.specs.Samples as s
 
-pub division : s.DivisionByZero
-unfolding typing struct_cells struct_extent struct_cells_at load store create_shaped
-division = refl
+pub sizes : s.SizesAreWorkedOut
+sizes = (refl, refl, refl)
 
-pub unsequenced : s.ReadAndWritten
-unfolding typing struct_cells struct_extent struct_cells_at load store create_shaped
-unsequenced = refl
+-- ---- something that is so of each node, and of each edge
 
-pub no_input : s.NothingLeft
-unfolding typing struct_cells struct_extent struct_cells_at load store create_shaped
-no_input = refl
+abbrev AllAt : (Q : ℕ → Node → Type 0) → ℕ → List Node → Type 0
+AllAt Q k [] = Unit {0}
+AllAt Q k (n ∷ ns) = Q k n × AllAt Q (suc k) ns
 
-pub ticks : s.TicksOfALoop
-unfolding typing struct_cells struct_extent struct_cells_at load store create_shaped
-ticks = (refl, refl)
+node_at : (Q : ℕ → Node → Type 0) (k : ℕ) (ns : List Node) → AllAt Q k ns → (i : ℕ) (n : Node) → slice_get ns i ≡ Some n → Q (k + i) n
+node_at Q k [] all zero n is = absurd (cc)
+node_at Q k [] all (suc i) n is = absurd (cc)
+node_at Q k (m ∷ ns) all zero n is = subst (λ j. Q j n) (omega arith) (subst (Q k) (cc) all.0)
+node_at Q k (m ∷ ns) all (suc i) n is = subst (λ j. Q j n) (omega arith) (node_at Q (suc k) ns all.1 i n is)
 
-pub divided : s.WrittenBeforeDivided
-unfolding typing struct_cells struct_extent struct_cells_at load store create_shaped
-divided = refl
+at_each : (Q : ℕ → Node → Type 0) (ns : List Node) → AllAt Q 0 ns → (i : ℕ) (n : Node) → slice_get ns i ≡ Some n → Q i n
+at_each Q ns all i n is = subst (λ j. Q j n) (omega arith) (node_at Q 0 ns all i n is)
 
-pub twice : s.WrittenTwice
-unfolding typing struct_cells struct_extent struct_cells_at load store create_shaped
-twice = refl
+abbrev Each : (ℕ → Type 0) → List ℕ → Type 0
+Each Q [] = Unit {0}
+Each Q (n ∷ ns) = Q n × Each Q ns
 
-pub before_a_call : s.WrittenBeforeACall
-unfolding typing struct_cells struct_extent struct_cells_at load store create_shaped
-before_a_call = refl
+each_at : (Q : ℕ → Type 0) (ns : List ℕ) → Each Q ns → (i n : ℕ) → slice_get ns i ≡ Some n → Q n
+each_at Q [] all zero n is = absurd (cc)
+each_at Q [] all (suc i) n is = absurd (cc)
+each_at Q (m ∷ ns) all zero n is = subst Q (cc) all.0
+each_at Q (m ∷ ns) all (suc i) n is = each_at Q ns all.1 i n is
 
-pub ended : s.EndedObject
-unfolding typing struct_cells struct_extent struct_cells_at load store create_shaped
-ended = refl
+-- no edge leads to the start, and none leads back but to 1
+abbrev IsGood : ℕ → ℕ → Type 0
+IsGood from to = (0 < to) × (to ≤ from → to ≡ 1)
 
-pub quiet : s.QuietPredicate
-unfolding typing struct_cells struct_extent struct_cells_at load store create_shaped
-quiet = refl
+abbrev HasGoodEdges : ℕ → Node → Type 0
+HasGoodEdges from n = Each (IsGood from) (successors n)
 
-pub past_the_end : s.OnePastTheEnd
-unfolding typing struct_cells struct_extent struct_cells_at load store create_shaped
-past_the_end = (refl, refl)
+-- an edge to a greater number
+on : (from to : ℕ) → from < to → IsGood from to
+on from to lt = (omega (arith, lt), λ back. absurd (omega (arith, lt, back)))
+
+on_alone : (from to : ℕ) → from < to → Each (IsGood from) (to ∷ [])
+on_alone from to lt = (on from to lt, tt)
+
+back_to_loop : Each (IsGood 12) (1 ∷ [])
+back_to_loop = ((omega arith, λ back. refl), tt)
+
+infixr 10 ◌⨾◌
+abbrev ◌⨾◌ : {A B : Type 0} → A → B → A × B
+(a ⨾ b) = (a, b)
+
+edges_are_good : AllAt HasGoodEdges 0 s.nodes
+edges_are_good =
+    on_alone 0 1 (omega arith) ⨾ on_alone 1 2 (omega arith) ⨾ on_alone 2 3 (omega arith) ⨾ on_alone 3 4 (omega arith)
+    ⨾ (on 4 5 (omega arith), (on 4 13 (omega arith), tt)) ⨾ on_alone 5 6 (omega arith) ⨾ on_alone 6 7 (omega arith)
+    ⨾ on_alone 7 8 (omega arith) ⨾ on_alone 8 9 (omega arith) ⨾ on_alone 9 10 (omega arith)
+    ⨾ on_alone 10 11 (omega arith) ⨾ on_alone 11 12 (omega arith) ⨾ back_to_loop ⨾ on_alone 13 14 (omega arith)
+    ⨾ on_alone 14 15 (omega arith) ⨾ on_alone 15 16 (omega arith) ⨾ on_alone 16 17 (omega arith)
+    ⨾ on_alone 17 18 (omega arith) ⨾ tt ⨾ on_alone 19 20 (omega arith) ⨾ tt ⨾ tt
+
+edge_is_good : (from to : ℕ) → HasEdge s.code from to → IsGood from to
+edge_is_good from to edge =
+    each_at (IsGood from) (successors edge.node) (at_each HasGoodEdges s.nodes edges_are_good from edge.node edge.stands) edge.which to edge.leads
+
+calls_nothing : AllAt (λ i n. callee n ≡ None) 0 s.nodes
+calls_nothing =
+    refl ⨾ refl ⨾ refl ⨾ refl ⨾ refl ⨾ refl ⨾ refl ⨾ refl ⨾ refl ⨾ refl ⨾ refl ⨾ refl ⨾ refl ⨾ refl ⨾ refl ⨾ refl
+    ⨾ refl ⨾ refl ⨾ refl ⨾ refl ⨾ refl ⨾ tt
+
+none_is : (o : Option ℕ) (f : ℕ) → o ≡ None → o ≡ Some f → ⊥
+none_is None f e1 e2 = absurd (cc)
+none_is (Some g) f e1 e2 = absurd (cc)
+
+no_call : (i f : ℕ) → HasCall s.code i f → ⊥
+no_call i f call = none_is (callee call.node) f (at_each (λ i n. callee n ≡ None) s.nodes calls_nothing i call.node call.stands) call.calls
+
+-- ---- the code
+
+bounded : IsBounded (size_of s.program.functions s.counting) s.code
+bounded = record {
+  nodes = omega arith;
+  registers = omega arith;
+  calls = record { place = λ i. 0; there = λ i f call. absurd (no_call i f call); once = λ i j f g call other e. absurd (no_call i f call) };
+  start = refl;
+  entered_once = λ from to edge. (edge_is_good from to edge).0;
+  heads = record {
+    heads = 1 ∷ [];
+    few = omega arith;
+    each = λ from to edge back. (0, ap Some (sym ((edge_is_good from to edge).1 back)));
+  };
+}
+
+stands : HasCode s.program [] s.counting s.code
+stands =
+    let first : 0 < 4 = omega arith in
+    let fourth : 3 < 4 = omega arith in
+    record {
+      name = refl;
+      params = refl;
+      first = 0;
+      back = 17;
+      leaves = 19;
+      last = 18;
+      end = 20;
+      seals = (0, refl, refl);
+      body = (
+        13,
+        (
+          1,
+          refl,
+          (
+            2,
+            5,
+            1,
+            refl,
+            -- the test, from 2 on
+            inr (refl, (4, (first, (3, (first, refl), refl)), refl)),
+            -- the body, from 5 on
+            (6, refl, inr (refl, (fourth, (8, (7, (first, refl), refl), (9, refl, (9, refl, (12, (10, refl, (11, refl, refl)), refl))))))),
+            refl,
+          ),
+        ),
+        -- the value, from 13 on
+        (19, (first, (14, refl, (16, inr (refl, (first, (15, (first, refl), refl))), refl))), refl),
+      );
+      ends_with = (17, refl, refl);
+      gives_it = λ lt. refl;
+      ends_without = (19, refl, refl);
+      gives_none = refl;
+    }
+
+-- ---- the code without registers
+
+leads_on : (from to : ℕ) → HasEdge s.short from to → from < to
+leads_on from to edge =
+    each_at (λ n. from < n) (successors edge.node) (at_each (λ i n. Each (λ m. i < m) (successors n)) s.short_nodes ((omega arith, tt) ⨾ tt ⨾ tt) from edge.node edge.stands) edge.which to edge.leads
+
+short_calls_nothing : (i f : ℕ) → HasCall s.short i f → ⊥
+short_calls_nothing i f call = none_is (callee call.node) f (at_each (λ i n. callee n ≡ None) s.short_nodes (refl ⨾ refl ⨾ tt) i call.node call.stands) call.calls
+
+short_bounded : IsBounded (size_of s.program.functions s.empty) s.short
+short_bounded = record {
+  nodes = omega arith;
+  registers = omega arith;
+  calls = record {
+    place = λ i. 0;
+    there = λ i f call. absurd (short_calls_nothing i f call);
+    once = λ i j f g call other e. absurd (short_calls_nothing i f call);
+  };
+  start = refl;
+  entered_once = λ from to edge. omega (arith, leads_on from to edge);
+  heads = record {
+    heads = [];
+    few = omega arith;
+    each = λ from to edge back. absurd (omega (arith, leads_on from to edge, back));
+  };
+}
+
+short_stands : HasCode s.program [] s.empty s.short
+short_stands = record {
+  name = refl;
+  params = refl;
+  first = 0;
+  back = 0;
+  leaves = 0;
+  last = 1;
+  end = 1;
+  seals = (0, refl, refl);
+  body = refl;
+  ends_with = (0, refl, refl);
+  gives_it = λ lt. absurd (omega (arith, lt));
+  ends_without = (0, refl, refl);
+  gives_none = refl;
+}
+
+pub worked_out : s.CodesAreWorkedOut
+worked_out =
+    (record { stands = stands; bounded = bounded; in_range = refl }, record { stands = short_stands; bounded = short_bounded; in_range = refl })

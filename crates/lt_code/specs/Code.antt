@@ -1,74 +1,81 @@
--- Where the code of a typed program stands in a graph. `P place node` says that the node stands at the place. The code of an expression goes from
--- one place to another, and leaves its value in a register, and its footprint there too; the registers below stay.
-use Rattle.std.specs.Prelude.{◌≡◌, ℕ, suc, ℤ, pos, negsuc, ◌+◌, ◌<◌, List, [], ◌∷◌, Bool, true, false, Option, Some, None, if◌then◌else◌, slice_get, codes}
+-- Where the code of expressions stands in a graph. The code of an expression goes from one program point to another,
+-- and leaves its value in a
+-- register, and its footprint there too; the registers below stay, and those above have no footprints.
+use Rattle.std.specs.Prelude.{◌≡◌, ℕ, suc, pos, ◌+◌, ◌<◌, List, [], ◌∷◌, map, Bool, true, false, Option, Some, None}
+use Rattle.std.specs.Prelude.{if◌then◌else◌, slice_get, ◌⊎◌}
 use Rattle.std.specs.Str.{bytes_eq}
 use Rattle.lt_model.specs.declared.cell.Content.{Content}
 use Rattle.lt_model.specs.declared.cell.Content.TheVariants as content
+use Rattle.lt_model.specs.declared.cell.Shape.{Shape}
+use Rattle.lt_model.specs.declared.operator.Op.{Op}
 use Rattle.lt_model.specs.declared.operator.Op.TheVariants as O
-use Rattle.lt_model.specs.Scalar.{convert_of}
 use Rattle.lt_model.specs.declared.scalar.Scalar.{Scalar}
 use Rattle.lt_tree.specs.declared.expression.LogicalOp.{LogicalOp}
 use Rattle.lt_tree.specs.declared.expression.LogicalOp.TheVariants as logical
-use Rattle.lt_tree.specs.Typing.Types.{CType, Num, is_struct, is_void}
+use Rattle.lt_tree.specs.Typing.Types.{CType, is_struct, is_void}
 use Rattle.lt_tree.specs.Typing.Entities.{Function}
 use Rattle.lt_tree.specs.Typing.TypedTree as e
-use Rattle.lt_tree.specs.Typing.TypedTree.{Value, Values, Place, Marks, Mark, Bindings, Side, on_left, on_right, When, Statement, Items, Cases, Label, Local, StartPart, type_of, no_values, a_value}
+use Rattle.lt_tree.specs.Typing.TypedTree.{Value, Values, Place, Conversion, Marks, Mark, Side, on_left, on_right, When}
+use Rattle.lt_tree.specs.Typing.TypedTree.{type_of, no_values, a_value}
 use Rattle.lt_tree.specs.Typing.Programs.{Program}
-use Rattle.lt_ir.specs.Running.{Variable, parameter, At, ◌>>=◌, quietly}
-use Rattle.lt_ir.specs.Evaluation.{number_in, truth_in, of_truth}
-use Rattle.lt_code.specs.Meaning.Expressions.{Around, Calls, cell_type, shape, scalar_in, is_pure, pure_only, eval}
-use Rattle.lt_code.specs.Meaning.Statements.{type_of_object, is_sealed_object, is_zeroed, parts_in}
-use Rattle.lt_code.specs.Meaning.Runs.{variable_of, initials, stops, name_of_object}
-use Rattle.lt_ir.specs.Graph as g
-use Rattle.lt_ir.specs.Graph.{How, to_integer, to_truth, to_pointer, to_void, as_it_is, Pure, Fixed, Parts, Unsequenced, Sequenced, Settled, Read, Target, Node, Arm, Bound', Code, Graph, look, nodes_of}
+use Rattle.lt_ir.specs.declared.code.LabelInfo.{LabelInfo}
+use Rattle.lt_ir.specs.declared.node.Access.{Access}
+use Rattle.lt_ir.specs.declared.node.Access.TheVariants as access
+use Rattle.lt_ir.specs.declared.node.Movement.TheVariants.{Elements, Member}
+use Rattle.lt_ir.specs.declared.node.Parts.{Parts}
+use Rattle.lt_ir.specs.declared.node.Parts.TheVariants.{Unsequenced, Sequenced, Settled, Read, Target}
+use Rattle.lt_ir.specs.declared.node.Node.TheVariants as node
+use Rattle.lt_ir.specs.declared.pure.Pure.{Pure}
+use Rattle.lt_ir.specs.declared.pure.How.TheVariants as how
+use Rattle.lt_ir.specs.Pure.{Fixed}
+use Rattle.lt_ir.specs.PureView.{pure_of}
+use Rattle.lt_ir.specs.Evaluation.{of_truth}
+use Rattle.lt_ir.specs.Graph.{shape_at}
+use Rattle.lt_meaning.specs.Expressions.{Fate, wanted, unconverted, dropped_branch, untaken, takes, inside, of_branch}
+use Rattle.lt_meaning.specs.Expressions.{of_last, fate_of_part, cell_type, shape, scalar_in, all_ones}
+use Rattle.lt_meaning.specs.Runs.{stops}
+use Rattle.lt_meaning.specs.Clashes.{cannot_clash, is_of}
+use Rattle.lt_code.specs.Pieces.{Stands, Piece, one, nothing, ◌▸◌, when, either, beside, Test, behind, leads, both_ways}
+use Rattle.lt_code.specs.Pieces.{swapped}
+use Rattle.lt_code.specs.Predicates.{Names, pure_in, names_bound, pures_bound}
 
-abbrev pub Places : Type 1
-Places = ℕ → Node → Type 0
+-- what is known where the code of a function stands
+pub record Site : Type 1 where
+  pub names : Names
+  pub locals : List Shape
+  pub structs : List Shape
+  pub labels : List LabelInfo
+  pub registers : ℕ
+  pub stands : Stands
+  -- whether footprints are tracked
+  pub tracks : Bool
 
-abbrev pub either : Bool → Type 0 → Type 0 → Type 0
-either true A B = A
-either false A B = B
+abbrev pub program_in : Site → Program
+program_in s = s.names.program
 
--- what is known of the function whose code it is
-pub record Setting : Type 0 where
-  pub program : Program
-  pub variable : ℕ → Variable
+-- ---- nodes
 
--- an expression stands there as it does in the tree
-abbrev pub around : Setting → Calls → Around
-around s calls = record { program = s.program; variable = s.variable; calls = calls }
+-- a piece that uses registers up to this one
+abbrev pub up_to : Site → ℕ → Piece → Piece
+up_to s r piece = beside (r < s.registers) piece
 
--- ---- marks
+abbrev pub clash : Site → Parts → Piece
+clash s parts = when s.tracks (one s.stands (node.Clash parts))
 
--- a pure expression of the graph is true, or has a number, where the tree's is
-abbrev pub IsTruthOf : Setting → Value → Pure → Type 0
-IsTruthOf s v q =
-    (calls : Calls) (at : At) → quietly (look s.program.model q >>= truth_in) at ≡ pure_only (is_pure v) (quietly (eval (around s calls) true v >>= (λ x. truth_in x.value)) at)
+abbrev pub constant : Site → (r : ℕ) → Content → Piece
+constant s r c = one s.stands (node.Constant r c false)
 
-abbrev pub IsNumberOf : Setting → Value → Pure → Type 0
-IsNumberOf s v q =
-    (calls : Calls) (at : At) → quietly (look s.program.model q >>= number_in) at ≡ pure_only (is_pure v) (quietly (eval (around s calls) true v >>= (λ x. number_in x.value)) at)
+-- another content, with the footprint that was there
+abbrev pub replaced : Site → (r : ℕ) → Content → Piece
+replaced s r c = one s.stands (node.Constant r c true)
 
-abbrev pub AreBound : Setting → Bindings → List Bound' → Type 0
-AreBound s e.no_bindings [] = Unit {0}
-AreBound s (e.a_binding name v rest) (b ∷ bs) = (b.name ≡ name) × IsNumberOf s v b.value × AreBound s rest bs
-AreBound s e.no_bindings (b ∷ bs) = ⊥
-AreBound s (e.a_binding name v rest) [] = ⊥
+abbrev pub integer : Site → (to from : ℕ) → Scalar → Piece
+integer s to from k = one s.stands (node.Convert to from (how.ToInteger k))
 
-abbrev pub HasMark : Setting → Mark → Places → ℕ → ℕ → Type 0
-HasMark s (e.mark predicate id bound) P from to = (q : Pure) × (bs : List Bound') × IsTruthOf s predicate q × AreBound s bound bs × P from (g.Mark id q bs to)
+-- what one register has goes to another
+abbrev pub content_moved : Site → (to from : ℕ) → Piece
+content_moved s to from = one s.stands (node.Convert to from how.AsItIs)
 
-abbrev pub HasMarks : Setting → Marks → Places → ℕ → ℕ → Type 0
-HasMarks s e.no_marks P from to = from ≡ to
-HasMarks s (e.a_mark first rest) P from to = (m : ℕ) × HasMark s first P from m × HasMarks s rest P m to
-
--- a mark that is true, or isn't
-abbrev pub HasFixed : ℕ → Bool → Places → ℕ → ℕ → Type 0
-HasFixed id b P from to = P from (g.Mark id (Fixed (of_truth b)) [] to)
-
--- ---- expressions
-
--- which of two registers has the pointer, and which the number
 abbrev pub pointer_in : Side → ℕ → ℕ → ℕ
 pointer_in on_left left right = left
 pointer_in on_right left right = right
@@ -77,9 +84,89 @@ abbrev pub count_in : Side → ℕ → ℕ → ℕ
 count_in on_left left right = right
 count_in on_right left right = left
 
-abbrev pub kept_in : When → ℕ → ℕ → ℕ
-kept_in e.before old new = old
-kept_in e.after old new = new
+-- a pointer and a number in r and the register behind it
+abbrev pub moved_by : Site → (r : ℕ) → Op → ℕ → Side → Piece
+moved_by s r op size side =
+    one s.stands (node.Move r (pointer_in side r (r + 1)) (Elements (count_in side r (r + 1)) op size))
+
+-- ---- accesses
+
+-- the place of a struct's shape in the function's table
+abbrev pub IsShapeOf : Site → CType → ℕ → Type 0
+IsShapeOf s t k = shape_at s.structs k ≡ shape (program_in s) t
+
+abbrev pub IsAccessTo : (is_a_struct : Bool) → Site → CType → Access → Type 0
+IsAccessTo true s t (access.Struct k) = IsShapeOf s t k
+IsAccessTo true s t (access.Scalar ty) = ⊥
+IsAccessTo false s t it = it ≡ access.Scalar (cell_type (program_in s) t)
+
+-- something that is done with what an access of a type is to
+abbrev pub with_access : Site → CType → (Access → Parts) → Piece
+with_access s t parts from to =
+    (it : Access) × IsAccessTo (is_struct t) s t it × s.stands from (node.Clash (parts it) to)
+
+-- what is to be written at the address in a register is no pending write
+abbrev pub target : Site → CType → (r : ℕ) → Piece
+target s t r = when s.tracks (with_access s t (Target r))
+
+abbrev pub scalar_target : Site → CType → (r : ℕ) → Piece
+scalar_target s t r = clash s (Target r (access.Scalar (cell_type (program_in s) t)))
+
+-- the cells of a struct are read where it is copied or passed on
+abbrev pub reads : Site → CType → (r : ℕ) → Piece
+reads s t r = when (is_struct t) (when s.tracks (with_access s t (Read r)))
+
+abbrev pub struct_copied : Site → CType → (place from : ℕ) → Piece
+struct_copied s t place value from to = (k : ℕ) × IsShapeOf s t k
+    × s.stands from (node.Copy place value k s.tracks to)
+
+abbrev pub scalar_stored : Site → CType → (place value gives : ℕ) → Piece
+scalar_stored s t place value gives = one s.stands (node.Store place value gives (cell_type (program_in s) t) s.tracks)
+
+-- a value goes to the address in a register, and is there then
+abbrev pub assigned : Site → CType → (place value : ℕ) → Piece
+assigned s t place value = either (is_struct t) (struct_copied s t place value) (scalar_stored s t place value value)
+
+-- ---- conversions
+
+abbrev pub conversion : Site → Conversion → CType → (r : ℕ) → Piece
+conversion s e.to_integer t r = integer s r r (scalar_in t)
+conversion s e.to_truth t r = one s.stands (node.Convert r r how.ToTruth)
+conversion s e.to_null t r = replaced s r (content.Address None)
+conversion s e.to_pointer t r = one s.stands (node.Convert r r how.ToPointer)
+conversion s e.to_void t r = replaced s r content.Unset
+
+abbrev pub conversion_here : Site → Fate → Conversion → CType → (r : ℕ) → Piece
+conversion_here s unconverted it t r = nothing
+conversion_here s dropped_branch it t r = nothing
+conversion_here s fate it t r = conversion s it t r
+
+-- the outermost conversion of an expression, where it was left
+abbrev pub late : Site → Value → (r : ℕ) → Piece
+late s (e.Convert it t v) r = conversion s it t r
+late s v r = nothing
+
+-- ---- marks
+
+abbrev pub IsLabel : Site → ℕ → (id : ℕ) → List (List ℕ) → Type 0
+IsLabel s k id names = (info : LabelInfo) × (slice_get s.labels k ≡ Some info) × (info.id ≡ id) × (info.bound ≡ names)
+
+abbrev pub mark : Site → Mark → Piece
+mark s (e.mark predicate id bound) from to =
+    (k : ℕ) × (q : Pure) × (qs : List Pure) × IsLabel s k id (names_bound bound)
+    × (pure_of q ≡ pure_in s.names predicate) × (map pure_of qs ≡ pures_bound s.names bound)
+    × s.stands from (node.Mark k q qs to)
+
+abbrev pub marks : Site → Marks → Piece
+marks s e.no_marks = nothing
+marks s (e.a_mark first rest) = mark s first ▸ marks s rest
+
+-- a mark that is true, or isn't
+abbrev pub fixed_mark : Site → (id : ℕ) → Bool → Piece
+fixed_mark s id b from to =
+    (k : ℕ) × (q : Pure) × IsLabel s k id [] × (pure_of q ≡ Fixed (of_truth b)) × s.stands from (node.Mark k q [] to)
+
+-- ---- calls
 
 abbrev pub count_of : Values → ℕ
 count_of no_values = 0
@@ -90,289 +177,228 @@ abbrev pub number_among : ℕ → List ℕ → List Function → Option ℕ
 number_among k name [] = None
 number_among k name (f ∷ fs) = if bytes_eq f.name name then Some k else number_among (suc k) name fs
 
--- the cells of a struct are read where it is copied or passed on
-abbrev pub HasReads : Setting → CType → Places → ℕ → ℕ → ℕ → Type 0
-HasReads s t P r from to = either (is_struct t) (P from (g.Clash (Read (shape s.program t) r) to)) (from ≡ to)
-
--- What is to be written is no pending write of the operands: the address of the target is in one register, and their footprint in the other. Copying a struct sees
--- to that itself.
-abbrev pub HasTarget : Setting → CType → Places → (place r : ℕ) → ℕ → ℕ → Type 0
-HasTarget s t P place r from to = either (is_struct t) (from ≡ to) (P from (g.Clash (Target place r (cell_type s.program t)) to))
-
--- a value that goes to a place: the place is in r, the value in q, and the footprint of the operands in p; the answer goes to r
-abbrev pub HasAssign : Setting → CType → Places → (r q p : ℕ) → ℕ → ℕ → Type 0
-HasAssign s t P r q p from to =
-    either (is_struct t) (P from (g.Copy r r q p (shape s.program t) to)) (P from (g.Store r r q q p (cell_type s.program t) to))
+-- the values of arguments, from register r on, each converted and there
+abbrev pub passed : Site → Values → (r : ℕ) → Piece
+passed s no_values r = nothing
+passed s (a_value v vs) r = late s v r ▸ one s.stands (node.Convert r r how.ToValue) ▸ passed s vs (r + 1)
 
 abbrev pub taken_into : Bool → ℕ → Option ℕ
 taken_into true r = Some r
 taken_into false r = None
 
+-- the value of a function without a body: void has none, and others have it from the input
+abbrev pub stub : Stands → List ℕ → CType → (r : ℕ) → Piece
+stub P name t r = either (is_void t) (one P (node.Constant r content.Unset true)) (one P (node.Stub name (Some r)))
+
 -- the call itself, behind its arguments and its tick
-abbrev pub HasCall : Setting → (is_taken : Bool) → List ℕ → CType → Places → (r n : ℕ) → ℕ → ℕ → Type 0
-HasCall s is_taken f t P r n from to = by_number (number_among 0 f s.program.functions)
-  where
-    by_number : Option ℕ → Type 0
-    by_number None = either (stops f) (P from g.Stop) (either is_taken (either (is_void t) (P from (g.Constant r content.Unset true to)) (P from (g.Stub f (Some r) to))) (from ≡ to))
-    by_number (Some k) = P from (g.Call k (taken_into is_taken r) r n to)
+abbrev pub call_by_number : Stands → (is_taken : Bool) → List ℕ → CType → (r n : ℕ) → Option ℕ → Piece
+call_by_number P is_taken name t r n None =
+    either (stops name) (λ from to. P from node.Stop) (when is_taken (stub P name t r))
+call_by_number P is_taken name t r n (Some k) = one P (node.Call k (taken_into is_taken r) r n)
 
--- the code of a test: from a place to another where the value isn't 0 or null, or to a third where it is
-abbrev pub Test : Type 1
-Test = ℕ → (on off : ℕ) → Type 0
+abbrev pub call : Stands → List Function → (is_taken : Bool) → List ℕ → CType → (r n : ℕ) → Piece
+call P functions is_taken name t r n = call_by_number P is_taken name t r n (number_among 0 name functions)
 
--- `&&` and `||`, over the code of their operands
-abbrev pub HasLogical : LogicalOp → Test → Test → Places → (w r : ℕ) → Test
-HasLogical logical.And left right P w r from on off =
-    (m1 : ℕ) × (m2 : ℕ) × (m3 : ℕ) × (m4 : ℕ) × (m5 : ℕ) × (r + 1 < w) × left from m1 m2 × P m1 (g.Clash (Settled r) m3) × P m2 (g.Clash (Settled r) off) × right m3 m4 m5 × P m4 (g.Clash (Sequenced r (r + 1) r) on) × P m5 (g.Clash (Sequenced r (r + 1) r) off)
-HasLogical logical.Or left right P w r from on off =
-    (m1 : ℕ) × (m2 : ℕ) × (m3 : ℕ) × (m4 : ℕ) × (m5 : ℕ) × (r + 1 < w) × left from m1 m2 × P m1 (g.Clash (Settled r) on) × P m2 (g.Clash (Settled r) m3) × right m3 m4 m5 × P m4 (g.Clash (Sequenced r (r + 1) r) on) × P m5 (g.Clash (Sequenced r (r + 1) r) off)
+-- ---- tests
 
--- `pc_decide`, over the code of its operand
-abbrev pub HasDecide : (when_true when_false : ℕ) → Test → Places → Test
-HasDecide when_true when_false operand P from on off =
-    (m1 : ℕ) × (m2 : ℕ) × (m3 : ℕ) × (m4 : ℕ) × operand from m1 m2 × HasFixed when_true true P m1 m3 × HasFixed when_false false P m3 on × HasFixed when_true false P m2 m4 × HasFixed when_false true P m4 off
+abbrev pub truth : Site → (r : ℕ) → Bool → Piece
+truth s r b = replaced s r (of_truth b)
 
--- The code of an expression. As a value it goes to register r of w; the flag says whether the value of a call is taken.
+-- the value of a test
+abbrev pub as_value : Site → (r : ℕ) → Test → Piece
+as_value s r test = both_ways test (truth s r true) (truth s r false)
+
+-- the right operand of `&&` and `||`, behind the sequence point
+abbrev pub second : Site → (r : ℕ) → Test → Test
+second s r right =
+    leads (behind (clash s (Settled r)) right) (clash s (Sequenced r (r + 1))) (clash s (Sequenced r (r + 1)))
+
+abbrev pub connected : Site → LogicalOp → (r : ℕ) → (left right : Test) → Test
+connected s logical.And r left right from on off =
+    (r + 1 < s.registers) × (m1 : ℕ) × (m2 : ℕ) × left from m1 m2 × second s r right m1 on off
+    × clash s (Settled r) m2 off
+connected s logical.Or r left right from on off =
+    (r + 1 < s.registers) × (m1 : ℕ) × (m2 : ℕ) × left from m1 m2 × clash s (Settled r) m1 on
+    × second s r right m2 on off
+
+-- `pc_decide`
+abbrev pub decided : Site → (when_true when_false : ℕ) → Test → Test
+decided s when_true when_false operand =
+    leads operand (fixed_mark s when_true true ▸ fixed_mark s when_false false) (fixed_mark s when_true false
+    ▸ fixed_mark s when_false true)
+
+-- ---- load, modify, store: the lvalue in r, what lay there behind it, then the right operand, then what is made of
+-- both
+
+abbrev pub loaded : Site → CType → (place : Piece) → (r : ℕ) → Piece
+loaded s t place r = place ▸ one s.stands (node.Load (r + 1) r (cell_type (program_in s) t) s.tracks)
+
+abbrev pub load_modify_store : Site → CType → (r : ℕ) → (place operand modify : Piece) → (gives : ℕ) → Piece
+load_modify_store s t r place operand modify gives =
+    up_to s (r + 3) (loaded s t place r ▸ operand ▸ scalar_target s t r ▸ modify ▸ scalar_stored s t r (r + 3) gives)
+
+-- the right operand of `++` and `--`
+abbrev pub number_one : Site → (r : ℕ) → Piece
+number_one s r = constant s (r + 2) (content.Number (pos 1))
+
+-- in the type of the operation, and back in the type of the lvalue
+abbrev pub computed : Site → CType → Op → Scalar → (r : ℕ) → Piece
+computed s t op k r =
+    integer s (r + 3) (r + 1) k ▸ one s.stands (node.Apply (r + 3) (r + 3) (r + 2) op k)
+    ▸ integer s (r + 3) (r + 3) (scalar_in t)
+
+abbrev pub stepped : Site → Op → ℕ → (r : ℕ) → Piece
+stepped s op size r = one s.stands (node.Move (r + 3) (r + 1) (Elements (r + 2) op size))
+
+abbrev pub kept_in : When → ℕ → ℕ → ℕ
+kept_in e.before old new = old
+kept_in e.after old new = new
+
+-- `++` and `--`
+abbrev pub stepping : Site → CType → (r : ℕ) → (place modify : Piece) → When → Piece
+stepping s t r place modify gives =
+    load_modify_store s t r place (number_one s r) modify (kept_in gives (r + 1) (r + 3))
+
+-- ---- expressions
+
+-- the code of an expression as a value, which goes to register r, and as a test
 pub record Codes : Type 1 where
-  pub value : (is_taken : Bool) → Places → (w r : ℕ) → ℕ → ℕ → Type 0
-  pub test : Places → (w r : ℕ) → Test
+  pub value : Fate → (r : ℕ) → Piece
+  pub test : (r : ℕ) → Test
 
 -- as a test: its value, and a branch
-abbrev pub plain : ((is_taken : Bool) → Places → (w r : ℕ) → ℕ → ℕ → Type 0) → Codes
-plain value = record { value = value; test = λ P w r from on off. (m : ℕ) × value true P w r from m × P m (g.Branch r on off) }
+abbrev pub plain : Site → (Fate → (r : ℕ) → Piece) → Codes
+plain s value =
+    record { value = value; test = λ r. behind (value wanted r) (λ from on off. s.stands from (node.Branch r on off)) }
+
+-- two operands in r and the register behind it; the first has the footprint of both
+abbrev pub operands : Site → (r : ℕ) → (left right : Codes) → Piece
+operands s r left right = left.value wanted r ▸ right.value wanted (r + 1) ▸ clash s (Unsequenced r (r + 1))
+
+-- an operator on two operands
+abbrev pub binary : Site → (left right : Codes) → ((r : ℕ) → Piece) → Codes
+binary s left right operator = plain s (λ fate r. up_to s (r + 1) (operands s r left right ▸ operator r))
+
+-- a branch of `?:`
+abbrev pub branch : Site → Fate → (r : ℕ) → Codes → Piece
+branch s fate r arm = clash s (Settled r) ▸ arm.value (of_branch fate) (r + 1)
+
+abbrev pub chosen : Site → Fate → (r : ℕ) → (test left right : Codes) → Piece
+chosen s fate r test left right = both_ways (test.test r) (branch s fate r left) (branch s fate r right)
 
 abbrev mutual
-  pub codes_of : Setting → Value → Codes
-  codes_of s (e.Constant t z) = plain (λ is_taken P w r from to. (r < w) × P from (g.Constant r (content.Number z) false to))
-  codes_of s (e.Load t p) = plain (λ is_taken P w r from to. (m : ℕ) × (r < w) × places_of s p P w r from m × P m (g.Load r r (cell_type s.program t) to))
-  codes_of s (e.Whole t p) = plain (λ is_taken P w r from to. places_of s p P w r from to)
-  codes_of s (e.Decay t p) = plain (λ is_taken P w r from to. places_of s p P w r from to)
-  codes_of s (e.AddressOf t p) = plain (λ is_taken P w r from to. places_of s p P w r from to)
-  codes_of s (e.Convert e.to_integer t v) = plain (λ is_taken P w r from to. (m : ℕ) × (r < w) × (codes_of s v).value true P w r from m × P m (g.Convert r r (to_integer (scalar_in t)) to))
-  codes_of s (e.Convert e.to_truth t v) = plain (λ is_taken P w r from to. (m : ℕ) × (r < w) × (codes_of s v).value true P w r from m × P m (g.Convert r r to_truth to))
-  codes_of s (e.Convert e.to_null t v) = plain (λ is_taken P w r from to. (m : ℕ) × (r < w) × (codes_of s v).value true P w r from m × P m (g.Constant r (content.Address None) true to))
-  codes_of s (e.Convert e.to_pointer t v) = plain (λ is_taken P w r from to. (m : ℕ) × (r < w) × (codes_of s v).value true P w r from m × P m (g.Convert r r to_pointer to))
-  codes_of s (e.Convert e.to_void t v) = plain (λ is_taken P w r from to. (m : ℕ) × (r < w) × (codes_of s v).value false P w r from m × P m (g.Constant r content.Unset true to))
-  codes_of s (e.Minus t v) = plain (λ is_taken P w r from to. (m1 : ℕ) × (m2 : ℕ) × (r + 1 < w) × (codes_of s v).value true P w r from m1 × P m1 (g.Constant (r + 1) (content.Number (pos 0)) false m2) × P m2 (g.Apply r (r + 1) r O.Sub (scalar_in t) to))
-  codes_of s (e.Complement t v) = plain (λ is_taken P w r from to. (m1 : ℕ) × (m2 : ℕ) × (r + 1 < w) × (codes_of s v).value true P w r from m1 × P m1 (g.Constant (r + 1) (content.Number (convert_of s.program.model (scalar_in t) (negsuc 0))) false m2) × P m2 (g.Apply r r (r + 1) O.Xor (scalar_in t) to))
+  pub codes_of : Site → Value → Codes
+  codes_of s (e.Constant t z) = plain s (λ fate r. up_to s r (constant s r (content.Number z)))
+  codes_of s (e.Load t p) =
+      plain s (λ fate r. up_to s r (place_of s p r
+      ▸ one s.stands (node.Load r r (cell_type (program_in s) t) s.tracks)))
+  codes_of s (e.Whole t p) = plain s (λ fate r. place_of s p r)
+  codes_of s (e.Decay t p) = plain s (λ fate r. place_of s p r)
+  codes_of s (e.AddressOf t p) = plain s (λ fate r. place_of s p r)
+  codes_of s (e.Convert e.to_void t v) =
+      plain s (λ fate r. up_to s r ((codes_of s v).value untaken r ▸ replaced s r content.Unset))
+  codes_of s (e.Convert it t v) =
+      plain s (λ fate r. up_to s r ((codes_of s v).value (inside fate) r ▸ conversion_here s fate it t r))
+  codes_of s (e.Minus t v) =
+      plain s (λ fate r. up_to s (r + 1) ((codes_of s v).value wanted r ▸ constant s (r + 1) (content.Number (pos 0))
+      ▸ one s.stands (node.Apply r (r + 1) r O.Sub (scalar_in t))))
+  codes_of s (e.Complement t v) =
+      plain s (λ fate r. up_to s (r + 1) ((codes_of s v).value wanted r
+      ▸ constant s (r + 1) (all_ones (program_in s) t)
+      ▸ one s.stands (node.Apply r r (r + 1) O.Xor (scalar_in t))))
   codes_of s (e.Not t v) = record {
-    value = λ is_taken P w r from to. (m1 : ℕ) × (m2 : ℕ) × (r < w) × (codes_of s v).test P w r from m1 m2 × P m1 (g.Constant r (of_truth false) true to) × P m2 (g.Constant r (of_truth true) true to);
-    test = λ P w r from on off. (codes_of s v).test P w r from off on;
+    value = λ fate r. up_to s r (both_ways ((codes_of s v).test r) (truth s r false) (truth s r true));
+    test = λ r. swapped ((codes_of s v).test r);
   }
-  codes_of s (e.Arithmetic t op k a b) = plain (λ is_taken P w r from to. (m1 : ℕ) × (m2 : ℕ) × (m3 : ℕ) × (r + 1 < w) × (codes_of s a).value true P w r from m1 × (codes_of s b).value true P w (r + 1) m1 m2 × P m2 (g.Clash (Unsequenced r (r + 1) r) m3) × P m3 (g.Apply r r (r + 1) op k to))
-  codes_of s (e.Move t op size side a b) = plain (λ is_taken P w r from to. (m1 : ℕ) × (m2 : ℕ) × (m3 : ℕ) × (r + 1 < w) × (codes_of s a).value true P w r from m1 × (codes_of s b).value true P w (r + 1) m1 m2 × P m2 (g.Clash (Unsequenced r (r + 1) r) m3) × P m3 (g.Move r (pointer_in side r (r + 1)) (count_in side r (r + 1)) op size to))
-  codes_of s (e.Distance t size a b) = plain (λ is_taken P w r from to. (m1 : ℕ) × (m2 : ℕ) × (m3 : ℕ) × (r + 1 < w) × (codes_of s a).value true P w r from m1 × (codes_of s b).value true P w (r + 1) m1 m2 × P m2 (g.Clash (Unsequenced r (r + 1) r) m3) × P m3 (g.Subtract r r (r + 1) size to))
-  codes_of s (e.Compare t op a b) = plain (λ is_taken P w r from to. (m1 : ℕ) × (m2 : ℕ) × (m3 : ℕ) × (r + 1 < w) × (codes_of s a).value true P w r from m1 × (codes_of s b).value true P w (r + 1) m1 m2 × P m2 (g.Clash (Unsequenced r (r + 1) r) m3) × P m3 (g.Compare r r (r + 1) op to))
+  codes_of s (e.Arithmetic t op k a b) =
+      binary s (codes_of s a) (codes_of s b) (λ r. one s.stands (node.Apply r r (r + 1) op k))
+  codes_of s (e.Move t op size side a b) = binary s (codes_of s a) (codes_of s b) (λ r. moved_by s r op size side)
+  codes_of s (e.Distance t size a b) =
+      binary s (codes_of s a) (codes_of s b) (λ r. one s.stands (node.Subtract r r (r + 1) size))
+  codes_of s (e.Compare t op a b) =
+      binary s (codes_of s a) (codes_of s b) (λ r. one s.stands (node.Compare r r (r + 1) op))
   codes_of s (e.Logical t op a b) = record {
-    value = λ is_taken P w r from to. (m1 : ℕ) × (m2 : ℕ) × (r < w) × HasLogical op ((codes_of s a).test P w r) ((codes_of s b).test P w (r + 1)) P w r from m1 m2 × P m1 (g.Constant r (of_truth true) true to) × P m2 (g.Constant r (of_truth false) true to);
-    test = λ P w r from on off. HasLogical op ((codes_of s a).test P w r) ((codes_of s b).test P w (r + 1)) P w r from on off;
+    value = λ fate r. up_to s r (as_value s r (connected s op r ((codes_of s a).test r) ((codes_of s b).test (r + 1))));
+    test = λ r. connected s op r ((codes_of s a).test r) ((codes_of s b).test (r + 1));
   }
-  codes_of s (e.Conditional t test a b) = plain (λ is_taken P w r from to. (m1 : ℕ) × (m2 : ℕ) × (m3 : ℕ) × (m4 : ℕ) × (m5 : ℕ) × (m6 : ℕ) × (r + 1 < w) × (codes_of s test).test P w r from m1 m2 × P m1 (g.Clash (Settled r) m3) × P m2 (g.Clash (Settled r) m4) × (codes_of s a).value true P w (r + 1) m3 m5 × (codes_of s b).value true P w (r + 1) m4 m5 × P m5 (g.Clash (Sequenced r (r + 1) r) m6) × P m6 (g.Convert r (r + 1) as_it_is to))
-  codes_of s (e.Assign t p v) = plain (λ is_taken P w r from to. (m1 : ℕ) × (m2 : ℕ) × (m3 : ℕ) × (m4 : ℕ) × (m5 : ℕ) × (r + 1 < w) × places_of s p P w r from m1 × (codes_of s v).value true P w (r + 1) m1 m2 × HasReads s t P (r + 1) m2 m3 × P m3 (g.Clash (Unsequenced r (r + 1) r) m4) × HasTarget s t P r r m4 m5 × HasAssign s t P r (r + 1) r m5 to)
-  codes_of s (e.Update t op k p v) = plain (λ is_taken P w r from to. (m1 : ℕ) × (m2 : ℕ) × (m3 : ℕ) × (m4 : ℕ) × (m5 : ℕ) × (m6 : ℕ) × (m7 : ℕ) × (m8 : ℕ) × (r + 3 < w) × places_of s p P w r from m1 × P m1 (g.Load (r + 1) r (cell_type s.program t) m2) × (codes_of s v).value true P w (r + 2) m2 m3 × P m3 (g.Clash (Unsequenced (r + 1) (r + 2) (r + 1)) m8) × P m8 (g.Clash (Target r (r + 1) (cell_type s.program t)) m4) × P m4 (g.Convert (r + 3) (r + 1) (to_integer k) m5) × P m5 (g.Apply (r + 3) (r + 3) (r + 2) op k m6) × P m6 (g.Convert (r + 3) (r + 3) (to_integer (scalar_in t)) m7) × P m7 (g.Store r r (r + 3) (r + 3) (r + 1) (cell_type s.program t) to))
-  codes_of s (e.UpdatePointer t op size p v) = plain (λ is_taken P w r from to. (m1 : ℕ) × (m2 : ℕ) × (m3 : ℕ) × (m4 : ℕ) × (m5 : ℕ) × (m6 : ℕ) × (r + 3 < w) × places_of s p P w r from m1 × P m1 (g.Load (r + 1) r (cell_type s.program t) m2) × (codes_of s v).value true P w (r + 2) m2 m3 × P m3 (g.Clash (Unsequenced (r + 1) (r + 2) (r + 1)) m6) × P m6 (g.Clash (Target r (r + 1) (cell_type s.program t)) m4) × P m4 (g.Move (r + 3) (r + 1) (r + 2) op size m5) × P m5 (g.Store r r (r + 3) (r + 3) (r + 1) (cell_type s.program t) to))
-  codes_of s (e.Step t when op k p) = plain (λ is_taken P w r from to. (m1 : ℕ) × (m2 : ℕ) × (m3 : ℕ) × (m4 : ℕ) × (m5 : ℕ) × (m6 : ℕ) × (m7 : ℕ) × (r + 3 < w) × places_of s p P w r from m1 × P m1 (g.Load (r + 1) r (cell_type s.program t) m7) × P m7 (g.Clash (Target r (r + 1) (cell_type s.program t)) m2) × P m2 (g.Convert (r + 3) (r + 1) (to_integer k) m3) × P m3 (g.Constant (r + 2) (content.Number (pos 1)) false m4) × P m4 (g.Apply (r + 3) (r + 3) (r + 2) op k m5) × P m5 (g.Convert (r + 3) (r + 3) (to_integer (scalar_in t)) m6) × P m6 (g.Store r r (r + 3) (kept_in when (r + 1) (r + 3)) (r + 1) (cell_type s.program t) to))
-  codes_of s (e.StepPointer t when op size p) = plain (λ is_taken P w r from to. (m1 : ℕ) × (m2 : ℕ) × (m3 : ℕ) × (m4 : ℕ) × (m5 : ℕ) × (r + 3 < w) × places_of s p P w r from m1 × P m1 (g.Load (r + 1) r (cell_type s.program t) m5) × P m5 (g.Clash (Target r (r + 1) (cell_type s.program t)) m2) × P m2 (g.Constant (r + 2) (content.Number (pos 1)) false m3) × P m3 (g.Move (r + 3) (r + 1) (r + 2) op size m4) × P m4 (g.Store r r (r + 3) (kept_in when (r + 1) (r + 3)) (r + 1) (cell_type s.program t) to))
-  codes_of s (e.Call t f vs) = plain (λ is_taken P w r from to. (m1 : ℕ) × (m2 : ℕ) × (m3 : ℕ) × (r < w) × arguments_of s vs P w r from m1 × P m1 (g.Clash (Settled r) m2) × P m2 (g.Tick m3) × HasCall s is_taken f t P r (count_of vs) m3 to)
-  codes_of s (e.Comma t no_values) = plain (λ is_taken P w r from to. (r < w) × P from (g.Constant r content.Unset false to))
-  codes_of s (e.Comma t (a_value v vs)) = plain (λ is_taken P w r from to. (m : ℕ) × (r < w) × P from (g.Constant r content.Unset false m) × parts_of s ((codes_of s v).value true) vs P w r m to)
+  codes_of s (e.Conditional t test a b) =
+      plain s (λ fate r. up_to s (r + 1) (chosen s fate r (codes_of s test) (codes_of s a) (codes_of s b)
+      ▸ clash s (Sequenced r (r + 1)) ▸ content_moved s r (r + 1)))
+  codes_of s (e.Assign t p v) =
+      plain s (λ fate r. up_to s (r + 1) (place_of s p r ▸ (codes_of s v).value unconverted (r + 1)
+      ▸ reads s t (r + 1) ▸ clash s (Unsequenced r (r + 1)) ▸ target s t r ▸ late s v (r + 1)
+      ▸ assigned s t r (r + 1)))
+  codes_of s (e.Update t op k p v) =
+      plain s (λ fate r. load_modify_store s t r (place_of s p r) ((codes_of s v).value wanted (r + 2)
+      ▸ clash s (Unsequenced r (r + 2))) (computed s t op k r) (r + 3))
+  codes_of s (e.UpdatePointer t op size p v) =
+      plain s (λ fate r. load_modify_store s t r (place_of s p r) ((codes_of s v).value wanted (r + 2)
+      ▸ clash s (Unsequenced r (r + 2))) (stepped s op size r) (r + 3))
+  codes_of s (e.Step t when op k p) =
+      plain s (λ fate r. stepping s t r (place_of s p r) (computed s t op k r) when)
+  codes_of s (e.StepPointer t when op size p) =
+      plain s (λ fate r. stepping s t r (place_of s p r) (stepped s op size r) when)
+  codes_of s (e.Call t name vs) =
+      plain s (λ fate r. up_to s r (arguments_of s vs r ▸ clash s (Settled r) ▸ passed s vs r ▸ one s.stands node.Tick
+      ▸ call s.stands (program_in s).functions (takes fate) name t r (count_of vs)))
+  codes_of s (e.Comma t no_values) = plain s (λ fate r. up_to s r (constant s r content.Unset))
+  codes_of s (e.Comma t (a_value v vs)) =
+      plain s (λ fate r. up_to s r (constant s r content.Unset
+      ▸ parts_of s (of_last fate) ((codes_of s v).value (fate_of_part (of_last fate) vs)) vs r))
   codes_of s (e.Marked t ms v) = record {
-    value = λ is_taken P w r from to. (m : ℕ) × HasMarks s ms P from m × (codes_of s v).value true P w r m to;
-    test = λ P w r from on off. (m : ℕ) × HasMarks s ms P from m × (codes_of s v).test P w r m on off;
+    value = λ fate r. marks s ms ▸ (codes_of s v).value (of_last fate) r;
+    test = λ r. behind (marks s ms) ((codes_of s v).test r);
   }
   codes_of s (e.Decide t v when_true when_false) = record {
-    value = λ is_taken P w r from to. (m1 : ℕ) × (m2 : ℕ) × (r < w) × HasDecide when_true when_false ((codes_of s v).test P w r) P from m1 m2 × P m1 (g.Constant r (of_truth true) true to) × P m2 (g.Constant r (of_truth false) true to);
-    test = λ P w r from on off. HasDecide when_true when_false ((codes_of s v).test P w r) P from on off;
+    value = λ fate r. up_to s r (as_value s r (decided s when_true when_false ((codes_of s v).test r)));
+    test = λ r. decided s when_true when_false ((codes_of s v).test r);
   }
-  codes_of s (e.After t v id) = plain (λ is_taken P w r from to. (m : ℕ) × (codes_of s v).value true P w r from m × HasFixed id true P m to)
+  codes_of s (e.After t v id) = plain s (λ fate r. (codes_of s v).value (of_last fate) r ▸ fixed_mark s id true)
 
-  -- the code of a place, whose address goes to register r
-  pub places_of : Setting → Place → Places → (w r : ℕ) → ℕ → ℕ → Type 0
-  places_of s (e.Object t n) P w r from to = (r < w) × P from (g.Address r (s.variable n) to)
-  places_of s (e.Pointed t v) P w r from to = (m : ℕ) × (r < w) × (codes_of s v).value true P w r from m × P m (g.Convert r r to_pointer to)
-  places_of s (e.Element t size side a b) P w r from to = (m1 : ℕ) × (m2 : ℕ) × (m3 : ℕ) × (r + 1 < w) × (codes_of s a).value true P w r from m1 × (codes_of s b).value true P w (r + 1) m1 m2 × P m2 (g.Clash (Unsequenced r (r + 1) r) m3) × P m3 (g.Move r (pointer_in side r (r + 1)) (count_in side r (r + 1)) O.Add size to)
-  places_of s (e.Part t offset p) P w r from to = (m : ℕ) × (r < w) × places_of s p P w r from m × P m (g.Member r r offset to)
-  places_of s (e.Held t v) P w r from to = (m : ℕ) × (r < w) × (codes_of s v).value true P w r from m × P m (g.Convert r r to_pointer to)
+  -- the code of an lvalue, whose address goes to register r
+  pub place_of : Site → Place → (r : ℕ) → Piece
+  place_of s (e.Object t n) r = up_to s r (one s.stands (node.Address r (s.names.variable n)))
+  place_of s (e.Pointed t v) r =
+      up_to s r ((codes_of s v).value wanted r ▸ one s.stands (node.Convert r r how.ToPointer))
+  place_of s (e.Element t size side a b) r =
+      up_to s (r + 1) (operands s r (codes_of s a) (codes_of s b) ▸ moved_by s r O.Add size side)
+  place_of s (e.Part t offset p) r = up_to s r (place_of s p r ▸ one s.stands (node.Move r r (Member offset)))
+  place_of s (e.Held t v) r =
+      up_to s r ((codes_of s v).value wanted r ▸ one s.stands (node.Convert r r how.ToPointer))
 
   -- arguments, from register r on
-  pub arguments_of : Setting → Values → Places → (w r : ℕ) → ℕ → ℕ → Type 0
-  arguments_of s no_values P w r from to = (r < w) × P from (g.Constant r content.Unset false to)
-  arguments_of s (a_value v vs) P w r from to = (m1 : ℕ) × (m2 : ℕ) × (m3 : ℕ) × (r + 1 < w) × (codes_of s v).value true P w r from m1 × arguments_of s vs P w (r + 1) m1 m2 × HasReads s (type_of v) P r m2 m3 × P m3 (g.Clash (Unsequenced r (r + 1) r) to)
+  pub arguments_of : Site → Values → (r : ℕ) → Piece
+  arguments_of s no_values r = up_to s r (constant s r content.Unset)
+  arguments_of s (a_value v vs) r =
+      up_to s (r + 1) ((codes_of s v).value unconverted r ▸ arguments_of s vs (r + 1) ▸ reads s (type_of v) r
+      ▸ clash s (Unsequenced r (r + 1)))
 
   -- the parts of a comma expression; the footprint of those before is in register r
-  pub parts_of : Setting → (first : Places → (w r : ℕ) → ℕ → ℕ → Type 0) → Values → Places → (w r : ℕ) → ℕ → ℕ → Type 0
-  parts_of s first no_values P w r from to = (m1 : ℕ) × (m2 : ℕ) × (r + 1 < w) × first P w (r + 1) from m1 × P m1 (g.Clash (Sequenced r (r + 1) r) m2) × P m2 (g.Convert r (r + 1) as_it_is to)
-  parts_of s first (a_value next rest) P w r from to = (m1 : ℕ) × (m2 : ℕ) × (m3 : ℕ) × (r + 1 < w) × first P w (r + 1) from m1 × P m1 (g.Clash (Settled (r + 1)) m2) × P m2 (g.Clash (Sequenced r (r + 1) r) m3) × parts_of s ((codes_of s next).value true) rest P w r m3 to
+  pub parts_of : Site → Fate → (first : (r : ℕ) → Piece) → Values → (r : ℕ) → Piece
+  parts_of s fate first no_values r =
+      up_to s (r + 1) (first (r + 1) ▸ clash s (Sequenced r (r + 1)) ▸ content_moved s r (r + 1))
+  parts_of s fate first (a_value next rest) r =
+      up_to s (r + 1) (first (r + 1) ▸ clash s (Settled (r + 1)) ▸ clash s (Sequenced r (r + 1))
+      ▸ parts_of s fate ((codes_of s next).value (fate_of_part fate rest)) rest r)
 
-abbrev pub HasExpr : Setting → (is_taken : Bool) → Value → Places → (w r : ℕ) → ℕ → ℕ → Type 0
-HasExpr s is_taken v = (codes_of s v).value is_taken
+abbrev pub value_code : Site → Fate → Value → (r : ℕ) → Piece
+value_code s fate v = (codes_of s v).value fate
 
-abbrev pub HasTest : Setting → Value → Places → (w r : ℕ) → Test
-HasTest s v = (codes_of s v).test
+abbrev pub test_code : Site → Value → (r : ℕ) → Test
+test_code s v = (codes_of s v).test
 
--- ---- objects
+-- ---- full expressions
 
--- bytes go to the characters of a variable, from an offset on
-abbrev pub HasLetters : Setting → Variable → Scalar → ℕ → List ℕ → Places → (w : ℕ) → ℕ → ℕ → Type 0
-HasLetters s v t offset [] P w from to = from ≡ to
-HasLetters s v t offset (b ∷ bytes) P w from to =
-    (m1 : ℕ) × (m2 : ℕ) × (m3 : ℕ) × (m4 : ℕ) × (1 < w) × P from (g.Address 0 v m1) × P m1 (g.Member 0 0 offset m2) × P m2 (g.Constant 1 (content.Number (pos b)) false m3) × P m3 (g.Store 0 0 1 1 1 (cell_type s.program (Num t)) m4) × HasLetters s v t (offset + 1) bytes P w m4 to
+abbrev pub tracking_at : Bool → Site → Site
+tracking_at tracks s = record s { tracks = tracks }
 
-abbrev pub HasPart : Setting → Variable → StartPart → Places → (w : ℕ) → ℕ → ℕ → Type 0
-HasPart s v (e.stored offset value) P w from to =
-    (m1 : ℕ) × (m2 : ℕ) × (m3 : ℕ) × (m4 : ℕ) × (1 < w) × P from (g.Address 0 v m1) × P m1 (g.Member 0 0 offset m2) × HasExpr s true value P w 1 m2 m3 × HasReads s (type_of value) P 1 m3 m4 × HasAssign s (type_of value) P 0 1 1 m4 to
-HasPart s v (e.fixed offset t c) P w from to = P from g.Stop
-HasPart s v (e.letters offset t bytes) P w from to = HasLetters s v t offset bytes P w from to
+-- Where nothing can clash in a full expression, its code needn't track footprints.
+abbrev pub full_value : Site → Fate → Value → (r : ℕ) → Piece
+full_value s fate v r from to =
+    value_code (tracking_at true s) fate v r from to
+    ⊎ ((is_of cannot_clash v ≡ true) × value_code (tracking_at false s) fate v r from to)
 
-abbrev pub HasAllParts : Setting → Variable → List StartPart → Places → (w : ℕ) → ℕ → ℕ → Type 0
-HasAllParts s v [] P w from to = from ≡ to
-HasAllParts s v (part ∷ parts) P w from to = (m : ℕ) × HasPart s v part P w from m × HasAllParts s v parts P w m to
-
-abbrev pub HasSeal : Bool → Variable → Places → ℕ → ℕ → Type 0
-HasSeal true v P from to = P from (g.Seal v to)
-HasSeal false v P from to = from ≡ to
-
--- a variable's lifetime begins, and it gets its first value
-abbrev pub HasOpening : Setting → Local → Places → (w : ℕ) → ℕ → ℕ → Type 0
-HasOpening s it P w from to =
-    (m1 : ℕ) × (m2 : ℕ) × P from (g.Create (s.variable it.object) (shape s.program (type_of_object s.program it.object)) (is_zeroed it.start) m1) × HasAllParts s (s.variable it.object) (parts_in it.start) P w m1 m2 × HasSeal (is_sealed_object s.program it.object) (s.variable it.object) P m2 to
-
--- ---- statements
-
--- Where a statement leads: behind it, to the return of the value in register 0, and where `break` and `continue` lead.
-pub record Exits : Type 0 where
-  pub next : ℕ
-  pub back : ℕ
-  pub breaks : ℕ
-  pub continues : ℕ
-
--- the exits of what follows a declaration, at each of which the variable ends
-abbrev pub HasEnds : Variable → Places → Exits → Exits → Type 0
-HasEnds v P inner outer =
-    P inner.next (g.End v outer.next) × P inner.back (g.End v outer.back) × P inner.breaks (g.End v outer.breaks) × P inner.continues (g.End v outer.continues)
-
--- variables that begin one after the other, and then something else
-abbrev pub HasLocals : Setting → List Local → Places → (w : ℕ) → (ℕ → Exits → Type 0) → ℕ → Exits → Type 0
-HasLocals s [] P w inside from x = inside from x
-HasLocals s (it ∷ its) P w inside from x = (m : ℕ) × (y : Exits) × HasOpening s it P w from m × HasLocals s its P w inside m y × HasEnds (s.variable it.object) P y x
-
--- a missing test holds
-abbrev pub HasTestIf : Setting → Option Value → Places → (w : ℕ) → ℕ → (on off : ℕ) → Type 0
-HasTestIf s None P w from on off = from ≡ on
-HasTestIf s (Some v) P w from on off = HasTest s v P w 0 from on off
-
-abbrev pub HasEffect : Setting → Option Value → Places → (w : ℕ) → ℕ → ℕ → Type 0
-HasEffect s None P w from to = from ≡ to
-HasEffect s (Some v) P w from to = HasExpr s true v P w 0 from to
-
--- where the labels of a `switch` lead
-pub data Place' : Type 0 where
-  at_case : (value : ℤ) (place : ℕ) → Place'
-  at_default : (place : ℕ) → Place'
-
-abbrev pub arms_of : List Place' → List Arm
-arms_of [] = []
-arms_of (at_case z place ∷ places) = record { value = z; next = place } ∷ arms_of places
-arms_of (at_default place ∷ places) = arms_of places
-
-abbrev pub default_of : List Place' → ℕ → ℕ
-default_of [] to = to
-default_of (at_case z place ∷ places) to = default_of places to
-default_of (at_default place ∷ places) to = place
-
--- labels that lead to a place, and those behind
-abbrev pub labels_at : List Label → ℕ → List Place' → List Place'
-labels_at [] place places = places
-labels_at (e.Case z ∷ labels) place places = at_case z place ∷ labels_at labels place places
-labels_at (e.Default ∷ labels) place places = at_default place ∷ labels_at labels place places
-
--- the turns of a `while` or a `for`, over the code of its body
-abbrev pub HasLoop : Setting → Option Value → Option Value → (ℕ → Exits → Type 0) → Places → (w : ℕ) → ℕ → Exits → Type 0
-HasLoop s test step body P w head x =
-    (m1 : ℕ) × (m2 : ℕ) × (m3 : ℕ) × P head (g.Tick m1) × HasTestIf s test P w m1 m2 x.next × body m2 (record { next = m3; back = x.back; breaks = x.next; continues = m3 }) × HasEffect s step P w m3 head
-
-abbrev mutual
-  pub HasStmt : Setting → Statement → Places → (w : ℕ) → ℕ → Exits → Type 0
-  HasStmt s (e.Compound items) P w from x = HasItems s items P w from x
-  HasStmt s (e.Evaluates v) P w from x = (m : ℕ) × P from (g.Tick m) × HasExpr s false v P w 0 m x.next
-  HasStmt s e.Null P w from x = P from (g.Tick x.next)
-  HasStmt s (e.If v body) P w from x = (m1 : ℕ) × (m2 : ℕ) × P from (g.Tick m1) × HasTest s v P w 0 m1 m2 x.next × HasStmt s body P w m2 x
-  HasStmt s (e.IfElse v body other) P w from x =
-      (m1 : ℕ) × (m2 : ℕ) × (m3 : ℕ) × P from (g.Tick m1) × HasTest s v P w 0 m1 m2 m3 × HasStmt s body P w m2 x × HasStmt s other P w m3 x
-  HasStmt s (e.While v body) P w from x = (m : ℕ) × P from (g.Tick m) × HasLoop s (Some v) None (HasStmt s body P w) P w m x
-  HasStmt s (e.Do body v) P w from x =
-      (head : ℕ) × (m1 : ℕ) × (m2 : ℕ) × P from (g.Tick head) × HasStmt s body P w head (record { next = m1; back = x.back; breaks = x.next; continues = m1 }) × P m1 (g.Tick m2) × HasTest s v P w 0 m2 head x.next
-  HasStmt s (e.For e.Nothing test step body) P w from x = (m : ℕ) × P from (g.Tick m) × HasLoop s test step (HasStmt s body P w) P w m x
-  HasStmt s (e.For (e.First v) test step body) P w from x =
-      (m1 : ℕ) × (m2 : ℕ) × P from (g.Tick m1) × HasExpr s true v P w 0 m1 m2 × HasLoop s test step (HasStmt s body P w) P w m2 x
-  HasStmt s (e.For (e.Locals its) test step body) P w from x = (m : ℕ) × P from (g.Tick m) × HasLocals s its P w (HasLoop s test step (HasStmt s body P w) P w) m x
-  HasStmt s (e.Switch v cases) P w from x =
-      (m1 : ℕ) × (m2 : ℕ) × (first : ℕ) × (places : List Place') × P from (g.Tick m1) × HasExpr s true v P w 0 m1 m2 × P m2 (g.Switch 0 (arms_of places) (default_of places x.next)) × HasCases s cases P w places first (record { next = x.next; back = x.back; breaks = x.next; continues = x.continues })
-  HasStmt s e.Break P w from x = P from (g.Tick x.breaks)
-  HasStmt s e.Continue P w from x = P from (g.Tick x.continues)
-  HasStmt s (e.Return None) P w from x = (m : ℕ) × (0 < w) × P from (g.Tick m) × P m (g.Constant 0 content.Unset false x.back)
-  HasStmt s (e.Return (Some v)) P w from x = (m : ℕ) × P from (g.Tick m) × HasExpr s true v P w 0 m x.back
-
-  pub HasItems : Setting → Items → Places → (w : ℕ) → ℕ → Exits → Type 0
-  HasItems s e.no_items P w from x = from ≡ x.next
-  HasItems s (e.a_local it rest) P w from x = (m : ℕ) × (y : Exits) × HasOpening s it P w from m × HasItems s rest P w m y × HasEnds (s.variable it.object) P y x
-  HasItems s (e.a_statement first rest) P w from x = (m : ℕ) × HasStmt s first P w from (record x { next = m }) × HasItems s rest P w m x
-  HasItems s (e.a_label label rest) P w from x = (m : ℕ) × HasMark s label P from m × HasItems s rest P w m x
-
-  -- the statements of a `switch`, with the places of their labels
-  pub HasCases : Setting → Cases → Places → (w : ℕ) → List Place' → ℕ → Exits → Type 0
-  HasCases s e.no_cases P w places from x = (places ≡ []) × (from ≡ x.next)
-  HasCases s (e.a_case labels first rest) P w places from x =
-      (m : ℕ) × (more : List Place') × (places ≡ labels_at labels from more) × HasStmt s first P w from (record x { next = m }) × HasCases s rest P w more m x
-
--- ---- functions and programs
-
--- the parameters end, the last first
-abbrev pub HasParameterEnds : ℕ → List ℕ → Places → ℕ → ℕ → Type 0
-HasParameterEnds k [] P from to = from ≡ to
-HasParameterEnds k (it ∷ its) P from to = (m : ℕ) × HasParameterEnds (suc k) its P from m × P m (g.End (parameter k) to)
-
--- the parameters are sealed that are declared `const`
-abbrev pub HasParameterSeals : Program → ℕ → List ℕ → Places → ℕ → ℕ → Type 0
-HasParameterSeals program k [] P from to = from ≡ to
-HasParameterSeals program k (n ∷ ns) P from to = (m : ℕ) × HasSeal (is_sealed_object program n) (parameter k) P from m × HasParameterSeals program (suc k) ns P m to
-
--- what a function gives that comes to the end of its body
-abbrev pub at_the_end : List ℕ → Content
-at_the_end name = if bytes_eq name (codes "main") then content.Number (pos 0) else content.Unset
-
--- a node stands at a place
-abbrev pub stands : List Node → Places
-stands nodes i n = slice_get nodes i ≡ Some n
-
--- the parameters, by their names and shapes
-abbrev pub parameters_of : Program → List ℕ → List g.Parameter
-parameters_of program [] = []
-parameters_of program (n ∷ ns) = record { name = name_of_object program n; shape = shape program (type_of_object program n) } ∷ parameters_of program ns
-
--- the code of a function
-pub record HasCode (program : Program) (f : Function) (code : Code) : Type 0 where
-  pub name : code.name ≡ f.name
-  pub params : code.params ≡ parameters_of program f.parameters
-  pub room : 0 < code.registers
-  pub first : ℕ
-  pub next : ℕ
-  pub back : ℕ
-  pub last : ℕ
-  pub seals : HasParameterSeals program 0 f.parameters (stands code.nodes) code.start first
-  pub body : HasItems (record { program = program; variable = variable_of program f.parameters }) f.body (stands code.nodes) code.registers first (record { next = next; back = back; breaks = next; continues = next })
-  pub ends_without : stands code.nodes next (g.Constant 0 (at_the_end f.name) false back)
-  pub parameters_end : HasParameterEnds 0 f.parameters (stands code.nodes) back last
-  pub returns : stands code.nodes last (g.Return (Some 0))
-
-abbrev pub Lowered : Program → Option Function → Option Code → Type 0
-Lowered program None None = Unit {0}
-Lowered program (Some f) (Some code) = HasCode program f code
-Lowered program None (Some code) = ⊥
-Lowered program (Some f) None = ⊥
-
--- the graph has the code of each function with a body, by its place among them
-pub record HasProgram (program : Program) (graph : Graph) : Type 0 where
-  pub model : graph.model ≡ program.model
-  pub statics : graph.statics ≡ initials program program.objects
-  pub each : (f : ℕ) → Lowered program (slice_get program.functions f) (slice_get graph.codes f)
+abbrev pub full_test : Site → Value → (r : ℕ) → Test
+full_test s v r from on off =
+    test_code (tracking_at true s) v r from on off
+    ⊎ ((is_of cannot_clash v ≡ true) × test_code (tracking_at false s) v r from on off)

@@ -1,9 +1,10 @@
-pub use Rattle.lt_ir.specs.Running
-pub use Rattle.lt_ir.specs.Evaluation
-pub use Rattle.lt_ir.specs.Starting
 pub use Rattle.lt_ir.specs.Graph
-pub mod Meaning
-pub mod Code
+pub use Rattle.lt_meaning.specs.Runs
+pub mod Pieces
 pub mod Predicates
+pub mod Code
+pub mod Bodies
+pub mod Sizes
+pub mod Bounds
 pub mod Samples
 pub mod Laws

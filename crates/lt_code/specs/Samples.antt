@@ -1,110 +1,155 @@
--- Examples: how runs are over and which marks they make, worked out.
-use Rattle.std.specs.Prelude.{◌≡◌, ℕ, ℤ, Bool, true, false, pos, List, [], ◌∷◌, codes, Option, Some, None, option_map}
+-- Examples: the sizes of functions, and a function's code, worked out.
+use Rattle.std.specs.Prelude.{◌≡◌, ℕ, pos, List, [], ◌∷◌, codes, true, false, Some, None}
+use Rattle.lt_model.specs.declared.cell.CellType.{CellType}
+use Rattle.lt_model.specs.declared.cell.CellType.TheVariants as cell
+use Rattle.lt_model.specs.declared.cell.Content.TheVariants as content
 use Rattle.lt_model.specs.declared.operator.Op.TheVariants as op
-use Rattle.lt_model.specs.declared.operator.Ub.TheVariants as U
 use Rattle.lt_model.specs.declared.scalar.DataModel.TheVariants.{Lp64}
-use Rattle.lt_model.specs.declared.input.CellSet.TheVariants as cellset
-use Rattle.lt_model.specs.declared.run.End.{End}
-use Rattle.lt_model.specs.declared.run.End.TheVariants.{Returned, Undefined, NoInput, Steps}
-use Rattle.lt_tree.specs.Tree as c
-use Rattle.lt_tree.specs.declared.expression.UnaryOp.TheVariants as unary
-use Rattle.lt_tree_laws.specs.Examples.{just, int, x, one, two, zero_constant, pointer, declares}
-use Rattle.lt_tree.specs.Typing.Programs.{Program, typed, broken}
-use Rattle.lt_tree.specs.Typing.UnitTyping.{typing}
-use Rattle.lt_tree_laws.specs.Typing.ExampleTexts.{name, number, object, function, declaration_of, takes_int}
-use Rattle.lt_model.specs.State.{Made}
-use Rattle.lt_ir.specs.Running.{Over}
-use Rattle.lt_tree.specs.Typing.Entities.{Function}
-use Rattle.lt_model.specs.declared.input.Input.{Input}
-use Rattle.lt_code.specs.Meaning.Runs.{run, function_among}
+use Rattle.lt_model.specs.declared.scalar.Scalar.TheVariants as scalar
+use Rattle.lt_tree.specs.Typing.Types as t
+use Rattle.lt_tree.specs.Typing.Types.{CType}
+use Rattle.lt_tree.specs.Typing.Entities.{Function, parameter, no_names}
+use Rattle.lt_tree.specs.Typing.TypedTree as e
+use Rattle.lt_tree.specs.Typing.TypedTree.{Value, Place, Items, no_values, a_value}
+use Rattle.lt_tree.specs.Typing.Programs.{Program}
+use Rattle.lt_ir.specs.declared.variable.Variable.{Variable}
+use Rattle.lt_ir.specs.declared.variable.Variable.TheVariants as variable
+use Rattle.lt_ir.specs.declared.code.Code.{Code}
+use Rattle.lt_ir.specs.declared.node.Given.TheVariants as given
+use Rattle.lt_ir.specs.declared.node.Node.{Node}
+use Rattle.lt_ir.specs.declared.node.Node.TheVariants as node
+use Rattle.lt_ir.specs.declared.pure.How.TheVariants as how
+use Rattle.lt_ir.specs.Ranges.{is_code, counts_in}
+use Rattle.lt_code.specs.Sizes.{size_of}
+use Rattle.lt_code.specs.Bodies.{HasCode, parameters_of}
+use Rattle.lt_code.specs.Bounds.{IsBounded}
 
--- the marks of a run: each id, and whether it is true
-abbrev pub shown : List Made → List (ℕ × Bool)
-shown [] = []
-shown (made ∷ mades) = (made.id, made.truth) ∷ shown mades
+-- ---- functions
 
-abbrev pub started_with : ℤ → Input
-started_with z = record { blocks = []; cells = cellset.Number (record { root = codes "x"; offset = 0 }) z ∷ []; stubs = [] }
+abbrev int : CType
+int = t.Num scalar.Int
 
-abbrev pub run_of : Program → ℤ → ℕ → Option Function → Option Over
-run_of program z ticks f = option_map (λ f. run program f (started_with z) ticks) f
+-- `int NAME(int x) { .. }`
+abbrev function : List ℕ → Items → Function
+function name body = record {
+  node = 0;
+  name = name;
+  type = t.Function int (t.a_type int t.no_types) false;
+  parameters = 0 ∷ [];
+  body = body;
+}
 
--- how the function `f` of a unit runs where its parameter x is a number, with no values left for other functions
-abbrev pub run_with : c.Unit → ℤ → ℕ → Option Over
-run_with unit z ticks = elim (typing Lp64 unit) [ typed program ↦ run_of program z ticks (function_among (codes "f") program.functions) | broken rule node ↦ None ]
+abbrev x : Place
+x = e.Object int 0
 
-abbrev pub end_with : c.Unit → ℤ → ℕ → Option End
-end_with unit z ticks = option_map (λ over. over.end) (run_with unit z ticks)
+abbrev value_of_x : Value
+value_of_x = e.Load int x
 
-abbrev pub marks_with : c.Unit → ℤ → ℕ → Option (List (ℕ × Bool))
-marks_with unit z ticks = option_map (λ over. shown over.at.marks) (run_with unit z ticks)
+-- `return v;` at the end of a block
+abbrev returned : Value → Items
+returned v = e.a_statement (e.Return (Some v)) e.no_items
 
--- `return x;` behind other items
-abbrev pub returns_x : c.Items
-returns_x = c.a_statement (c.Return (Some x)) c.no_items
+-- `int g(int x) { }`
+abbrev pub empty : Function
+empty = function (codes "g") e.no_items
 
--- an object of a block
-abbrev pub declares_here : List ℕ → c.Parts → c.Items → c.Items
-declares_here w parts rest = c.a_declaration (declaration_of int w parts None) rest
-
--- `int f(int x) { return x / 0; }`
-abbrev pub DivisionByZero : Type 0
-DivisionByZero = end_with (function (c.a_statement (c.Return (Some (c.Binary op.Div x zero_constant))) c.no_items) ∷ []) (pos 7) 100 ≡ Some (Undefined U.ZeroDivisor)
-
--- `int f(int x) { x += x--; return x; }`
-abbrev pub ReadAndWritten : Type 0
-ReadAndWritten =
-    end_with (function (c.a_statement (c.Evaluates (c.Assign (Some op.Add) x (c.PostDec x))) (c.a_statement (c.Return (Some x)) c.no_items)) ∷ []) (pos 7) 100 ≡ Some (Undefined U.Unsequenced)
-
--- `int g(int x); int f(int x) { return g(x); }`
-abbrev pub NothingLeft : Type 0
-NothingLeft =
-    end_with (object int (codes "g") takes_int ∷ function (c.a_statement (c.Return (Some (c.Call (name (codes "g")) (just x)))) c.no_items) ∷ []) (pos 7) 100 ≡ Some (NoInput (codes "g"))
-
--- `int f(int x) { while (x) x = x - 1; return x; }` needs 2x + 3 ticks
-abbrev pub TicksOfALoop : Type 0
-TicksOfALoop = (end_with looping (pos 2) 7 ≡ Some Returned) × (end_with looping (pos 2) 6 ≡ Some Steps)
+-- `int h(int x) { char a[2] = "ab"; return g(x) + g(1); }`
+abbrev pub calling : Function
+calling =
+    function (codes "h") (e.a_local (record { object = 1; start = Some text }) (returned sum))
   where
-    looping : c.Unit
-    looping =
-        function (c.a_statement (c.While x (c.Evaluates (c.Assign None x (c.Binary op.Sub x one)))) (c.a_statement (c.Return (Some x)) c.no_items)) ∷ []
+    text : e.Start
+    text = record { zeroed = false; parts = e.letters 0 scalar.Char (codes "ab") ∷ [] }
 
--- `int f(int x) { (&x)[x = 0] /= 0; return x; }`: what is written clashes before anything is divided
-abbrev pub WrittenBeforeDivided : Type 0
-WrittenBeforeDivided =
-    end_with (function (c.a_statement (c.Evaluates (c.Assign (Some op.Div) (c.Index (c.Unary unary.AddressOf x) (c.Assign None x zero_constant)) zero_constant)) returns_x) ∷ []) (pos 3) 100 ≡ Some (Undefined U.Unsequenced)
+    call : Value → Value
+    call v = e.Call int (codes "g") (a_value v no_values)
 
--- `int f(int x) { x = x++; return x; }`
-abbrev pub WrittenTwice : Type 0
-WrittenTwice = end_with (function (c.a_statement (c.Evaluates (c.Assign None x (c.PostInc x))) returns_x) ∷ []) (pos 3) 100 ≡ Some (Undefined U.Unsequenced)
+    sum : Value
+    sum = e.Arithmetic int op.Add scalar.Int (call value_of_x) (call (e.Constant int (pos 1)))
 
--- `int h(int x) { return x; } int f(int x) { x = h(x++); return x; }`
-abbrev pub WrittenBeforeACall : Type 0
-WrittenBeforeACall =
-    end_with (c.Defines int (declares (codes "h") takes_int) returns_x ∷ function (c.a_statement (c.Evaluates (c.Assign None x (c.Call (name (codes "h")) (just (c.PostInc x))))) returns_x) ∷ []) (pos 3) 100 ≡ Some Returned
-
--- `int f(int x) { int *p; { int y; y = x; p = &y; } return *p; }`
-abbrev pub EndedObject : Type 0
-EndedObject =
-    end_with (function (declares_here (codes "p") (pointer c.no_parts) (c.a_statement (c.Compound inner) (c.a_statement (c.Return (Some (c.Unary unary.Dereference (name (codes "p"))))) c.no_items))) ∷ []) (pos 3) 100 ≡ Some (Undefined U.Ended)
+-- `int f(int x) { while (x) x--; return x; }`
+abbrev pub counting : Function
+counting =
+    function (codes "f") (e.a_statement (e.While value_of_x (e.Evaluates decrement)) (returned value_of_x))
   where
-    inner : c.Items
-    inner =
-        declares_here (codes "y") c.no_parts (c.a_statement (c.Evaluates (c.Assign None (name (codes "y")) x)) (c.a_statement (c.Evaluates (c.Assign None (name (codes "p")) (c.Unary unary.AddressOf (name (codes "y"))))) c.no_items))
+    decrement : Value
+    decrement = e.Step int e.before op.Sub scalar.Int x
 
--- `int f(int x) { int a[2]; int *p; p = a + 2; return p == a + 2; }`, and with `a + 3`
-abbrev pub OnePastTheEnd : Type 0
-OnePastTheEnd = (end_with (moving two) (pos 3) 100 ≡ Some Returned) × (end_with (moving (number (codes "3"))) (pos 3) 100 ≡ Some (Undefined U.Move))
-  where
-    moving : c.Expression → c.Unit
-    moving count =
-        let there = c.Binary op.Add (name (codes "a")) count in
-        function (declares_here (codes "a") (c.Array (c.present two) c.no_parts) (declares_here (codes "p") (pointer c.no_parts) (c.a_statement (c.Evaluates (c.Assign None (name (codes "p")) there)) (c.a_statement (c.Return (Some (c.Binary op.Eq (name (codes "p")) there))) c.no_items)))) ∷ []
+abbrev pub SizesAreWorkedOut : Type 0
+SizesAreWorkedOut =
+    (size_of (empty ∷ []) empty ≡ record { nodes = 1; letters = 0; largest = 0; loops = 0; calls = [] })
+    × (size_of (empty ∷ calling ∷ []) calling
+    ≡ record { nodes = 10; letters = 2; largest = 6; loops = 0; calls = 0 ∷ 0 ∷ [] })
+    × (size_of (counting ∷ []) counting ≡ record { nodes = 10; letters = 0; largest = 2; loops = 1; calls = [] })
 
--- `int f(int x) { pc_label(1 / x > 0, 1, "A"); pc_label(x == 0, 2, "B"); return x; }` on 0: the first predicate isn't defined there.
-abbrev pub QuietPredicate : Type 0
-QuietPredicate = marks_with unit (pos 0) 100 ≡ Some ((1, false) ∷ (2, true) ∷ [])
-  where
-    unit : c.Unit
-    unit =
-        function (c.a_label (c.mark (c.Binary op.Gt (c.Binary op.Div one x) zero_constant) (codes "1") (codes "A") c.no_bindings) (c.a_label (c.mark (c.Binary op.Eq x zero_constant) (codes "2") (codes "B") c.no_bindings) returns_x)) ∷ []
+-- ---- a code
+
+abbrev pub program : Program
+program = record {
+  unit = [];
+  model = Lp64;
+  structs = [];
+  objects = record { node = 0; name = codes "x"; type = int; life = parameter; start = None } ∷ [];
+  declared = [];
+  functions = counting ∷ [];
+  file = no_names;
+  types = int ∷ [];
+  labels = [];
+  facts = [];
+}
+
+abbrev at_x : Variable
+at_x = variable.Parameter 0
+
+abbrev in_int : CellType
+in_int = cell.Num scalar.Int
+
+abbrev pub nodes : List Node
+nodes =
+    node.Tick 1
+    -- the test
+    ∷ node.Tick 2 ∷ node.Address 0 at_x 3 ∷ node.Load 0 0 in_int false 4 ∷ node.Branch 0 5 13
+    -- the body
+    ∷ node.Tick 6 ∷ node.Address 0 at_x 7 ∷ node.Load 1 0 in_int false 8
+    ∷ node.Constant 2 (content.Number (pos 1)) false 9 ∷ node.Convert 3 1 (how.ToInteger scalar.Int) 10
+    ∷ node.Apply 3 3 2 op.Sub scalar.Int 11 ∷ node.Convert 3 3 (how.ToInteger scalar.Int) 12
+    ∷ node.Store 0 3 1 in_int false 1
+    -- the value
+    ∷ node.Tick 14 ∷ node.Address 0 at_x 15 ∷ node.Load 0 0 in_int false 16 ∷ node.Convert 0 0 how.ToValue 17
+    -- the two ends
+    ∷ node.End at_x 18 ∷ node.Return (given.Held 0) ∷ node.End at_x 20 ∷ node.Return (given.Fixed content.Unset) ∷ []
+
+abbrev pub code : Code
+code = record {
+  name = codes "f";
+  params = parameters_of program (0 ∷ []);
+  locals = [];
+  structs = [];
+  registers = 4;
+  nodes = nodes;
+  start = 0;
+}
+
+-- the code of `empty`, which has no full expression
+abbrev pub short_nodes : List Node
+short_nodes = node.End at_x 1 ∷ node.Return (given.Fixed content.Unset) ∷ []
+
+abbrev pub short : Code
+short = record {
+  name = codes "g";
+  params = parameters_of program (0 ∷ []);
+  locals = [];
+  structs = [];
+  registers = 0;
+  nodes = short_nodes;
+  start = 0;
+}
+
+-- a code of a function is within its bounds, and its numbers are in range
+pub record IsWorkedOut (f : Function) (it : Code) : Type 0 where
+  pub stands : HasCode program [] f it
+  pub bounded : IsBounded (size_of program.functions f) it
+  pub in_range : is_code (counts_in 1 0 0 it) it ≡ true
+
+abbrev pub CodesAreWorkedOut : Type 0
+CodesAreWorkedOut = IsWorkedOut counting code × IsWorkedOut empty short

@@ -1,6 +1,7 @@
 //! Laws of the definitions; the functions do nothing.
 
-ghost use Rattle.lt_code.specs.Laws.{GraphsRunAsTheirPrograms, GraphsRunInNoOtherWay, PredicatesAgree, RunsAreWorkedOut};
+ghost use Rattle.lt_code.specs.Laws.{GraphsRunAsTheirPrograms, GraphsRunInNoOtherWay, PredicatesAgree};
+ghost use Rattle.lt_code.specs.Samples.{CodesAreWorkedOut, SizesAreWorkedOut};
 
 /// A graph that has the code of a typed program runs as the program does, from each of its functions, on each input and with
 /// each number of ticks.
@@ -18,7 +19,12 @@ pub fn predicates_agree()
     ensures { PredicatesAgree }
 {}
 
-/// A few runs, worked out from the definitions.
-pub fn runs_are_worked_out()
-    ensures { RunsAreWorkedOut }
+/// The sizes of some functions are worked out.
+pub fn sizes_are_worked_out()
+    ensures { SizesAreWorkedOut }
+{}
+
+/// The codes of two functions stand in the nodes that are given for them, within their bounds and with their numbers in range.
+pub fn codes_are_worked_out()
+    ensures { CodesAreWorkedOut }
 {}

@@ -1,1 +1,3 @@
 pub mod OneWay
+mod Membership
+mod Prepared

@@ -4,7 +4,8 @@ use Rattle.std.specs.Prelude.{slice_get}
 use Rattle.lt_model.specs.declared.input.Input.{Input}
 use Rattle.lt_ir.specs.Running.{Over}
 use Rattle.lt_ir.specs.Graph as g
-use Rattle.lt_ir.specs.Graph.{Graph, Goes, Stops, step, steps, next_of, launch, Runs}
+use Rattle.lt_ir.specs.declared.graph.Graph.{Graph}
+use Rattle.lt_ir.specs.Graph.{Goes, Stops, step, steps, next_of, launch, Runs}
 
 one_way : (graph : Graph) (m n : ℕ) (s : g.Next) (o p : Over) → next_of s (steps graph m) ≡ Some o → next_of s (steps graph n) ≡ Some p → o ≡ p
 one_way graph m n (Stops end at) o p h i = cc

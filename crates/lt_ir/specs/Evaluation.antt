@@ -1,6 +1,8 @@
--- Values and footprints, C11 5.1.2.3 and 6.5: what the evaluation of an expression may meet. A number and an address are a content; a struct is
--- said by the address where it lies, and its cells are read where they are copied; where there is no value, the content is unset.
-use Rattle.std.specs.Prelude.{ℕ, suc, ℤ, pos, negsuc, ◌+◌, ◌*ℤ◌, List, [], ◌∷◌, ◌++◌, Bool, true, false, not, Option, Some, None, Ok, Err, if◌then◌else◌}
+-- Values and footprints, C11 5.1.2.3 and 6.5: what the evaluation of an expression may meet. A number and an address
+-- are a content; a struct is said by the address where it lies, and its cells are read where they are copied; where
+-- there is no value, the content is unset.
+use Rattle.std.specs.Prelude.{ℕ, suc, ℤ, pos, negsuc, ◌+◌, ◌*ℤ◌, List, [], ◌∷◌, ◌++◌, Bool, true, false, not, Option}
+use Rattle.std.specs.Prelude.{Some, None, Result, Ok, Err, if◌then◌else◌}
 use Rattle.std.specs.Ordering.{int_eq}
 use Rattle.lt_model.specs.declared.cell.Address.{Address}
 use Rattle.lt_model.specs.declared.cell.CellType.{CellType}
@@ -12,11 +14,14 @@ use Rattle.lt_model.specs.declared.scalar.DataModel.{DataModel}
 use Rattle.lt_model.specs.declared.scalar.Scalar.{Scalar}
 use Rattle.lt_model.specs.declared.operator.Op.{Op}
 use Rattle.lt_model.specs.declared.operator.Op.TheVariants as O
+use Rattle.lt_model.specs.declared.operator.Ub.{Ub}
 use Rattle.lt_model.specs.declared.operator.Ub.TheVariants as U
 use Rattle.lt_model.specs.Operators.{truth, value_of}
-use Rattle.lt_model.specs.Memory.{Memory, object_at, held_at, offset_of, load, store, copy_struct, checked_address, then_result, move_by, compare, subtract, not_null}
-use Rattle.lt_model.specs.State.{CellName, Footprint, Valued, clash, joined, meets, untouched}
-use Rattle.lt_ir.specs.Running.{parameter, place, Step, gives, defined, absurdity, asked, changed, ◌>>=◌, ◌>>◌}
+use Rattle.lt_model.specs.Memory.{Memory, object_at, held_at, offset_of, load, store, copy_struct, checked_address}
+use Rattle.lt_model.specs.Memory.{then_result, move_by, compare, subtract, not_null}
+use Rattle.lt_model.specs.State.{CellName, Footprint, Valued, clash, joined, settle, meets, untouched}
+use Rattle.lt_ir.specs.declared.variable.Variable.TheVariants.{Parameter}
+use Rattle.lt_ir.specs.Running.{place, Step, gives, defined, absurdity, asked, changed, ◌>>=◌, ◌>>◌}
 
 abbrev pub valued : {A : Type 0} → A → Footprint → Valued A
 valued a footprint = record { value = a; footprint = footprint }
@@ -52,18 +57,24 @@ of_truth b = content.Number (truth b)
 
 -- ---- footprints
 
+-- Whether an evaluation tracks what it reads and writes. Where nothing can clash it needn't: then footprints stay as
+-- they are.
+abbrev pub grown : (tracks : Bool) → Footprint → Footprint → Footprint
+grown true p q = joined p q
+grown false p q = p
+
+abbrev pub settled_in : (tracks : Bool) → Footprint → Footprint
+settled_in true p = settle p
+settled_in false p = p
+
 -- two unsequenced parts
-abbrev pub apart : Footprint → Footprint → Step Footprint
-apart p q = if clash p q then defined (Err U.Unsequenced) else gives (joined p q)
+abbrev pub apart : (tracks : Bool) → Footprint → Footprint → Step Footprint
+apart true p q = if clash p q then defined (Err U.Unsequenced) else gives (joined p q)
+apart false p q = gives p
 
 abbrev pub cell_at : Option Address → ℕ → List CellName
 cell_at None offset = []
 cell_at (Some a) offset = record { block = a.block; offset = a.offset + offset } ∷ []
-
--- the cells of an object that lies there
-abbrev pub cells_there : List ShapeCell → Option Address → List CellName
-cells_there [] place = []
-cells_there (c ∷ cs) place = cell_at place c.offset ++ cells_there cs place
 
 abbrev pub reads : List CellName → Footprint
 reads cells = record { reads = cells; settled = []; pending = [] }
@@ -73,39 +84,68 @@ writes cells = record { reads = []; settled = []; pending = cells }
 
 -- whether an access of this type meets a cell there
 abbrev pub is_met : Memory → Option Address → CellType → Bool
-is_met memory place ty = elim (then_result (object_at memory place) (λ block. held_at block.cells (offset_of place) ty)) [ Ok held ↦ true | Err kind ↦ false ]
+is_met memory place ty =
+    elim (then_result (object_at memory place) (λ block. held_at block.cells (offset_of place) ty)) [
+      | Ok held ↦ true
+      | Err kind ↦ false
+    ]
 
--- the cell that a store would write, if there is one
-abbrev pub target : CellType → Option Address → Memory → List CellName
-target ty place memory = if is_met memory place ty then cell_at place 0 else []
+-- an address so many bytes further on
+abbrev pub further : ℕ → Option Address → Option Address
+further offset None = None
+further offset (Some a) = Some (record { block = a.block; offset = a.offset + offset })
 
--- The target of an assignment, `++` or `--` clashes with the pending writes of its operands.
-abbrev pub free_target : List CellName → Footprint → Step (Unit {0})
-free_target cells operands = if meets cells operands.pending then defined (Err U.Unsequenced) else gives tt
+-- the cells of an access that lies there, of those that it meets
+abbrev pub cells_met : List ShapeCell → Option Address → Memory → List CellName
+cells_met [] place memory = []
+cells_met (c ∷ cs) place memory =
+    if is_met memory (further c.offset place) c.ty then cell_at place c.offset ++ cells_met cs place memory
+    else cells_met cs place memory
 
--- The footprint of the operands, where the cell that is to be written is no pending write of theirs. A place that meets no cell clashes with nothing.
-abbrev pub aimed : CellType → Option Address → Footprint → Step Footprint
-aimed ty place operands at = (free_target (target ty place at.memory) operands >> gives operands) at
+-- a scalar as what an access is to
+abbrev pub one_cell : CellType → List ShapeCell
+one_cell ty = record { offset = 0; ty = ty } ∷ []
+
+-- The target of an assignment, `++` or `--` clashes with the pending writes of its operands; what meets no cell clashes
+-- with nothing.
+abbrev pub aimed : (tracks : Bool) → List ShapeCell → Option Address → Footprint → Step Footprint
+aimed true cells place operands at =
+    (if meets (cells_met cells place at.memory) operands.pending then defined (Err U.Unsequenced)
+    else gives operands) at
+aimed false cells place operands at = gives operands at
+
+-- where a struct lies that is a value
+abbrev pub lies_at : Content → Option Address
+lies_at (content.Address a) = a
+lies_at c = None
+
+-- the cells of an object are read whose address is the value
+abbrev pub with_reads : (tracks : Bool) → List ShapeCell → Valued Content → Step Footprint
+with_reads tracks cells x at = gives (grown tracks x.footprint (reads (cells_met cells (lies_at x.value) at.memory))) at
 
 -- ---- what is done to memory, with the footprint of it
 
 -- a scalar is read; the footprint before is that of its place
-abbrev pub loaded : DataModel → CellType → Valued (Option Address) → Step (Valued Content)
-loaded model ty p = asked (λ memory. load model memory p.value ty) >>= (λ c. gives (valued c (joined p.footprint (reads (cell_at p.value 0)))))
+abbrev pub loaded : (tracks : Bool) → DataModel → CellType → Valued (Option Address) → Step (Valued Content)
+loaded tracks model ty p =
+    asked (λ memory. load model memory p.value ty)
+    >>= (λ c. gives (valued c (grown tracks p.footprint (reads (cell_at p.value 0)))))
 
--- a scalar is stored; the footprint before is that of the operands
-abbrev pub stored : DataModel → CellType → Option Address → Content → Footprint → Step Footprint
-stored model ty place c operands at = (changed (λ memory. store model memory place ty c) >> gives (joined operands (writes (target ty place at.memory)))) at
+-- memory is changed where an access lies that is to these cells; the footprint before is that of the operands
+abbrev pub written : (tracks : Bool) → (Memory → Result Memory Ub) → List ShapeCell → Option Address →
+    Footprint → Step Footprint
+written tracks change cells place operands at =
+    (changed change >> gives (grown tracks operands (writes (cells_met cells place at.memory)))) at
 
--- a struct is copied: the clash of its target comes first
-abbrev pub copied : DataModel → Shape → Option Address → Option Address → Footprint → Step Footprint
-copied model shape place from operands =
-    free_target (cells_there shape.cells place) operands
-    >> (changed (λ memory. copy_struct model memory place from shape) >> gives (joined operands (writes (cells_there shape.cells place))))
+-- a scalar is stored
+abbrev pub stored : (tracks : Bool) → DataModel → CellType → Option Address → Content → Footprint → Step Footprint
+stored tracks model ty place c operands at =
+    written tracks (λ memory. store model memory place ty c) (one_cell ty) place operands at
 
--- the cells of a struct are read that lies there
-abbrev pub with_reads : Shape → Valued Content → Step Footprint
-with_reads shape x = address_in x.value >>= (λ from. gives (joined x.footprint (reads (cells_there shape.cells from))))
+-- a struct is copied
+abbrev pub copied : (tracks : Bool) → DataModel → Shape → Option Address → Option Address → Footprint → Step Footprint
+copied tracks model shape place from operands at =
+    written tracks (λ memory. copy_struct model memory place from shape) shape.cells place operands at
 
 -- ---- operators
 
@@ -149,11 +189,12 @@ abbrev pub store_one : DataModel → ℕ → List ShapeCell → Content → Step
 store_one model k [] c = absurdity
 store_one model k (cell ∷ cells) c = do
   it ← used c
-  p ← place (parameter k)
-  stored model cell.ty p it untouched
+  p ← place (Parameter k)
+  stored false model cell.ty p it untouched
   gives tt
 
 -- the values of arguments go to the parameters, from one on
 abbrev pub store_parameters : DataModel → ℕ → List Shape → List Content → Step (Unit {0})
-store_parameters model k (shape ∷ shapes) (c ∷ cs) = store_one model k shape.cells c >> store_parameters model (suc k) shapes cs
+store_parameters model k (shape ∷ shapes) (c ∷ cs) =
+    store_one model k shape.cells c >> store_parameters model (suc k) shapes cs
 store_parameters model k shapes cs = gives tt

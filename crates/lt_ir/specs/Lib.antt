@@ -1,5 +1,11 @@
 pub mod Running
 pub mod Evaluation
 pub mod Starting
+pub mod Pure
+pub mod PureView
+pub mod Ranges
 pub mod Graph
+pub mod Outcomes
+pub mod Membership
+pub mod Prepared
 pub mod Laws

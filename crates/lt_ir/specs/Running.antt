@@ -1,24 +1,23 @@
--- The state of a run, C11 5.1.2.3, and what an evaluation gives: a value and the state that follows, or the end of the run.
-use Rattle.std.specs.Prelude.{ℕ, zero, suc, ℤ, ◌+◌, ◌∷◌, [], ◌++◌, List, length, Bool, true, false, nat_eq, nat_lt, nat_le, Option, Some, None, Result, Ok, Err, if◌then◌else◌, slice_get}
+-- The state of a run, C11 5.1.2.3, and what an evaluation gives: a value and the state that follows, or the end of the
+-- run.
+use Rattle.std.specs.Prelude.{ℕ, zero, suc, ℤ, ◌+◌, ◌∷◌, [], ◌++◌, List, length, Bool, true, false, nat_eq, nat_lt}
+use Rattle.std.specs.Prelude.{nat_le, Option, Some, None, Result, Ok, Err, if◌then◌else◌, slice_get}
 use Rattle.std.specs.Str.{bytes_eq}
 use Rattle.lt_model.specs.declared.cell.Address.{Address}
 use Rattle.lt_model.specs.declared.cell.Content.{Content}
 use Rattle.lt_model.specs.declared.cell.Content.TheVariants as content
 use Rattle.lt_model.specs.declared.cell.Shape.{Shape}
+use Rattle.lt_model.specs.declared.cell.ShapeCell.{ShapeCell}
 use Rattle.lt_model.specs.declared.cell.StoredCell.{StoredCell}
 use Rattle.lt_model.specs.declared.operator.Ub.{Ub}
 use Rattle.lt_model.specs.declared.run.End.{End}
 use Rattle.lt_model.specs.declared.run.End.TheVariants.{Stopped, Undefined, NoInput, Steps, Deep, Cells}
+use Rattle.lt_ir.specs.declared.variable.Variable.{Variable}
+use Rattle.lt_ir.specs.declared.variable.Variable.TheVariants.{Parameter, Local, Static as StaticObject}
+use Rattle.lt_ir.specs.declared.code.Static.{Static}
 use Rattle.lt_model.specs.State.{Binding, Made, Left, Gives, Ends}
 use Rattle.lt_model.specs.State as state
 use Rattle.lt_model.specs.Memory.{Memory, Block, create_shaped, end_block, seal_block, cells_alive, most_cells}
-
--- An object as the code of a function names it: a parameter by its place, a local object by its number, one that is there from the start by
--- its place among those.
-pub data Variable : Type 0 where
-  parameter : (place : ℕ) → Variable
-  local : (number : ℕ) → Variable
-  static : (place : ℕ) → Variable
 
 -- a variable that is in scope, and its block
 abbrev pub Bound : Type 0
@@ -65,7 +64,11 @@ asked question at = defined (question at.memory) at
 
 -- memory is changed
 abbrev pub changed : (Memory → Result Memory Ub) → Step (Unit {0})
-changed change at = elim (change at.memory) [ Ok memory ↦ Gives tt (record at { memory = memory }) | Err kind ↦ Ends (Undefined kind) at ]
+changed change at =
+    elim (change at.memory) [
+      | Ok memory ↦ Gives tt (record at { memory = memory })
+      | Err kind ↦ Ends (Undefined kind) at
+    ]
 
 -- ---- ticks, calls and marks
 
@@ -102,9 +105,9 @@ marked_with id b bound at = marks id false [] at
 -- ---- variables, C11 6.2.4
 
 abbrev pub same_variable : Variable → Variable → Bool
-same_variable (parameter m) (parameter n) = nat_eq m n
-same_variable (local m) (local n) = nat_eq m n
-same_variable (static m) (static n) = nat_eq m n
+same_variable (Parameter m) (Parameter n) = nat_eq m n
+same_variable (Local m) (Local n) = nat_eq m n
+same_variable (StaticObject m) (StaticObject n) = nat_eq m n
 same_variable v w = false
 
 abbrev pub block_among : List Bound → Variable → Option ℕ
@@ -136,7 +139,11 @@ place v = with_block v (λ block. gives (Some (record { block = block; offset = 
 
 -- one more object, unless too many cells would be alive; its block
 abbrev pub created : Shape → (is_zeroed : Bool) → Step ℕ
-created shape is_zeroed at = elim (create_shaped at.memory shape is_zeroed true) [ None ↦ Ends Cells at | Some memory ↦ Gives (length at.memory) (record at { memory = memory }) ]
+created shape is_zeroed at =
+    elim (create_shaped at.memory shape is_zeroed true) [
+      | None ↦ Ends Cells at
+      | Some memory ↦ Gives (length at.memory) (record at { memory = memory })
+    ]
 
 abbrev pub bound_to : Variable → ℕ → Step (Unit {0})
 bound_to v block at = Gives tt (record at { scope = record { variable = v; block = block } ∷ at.scope })
@@ -150,7 +157,8 @@ begins v shape is_zeroed at = if is_begun v at then absurdity at else (created s
 
 -- its lifetime is over
 abbrev pub ends : Variable → Step (Unit {0})
-ends v = with_block v (λ block at. Gives tt (record at { scope = without at.scope v; memory = end_block at.memory block }))
+ends v =
+    with_block v (λ block at. Gives tt (record at { scope = without at.scope v; memory = end_block at.memory block }))
 
 -- it can't be written from now on
 abbrev pub seals : Variable → Step (Unit {0})
@@ -169,7 +177,8 @@ first_value name (z ∷ zs) lefts = Some (z, record { stub = name; values = zs }
 -- the next value for a function, and what is left then
 abbrev pub next_value : List ℕ → List Left → Option (ℤ × List Left)
 next_value name [] = None
-next_value name (left ∷ lefts) = if bytes_eq left.stub name then first_value name left.values lefts else put_before left (next_value name lefts)
+next_value name (left ∷ lefts) =
+    if bytes_eq left.stub name then first_value name left.values lefts else put_before left (next_value name lefts)
 
 abbrev pub took : List ℕ → At → Option (ℤ × List Left) → Answer Content
 took name at None = Ends (NoInput name) at
@@ -181,7 +190,7 @@ stub_value name at = took name at (next_value name at.stubs)
 -- ---- parameters, C11 6.9.1
 
 abbrev pub is_static : Variable → Bool
-is_static (static n) = true
+is_static (StaticObject n) = true
 is_static v = false
 
 -- in a body only objects that are there from the start are in scope, beside its own
@@ -194,34 +203,40 @@ with_scope scope at = Gives tt (record at { scope = scope })
 
 abbrev pub begin_parameters : ℕ → List Shape → Step (Unit {0})
 begin_parameters k [] = gives tt
-begin_parameters k (shape ∷ shapes) = begins (parameter k) shape false >> begin_parameters (suc k) shapes
+begin_parameters k (shape ∷ shapes) = begins (Parameter k) shape false >> begin_parameters (suc k) shapes
 
 -- the last first
 abbrev pub end_parameters : ℕ → List Shape → Step (Unit {0})
 end_parameters k [] = gives tt
-end_parameters k (shape ∷ shapes) = end_parameters (suc k) shapes >> ends (parameter k)
+end_parameters k (shape ∷ shapes) = end_parameters (suc k) shapes >> ends (Parameter k)
 
 -- ---- objects that are there from the start, C11 5.1.2 and 6.7.9
 
--- Such an object: its name, its cells and its size, what the cells hold, and whether it may be written.
-pub record Initial : Type 0 where
-  pub name : List ℕ
-  pub cells : List StoredCell
-  pub size : ℕ
-  pub is_writable : Bool
+-- the cells of an object, with what they hold
+abbrev pub holding : List ShapeCell → List Content → List StoredCell
+holding (cell ∷ cells) (c ∷ cs) = record { offset = cell.offset; ty = cell.ty; holds = c } ∷ holding cells cs
+holding cells cs = []
 
-abbrev pub block_of_initial : Initial → Block
-block_of_initial it = record { alive = true; writable = it.is_writable; size = it.size; cells = it.cells }
+abbrev pub block_of_static : Static → Block
+block_of_static it = record {
+  alive = true;
+  writable = it.writable;
+  size = it.block.shape.size;
+  cells = holding it.block.shape.cells it.cells;
+}
+
+abbrev pub with_new : Block → At → At
+with_new block at = record at { memory = at.memory ++ block ∷ [] }
 
 -- one more block, unless too many cells would be alive
 abbrev pub placed : Block → Step ℕ
 placed block at =
-    if nat_le (cells_alive at.memory + length block.cells) most_cells then Gives (length at.memory) (record at { memory = at.memory ++ block ∷ [] })
+    if nat_le (cells_alive at.memory + length block.cells) most_cells then Gives (length at.memory) (with_new block at)
     else Ends Cells at
 
-abbrev pub start_statics : ℕ → List Initial → Step (Unit {0})
+abbrev pub start_statics : ℕ → List Static → Step (Unit {0})
 start_statics k [] = gives tt
-start_statics k (it ∷ its) = placed (block_of_initial it) >>= bound_to (static k) >> start_statics (suc k) its
+start_statics k (it ∷ its) = placed (block_of_static it) >>= bound_to (StaticObject k) >> start_statics (suc k) its
 
 -- how a run is over: its end, and where it stood
 pub record Over : Type 0 where

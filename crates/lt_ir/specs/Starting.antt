@@ -1,6 +1,7 @@
--- How a run begins: the objects that are there from the start, the named objects of its input, the parameters of the entry, and what the input
--- sets in their cells.
-use Rattle.std.specs.Prelude.{ℕ, suc, ◌==◌, List, [], ◌∷◌, ◌++◌, true, Option, Some, None, if◌then◌else◌, slice_get, slice_set}
+-- How a run begins: the objects that are there from the start, the named objects of its input, the parameters of the
+-- entry, and what the input sets in their cells.
+use Rattle.std.specs.Prelude.{ℕ, suc, ◌==◌, List, [], ◌∷◌, ◌++◌, true, Option, Some, None, if◌then◌else◌, slice_get}
+use Rattle.std.specs.Prelude.{slice_set}
 use Rattle.std.specs.Str.{bytes_eq}
 use Rattle.lt_model.specs.declared.cell.Address.{Address}
 use Rattle.lt_model.specs.declared.cell.Content.{Content}
@@ -15,7 +16,9 @@ use Rattle.lt_model.specs.declared.input.BlockIn.{BlockIn}
 use Rattle.lt_model.specs.declared.input.Input.{Input}
 use Rattle.lt_model.specs.Memory.{Memory, Block, new_block}
 use Rattle.lt_model.specs.State.{Left, Gives}
-use Rattle.lt_ir.specs.Running.{parameter, Bound, At, Step, gives, ◌>>=◌, ◌>>◌, Initial, start_statics, placed, begins, block_among}
+use Rattle.lt_ir.specs.declared.variable.Variable.TheVariants.{Parameter}
+use Rattle.lt_ir.specs.declared.code.Static.{Static}
+use Rattle.lt_ir.specs.Running.{Bound, At, Step, gives, ◌>>=◌, ◌>>◌, start_statics, placed, begins, block_among}
 
 -- a name of the input's files, and the block that it names
 pub record Root : Type 0 where
@@ -28,7 +31,8 @@ root_among (root ∷ roots) name = if bytes_eq root.name name then Some root.blo
 
 -- the address that a place of the input's files names
 abbrev pub address_named : List Root → Place → Option Address
-address_named roots p = elim (root_among roots p.root) [ None ↦ None | Some block ↦ Some (record { block = block; offset = p.offset }) ]
+address_named roots p =
+    elim (root_among roots p.root) [ None ↦ None | Some block ↦ Some (record { block = block; offset = p.offset }) ]
 
 abbrev pub point_named : List Root → Option Place → Option Address
 point_named roots None = None
@@ -38,7 +42,8 @@ point_named roots (Some p) = address_named roots p
 
 abbrev pub set_in : ℕ → Content → List StoredCell → List StoredCell
 set_in offset c [] = []
-set_in offset c (it ∷ cells) = if it.offset == offset then record it { holds = c } ∷ cells else it ∷ set_in offset c cells
+set_in offset c (it ∷ cells) =
+    if it.offset == offset then record it { holds = c } ∷ cells else it ∷ set_in offset c cells
 
 abbrev pub set_block : Memory → ℕ → ℕ → Content → Option Block → Memory
 set_block memory block offset c None = memory
@@ -51,7 +56,8 @@ set_at (Some a) c memory = set_block memory a.block a.offset c (slice_get memory
 
 abbrev pub set_one : List Root → CellSet → Memory → Memory
 set_one roots (cellset.Number p z) memory = set_at (address_named roots p) (content.Number z) memory
-set_one roots (cellset.Point p target) memory = set_at (address_named roots p) (content.Address (point_named roots target)) memory
+set_one roots (cellset.Point p target) memory =
+    set_at (address_named roots p) (content.Address (point_named roots target)) memory
 
 abbrev pub set_all : List Root → List CellSet → Memory → Memory
 set_all roots [] memory = memory
@@ -73,7 +79,7 @@ start_blocks (it ∷ its) = do
 -- the entry's parameters, which are zeroed
 abbrev pub start_parameters : ℕ → List Shape → Step (Unit {0})
 start_parameters k [] = gives tt
-start_parameters k (shape ∷ shapes) = begins (parameter k) shape true >> start_parameters (suc k) shapes
+start_parameters k (shape ∷ shapes) = begins (Parameter k) shape true >> start_parameters (suc k) shapes
 
 abbrev pub named : List ℕ → Option ℕ → List Root → List Root
 named name None roots = roots
@@ -82,11 +88,12 @@ named name (Some block) roots = record { name = name; block = block } ∷ roots
 -- the names of the parameters, of the named objects, and of the objects that are there from the start, in this order
 abbrev pub parameter_roots : List Bound → ℕ → List (List ℕ) → List Root → List Root
 parameter_roots scope k [] roots = roots
-parameter_roots scope k (name ∷ names) roots = named name (block_among scope (parameter k)) (parameter_roots scope (suc k) names roots)
+parameter_roots scope k (name ∷ names) roots =
+    named name (block_among scope (Parameter k)) (parameter_roots scope (suc k) names roots)
 
-abbrev pub static_roots : ℕ → List Initial → List Root
+abbrev pub static_roots : ℕ → List Static → List Root
 static_roots k [] = []
-static_roots k (it ∷ its) = record { name = it.name; block = k } ∷ static_roots (suc k) its
+static_roots k (it ∷ its) = record { name = it.block.name; block = k } ∷ static_roots (suc k) its
 
 abbrev pub lefts_of : List StubSet → List Left
 lefts_of [] = []
@@ -94,10 +101,11 @@ lefts_of (it ∷ its) = record { stub = it.name; values = it.values } ∷ lefts_
 
 -- where a run stands before anything is there
 abbrev pub nowhere : Input → ℕ → At
-nowhere input ticks = record { scope = []; memory = []; ticks = ticks; depth = 1; stubs = lefts_of input.stubs; marks = [] }
+nowhere input ticks =
+    record { scope = []; memory = []; ticks = ticks; depth = 1; stubs = lefts_of input.stubs; marks = [] }
 
 -- all that is there when the entry's body begins
-abbrev pub started : List Initial → List (List ℕ) → List Shape → Input → Step (Unit {0})
+abbrev pub started : List Static → List (List ℕ) → List Shape → Input → Step (Unit {0})
 started statics names shapes input = do
   start_statics 0 statics
   roots ← start_blocks input.blocks

@@ -1,5 +1,6 @@
 -- What statements do, C11 6.8: each but a block and a mark spends a tick at its start, and a loop one at each test.
-use Rattle.std.specs.Prelude.{ℕ, zero, suc, ℤ, pos, ◌+◌, List, [], ◌∷◌, Bool, true, false, ◌||◌, Option, Some, None, if◌then◌else◌, slice_get}
+use Rattle.std.specs.Prelude.{ℕ, zero, suc, ℤ, pos, ◌+◌, List, [], ◌∷◌, Bool, true, false, ◌||◌, Option, Some, None}
+use Rattle.std.specs.Prelude.{if◌then◌else◌, slice_get}
 use Rattle.std.specs.Ordering.{int_eq}
 use Rattle.std.specs.List.{list_any}
 use Rattle.lt_model.specs.declared.cell.Content.{Content}
@@ -12,16 +13,18 @@ use Rattle.lt_tree.specs.Typing.TypedTree as e
 use Rattle.lt_tree.specs.Typing.TypedTree.{Value, Statement, Items, Cases, Label, Local, Start, StartPart, type_of}
 use Rattle.lt_tree.specs.Typing.Entities.{is_sealed}
 use Rattle.lt_tree.specs.Typing.Programs.{Program}
-use Rattle.lt_ir.specs.Running.{Variable, Step, gives, over, absurdity, ◌>>=◌, ◌>>◌, tick, place, begins, ends, seals}
-use Rattle.lt_ir.specs.Evaluation.{number_in, truth_in, stored, member_at}
-use Rattle.lt_code.specs.Meaning.Expressions.{Around, shape, cell_type, taken, assigned, eval, marked}
+use Rattle.lt_ir.specs.declared.variable.Variable.{Variable}
+use Rattle.lt_ir.specs.Running.{Step, gives, over, absurdity, ◌>>=◌, ◌>>◌, tick, place, begins, ends, seals}
+use Rattle.lt_ir.specs.Evaluation.{number_in, truth_in, used, stored, member_at}
+use Rattle.lt_meaning.specs.Expressions.{tracking, Around, wanted, dropped, untaken, shape, cell_type, assigned, eval}
+use Rattle.lt_meaning.specs.Expressions.{marked}
 
--- how a statement is done; what a function returns is unset where it returns no value
+-- how a statement is done
 pub data Flow : Type 0 where
   Next : Flow
   Breaks : Flow
   Continues : Flow
-  Returns : Content → Flow
+  Returns : (value : Option Content) → Flow
 
 -- goes on behind a statement that is done normally
 abbrev pub after : Flow → Step Flow → Step Flow
@@ -52,22 +55,22 @@ abbrev pub put_at : Program → Variable → ℕ → CType → Content → Step 
 put_at program v offset t c = do
   a ← place v
   p ← member_at offset a
-  stored program.model (cell_type program t) p c untouched
+  stored false program.model (cell_type program t) p c untouched
   gives tt
 
 -- bytes go to the characters from this offset on
 abbrev pub spelled : Program → Variable → Scalar → ℕ → List ℕ → Step (Unit {0})
 spelled program v s offset [] = gives tt
-spelled program v s offset (b ∷ bytes) = put_at program v offset (Num s) (content.Number (pos b)) >> spelled program v s (offset + 1) bytes
+spelled program v s offset (b ∷ bytes) =
+    put_at program v offset (Num s) (content.Number (pos b)) >> spelled program v s (offset + 1) bytes
 
--- a full expression's value goes to its part of the variable
+-- A full expression's value goes to its part of the variable: behind the expression's end nothing clashes.
 abbrev pub filled : Around → Variable → StartPart → Step (Unit {0})
 filled here v (e.stored offset value) = do
   a ← place v
   p ← member_at offset a
-  x ← eval here true value
-  footprint ← taken here.program (type_of value) x
-  assigned here.program (type_of value) p x.value footprint (is_struct (type_of value))
+  x ← eval here wanted value
+  assigned (tracking false here) (type_of value) p x.value untouched (is_struct (type_of value))
   gives tt
 filled here v (e.fixed offset t c) = absurdity
 filled here v (e.letters offset s bytes) = spelled here.program v s offset bytes
@@ -91,8 +94,10 @@ sealed_if true v = seals v
 -- a variable's lifetime begins, and it gets its first value
 abbrev pub opened : Around → Local → Step (Unit {0})
 opened here local =
-    begins (here.variable local.object) (shape here.program (type_of_object here.program local.object)) (is_zeroed local.start)
-    >> (filled_all here (here.variable local.object) (parts_in local.start) >> sealed_if (is_sealed_object here.program local.object) (here.variable local.object))
+    begins (here.variable local.object) (shape here.program (type_of_object here.program local.object))
+    (is_zeroed local.start)
+    >> (filled_all here (here.variable local.object) (parts_in local.start)
+    >> sealed_if (is_sealed_object here.program local.object) (here.variable local.object))
 
 -- what follows a declaration, at whose end the variable ends however it is left
 abbrev pub within : Around → Local → Step Flow → Step Flow
@@ -110,7 +115,7 @@ within_all here (local ∷ locals) rest = within here local (within_all here loc
 -- ---- tests
 
 abbrev pub tested : Around → Value → Step Bool
-tested here v = eval here true v >>= (λ x. truth_in x.value)
+tested here v = eval here wanted v >>= (λ x. truth_in x.value)
 
 -- a missing test holds
 abbrev pub tested_if : Around → Option Value → Step Bool
@@ -120,7 +125,7 @@ tested_if here (Some v) = tested here v
 -- a value that isn't used; a call in the head of a `for` takes one all the same
 abbrev pub stepped : Around → Option Value → Step (Unit {0})
 stepped here None = gives tt
-stepped here (Some v) = eval here true v >> gives tt
+stepped here (Some v) = eval here dropped v >> gives tt
 
 -- ---- loops, with at most so many tests
 
@@ -172,7 +177,7 @@ entry_label z cases = if has_label (is_case z) cases then is_case z else is_defa
 abbrev mutual
   pub exec : Around → Statement → Step Flow
   exec here (e.Compound items) = exec_items here items
-  exec here (e.Evaluates v) = tick >> (eval here false v >> gives Next)
+  exec here (e.Evaluates v) = tick >> (eval here untaken v >> gives Next)
   exec here e.Null = tick >> gives Next
   exec here (e.If test body) = do
     tick
@@ -185,17 +190,19 @@ abbrev mutual
   exec here (e.While test body) = tick >> looped here (Some test) None (exec here body)
   exec here (e.Do body test) = tick >> do_looped here test (exec here body)
   exec here (e.For e.Nothing test step body) = tick >> looped here test step (exec here body)
-  exec here (e.For (e.First v) test step body) = tick >> (eval here true v >> looped here test step (exec here body))
-  exec here (e.For (e.Locals locals) test step body) = tick >> within_all here locals (looped here test step (exec here body))
+  exec here (e.For (e.First v) test step body) = tick >> (eval here dropped v >> looped here test step (exec here body))
+  exec here (e.For (e.Locals locals) test step body) =
+      tick >> within_all here locals (looped here test step (exec here body))
   exec here (e.Switch operand cases) = do
     tick
-    z ← eval here true operand >>= (λ x. number_in x.value)
+    z ← eval here wanted operand >>= (λ x. number_in x.value)
     flow ← exec_cases here (entry_label z cases) false cases
     gives (left_switch flow)
   exec here e.Break = tick >> gives Breaks
   exec here e.Continue = tick >> gives Continues
-  exec here (e.Return None) = tick >> gives (Returns content.Unset)
-  exec here (e.Return (Some v)) = tick >> (eval here true v >>= (λ x. gives (Returns x.value)))
+  exec here (e.Return None) = tick >> gives (Returns None)
+  exec here (e.Return (Some v)) =
+      tick >> (eval here wanted v >>= (λ x. used x.value) >>= (λ c. gives (Returns (Some c))))
 
   -- the items of a block
   pub exec_items : Around → Items → Step Flow
@@ -208,4 +215,5 @@ abbrev mutual
   pub exec_cases : Around → (Label → Bool) → (runs : Bool) → Cases → Step Flow
   exec_cases here entry runs e.no_cases = gives Next
   exec_cases here entry runs (e.a_case labels first rest) =
-      if runs || list_any entry labels then exec here first >>= (λ flow. after flow (exec_cases here entry true rest)) else exec_cases here entry false rest
+      if runs || list_any entry labels then exec here first >>= (λ flow. after flow (exec_cases here entry true rest))
+      else exec_cases here entry false rest

@@ -1,0 +1,84 @@
+-- How large lowered code is, which program points its edges lead to, and which of its nodes are calls: what a lowering
+-- is to keep, beside that its graph has the program's code.
+use Rattle.std.specs.Prelude.{◌≡◌, ℕ, ◌+◌, ◌*◌, ◌≤◌, ◌<◌, List, [], ◌∷◌, ◌++◌, map, length, Option, Some, None}
+use Rattle.std.specs.Prelude.{slice_get}
+use Rattle.lt_tree.specs.Typing.Entities.{Function}
+use Rattle.lt_tree.specs.Typing.Programs.{Program}
+use Rattle.lt_ir.specs.declared.code.Code.{Code}
+use Rattle.lt_ir.specs.declared.graph.Graph.{Graph}
+use Rattle.lt_ir.specs.declared.node.Node.{Node}
+use Rattle.lt_ir.specs.declared.node.Node.TheVariants as node
+use Rattle.lt_code.specs.Sizes.{Size, size_of}
+
+-- the nodes that may follow a node: a branch's true side first; the cases of a switch in their order, then its default
+abbrev pub successors : Node → List ℕ
+successors (node.Constant to c is_kept next) = next ∷ []
+successors (node.Address to v next) = next ∷ []
+successors (node.Load to from ty tracks next) = next ∷ []
+successors (node.Store place value gives ty tracks next) = next ∷ []
+successors (node.Move to pointer by next) = next ∷ []
+successors (node.Subtract to left right size next) = next ∷ []
+successors (node.Apply to left right op ty next) = next ∷ []
+successors (node.Convert to from how next) = next ∷ []
+successors (node.Compare to left right op next) = next ∷ []
+successors (node.Copy place from shape tracks next) = next ∷ []
+successors (node.Create k is_zeroed next) = next ∷ []
+successors (node.Seal v next) = next ∷ []
+successors (node.End v next) = next ∷ []
+successors (node.Branch test on off) = on ∷ off ∷ []
+successors (node.Switch value arms default) = map (λ arm. arm.next) arms ++ default ∷ []
+successors (node.Call function to first count next) = next ∷ []
+successors (node.Stub name to next) = next ∷ []
+successors node.Stop = []
+successors (node.Return value) = []
+successors (node.Tick next) = next ∷ []
+successors (node.Mark label predicate bound next) = next ∷ []
+successors (node.Clash parts next) = next ∷ []
+
+-- the function that a node calls
+abbrev pub callee : Node → Option ℕ
+callee (node.Call function to first count next) = Some function
+callee n = None
+
+-- an edge of a code
+pub record HasEdge (code : Code) (from to : ℕ) : Type 0 where
+  pub node : Node
+  pub stands : slice_get code.nodes from ≡ Some node
+  pub which : ℕ
+  pub leads : slice_get (successors node) which ≡ Some to
+
+-- a call of a function in a code
+pub record HasCall (code : Code) (at function : ℕ) : Type 0 where
+  pub node : Node
+  pub stands : slice_get code.nodes at ≡ Some node
+  pub calls : callee node ≡ Some function
+
+-- the calls in a code are among others, each used once
+pub record AreCallsAmong (code : Code) (calls : List ℕ) : Type 0 where
+  pub place : ℕ → ℕ
+  pub there : (i f : ℕ) → HasCall code i f → slice_get calls (place i) ≡ Some f
+  pub once : (i j f g : ℕ) → HasCall code i f → HasCall code j g → place i ≡ place j → i ≡ j
+
+abbrev pub IsAmong : ℕ → List ℕ → Type 0
+IsAmong n ns = (k : ℕ) × (slice_get ns k ≡ Some n)
+
+-- the points that edges from no lesser point lead to are so many at most
+pub record HasLoopHeads (code : Code) (most : ℕ) : Type 0 where
+  pub heads : List ℕ
+  pub few : length heads ≤ most
+  pub each : (from to : ℕ) → HasEdge code from to → to ≤ from → IsAmong to heads
+
+pub record IsBounded (size : Size) (code : Code) : Type 0 where
+  pub nodes : length code.nodes ≤ 8 * size.nodes + 8 + 8 * size.letters
+  pub registers : code.registers ≤ 4 * size.largest
+  pub calls : AreCallsAmong code size.calls
+  -- the start has the least number, and no edge leads to it
+  pub start : code.start ≡ 0
+  pub entered_once : (from to : ℕ) → HasEdge code from to → code.start < to
+  pub heads : HasLoopHeads code size.loops
+
+-- each code of a graph is bounded by its function's tree
+abbrev pub IsBoundedBy : Program → Graph → Type 0
+IsBoundedBy program graph =
+    (f : ℕ) (fun : Function) (code : Code) → slice_get program.functions f ≡ Some fun
+    → slice_get graph.codes f ≡ Some code → IsBounded (size_of program.functions fun) code

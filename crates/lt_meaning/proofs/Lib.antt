@@ -1,0 +1,2 @@
+mod SameBut
+pub mod Untracked
