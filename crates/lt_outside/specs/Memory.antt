@@ -78,3 +78,7 @@ next_cut sink = option_map (λ pair. pair.1) (find (λ pair. pair.0 == raised (s
 -- the bytes that a sink in memory that never fails took
 abbrev pub clean_bytes : CleanSink → List ℕ
 clean_bytes sink = sink.bytes.items
+
+-- how many puts there were
+abbrev pub clean_puts : CleanSink → ℕ
+clean_puts sink = sink.puts

@@ -15,6 +15,10 @@ dir_put_faults shelf = shelf.write_faults
 abbrev pub dir_missed : {R F O : Type 0} → DirShelf R F O → ℕ
 dir_missed shelf = shelf.misses
 
+-- how many puts there were
+abbrev pub std_puts : {R : Type 0} → StdSink R → ℕ
+std_puts sink = sink.puts
+
 -- how many puts failed
 abbrev pub std_faults : {R : Type 0} → StdSink R → ℕ
 std_faults sink = sink.faults

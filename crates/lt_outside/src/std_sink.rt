@@ -1,5 +1,5 @@
 ghost use Rattle.std.specs.Prelude.{◌≡◌, None};
-ghost use Rattle.lt_outside.specs.System.{std_faults};
+ghost use Rattle.lt_outside.specs.System.{std_puts, std_faults};
 
 use crate::sink::{PutStop, Sink};
 
@@ -7,24 +7,34 @@ use crate::sink::{PutStop, Sink};
 #[derive(Drop)]
 pub struct StdSink<'a, R: Print> {
     rt: &'a R,
+    // How many puts there were.
+    puts: u64,
     faults: u64,
 }
 
 impl<'a, R: Print> StdSink<'a, R> {
     /// A sink that has counted nothing yet.
     pub fn new(rt: &'a R) -> Self
-        ensures { ⟦<StdSink<'a, R> as Sink>⟧.put_faults result ≡ 0 }
+        ensures puts { ⟦<StdSink<'a, R> as Sink>⟧.puts result ≡ 0 }
+        ensures faults { ⟦<StdSink<'a, R> as Sink>⟧.put_faults result ≡ 0 }
     {
-        StdSink { rt, faults: 0 }
+        StdSink {
+            rt,
+            puts: 0,
+            faults: 0,
+        }
     }
 }
 
 impl<R: Print> Sink for StdSink<'_, R> {
     ghost taken = { λ _. None };
 
+    ghost puts = { std_puts };
+
     ghost put_faults = { std_faults };
 
     fn put(&mut self, piece: &[u8]) -> Result<(), PutStop> {
+        self.puts = self.puts.saturating_add(1);
         match self.rt.write_all(piece) {
             Ok(()) => Ok(()),
             Err(_) => {

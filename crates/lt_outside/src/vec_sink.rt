@@ -61,6 +61,8 @@ impl VecSink {
 impl Sink for VecSink {
     ghost taken = { λ s. Some (sink_bytes s) };
 
+    ghost puts = { sink_puts };
+
     ghost put_faults = { sink_faults };
 
     fn put(&mut self, piece: &[u8]) -> Result<(), PutStop>

@@ -1,6 +1,5 @@
 -- Which answer is due, and that no two are.
-use Rattle.std.proofs.Common.{◌≡◌, ◌≤◌, ◌<◌, ◌⊎◌, ℕ, List, length, Option, Some, None, refl, sym, ap, ◌∙◌, subst, arith, inl, inr}
-use Rattle.std.specs.Prelude.{IfSome}
+use Rattle.std.proofs.Common.{◌≡◌, ◌⊎◌, ℕ, List, length, Option, Some, None, refl, sym, ap, ◌∙◌, subst, arith, inl, inr}
 use Rattle.lt_outside.specs.Shelf.{Files}
 use Rattle.lt_replay.specs.First.{IsReplay, IsSmall, IsNoSmall, IsNoSuite, StopsAt}
 use Rattle.lt_replay.specs.declared.replay.FirstStop.TheVariants as first

@@ -1,6 +1,6 @@
 -- What a command does, between the files that the shelf holds and what is put on the sink.
-use Rattle.std.specs.Prelude.{◌≡◌, ◌<◌, ◌≤◌, ℕ, List, length, Option, Some, None, IfSome}
-use Rattle.lt_outside.specs.Count.{Rose}
+use Rattle.std.specs.Prelude.{◌≡◌, ◌<◌, ◌≤◌, ◌⊎◌, ℕ, List, length, Option, Some, None, IfSome}
+use Rattle.lt_outside.specs.Count.{raised, Rose}
 use Rattle.lt_outside.specs.Shelf.{Files}
 use Rattle.lt_outside.specs.Sink.{Appends, AppendsPart}
 use Rattle.lt_replay.specs.First.{IsReplay, IsNoSmall, IsNoSuite}
@@ -74,6 +74,18 @@ HasReadCause (Absent name) missed missed' faults faults' = Rose missed missed'
 HasReadCause (TooLong name len) missed missed' faults faults' = Rose missed missed'
 HasReadCause ReadFault missed missed' faults faults' = Rose faults faults'
 HasReadCause _ missed missed' faults faults' = Unit {0}
+
+-- How many puts a command makes that ends so: one where it is done, none or one where writing failed or memory lacked, and
+-- none on any other answer.
+abbrev pub HasPuts : Status → ℕ → ℕ → Type 0
+HasPuts Done before now = now ≡ raised before
+HasPuts WriteFault before now = (now ≡ before) ⊎ (now ≡ raised before)
+HasPuts NoMemory before now = (now ≡ before) ⊎ (now ≡ raised before)
+HasPuts (Refused why) before now = now ≡ before
+HasPuts Usage before now = now ≡ before
+HasPuts (Absent name) before now = now ≡ before
+HasPuts (TooLong name len) before now = now ≡ before
+HasPuts ReadFault before now = now ≡ before
 
 -- Where the shelf tells what it holds, this is the coverage text of the two files.
 abbrev pub IsText : Option Files → Plan → List ℕ → Type 0

@@ -12,26 +12,30 @@ use lt_outside::{DirShelf, StdSink};
 use message::{code, message};
 use status::Status;
 use std::env;
+use std::io::ErrorKind;
 use std::process::ExitCode;
 
-// The words after the program's name, where they can be had as text.
-fn words_after_name(rt: &HostRuntime) -> Option<Vec<String>> {
-    let mut words = Vec::new(rt.alloc());
-    let Ok(args) = env::args(rt) else {
-        return None;
+// The words after the program's name, or how the program ends where they aren't had: words that are no text are of no
+// command form.
+fn words_after_name(rt: &HostRuntime) -> Result<Vec<String>, Status> {
+    let args = match env::args(rt) {
+        Ok(args) => args,
+        Err(e) if e.kind() == ErrorKind::OutOfMemory => return Err(Status::NoMemory),
+        Err(_) => return Err(Status::Usage),
     };
+    let mut words = Vec::new(rt.alloc());
     for word in args.skip(1) {
         if words.push(word).is_err() {
-            return None;
+            return Err(Status::NoMemory);
         }
     }
-    Some(words)
+    Ok(words)
 }
 
 fn main(rt: HostRuntime) -> ExitCode {
     let status = match words_after_name(&rt) {
-        None => Status::Usage,
-        Some(words) => {
+        Err(status) => status,
+        Ok(words) => {
             let mut shelf = DirShelf::new(&rt);
             let mut out = StdSink::new(&rt);
             top::ltest(rt.alloc(), words.as_slice(), &mut shelf, &mut out)

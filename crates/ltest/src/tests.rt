@@ -1,11 +1,8 @@
-mod small;
-
 use crate::message::message;
 use crate::status::{Refusal, Status};
 use crate::top::ltest;
 use lt_outside::{MapShelf, VecSink};
 use std::alloc::{AllocError, Global};
-use std::process::Abort;
 use std::test::Fail;
 
 // The words of a command line.
@@ -30,173 +27,11 @@ fn shelf_of(
     Ok(shelf)
 }
 
-// Replays a suite, and compares what is put and the message, in which a status that is done has none.
-fn replays(
-    rt: &impl Abort,
-    alloc: Global,
-    text: &[u8],
-    suite: &[u8],
-    said: &str,
-    put: &[u8],
-) -> Result<(), AllocError> {
-    let mut shelf = shelf_of(alloc, &[], text, suite)?;
-    let mut out = VecSink::new(alloc, &[])?;
-    let words = words_of(alloc, &["replay", "f.c", "suite"])?;
-    let status = ltest(alloc, words.as_slice(), &mut shelf, &mut out);
-    assert_eq!(rt; message(alloc, &status)?.as_str(), said);
-    assert_eq!(rt; out.bytes(), put);
-    Ok(())
-}
-
 const LABEL: &[u8] = b"int f(int x) { pc_label(x > 0, 1, \"A\"); return x; }";
 
 const SUITE: &[u8] = b"test t1\nset x 5\n";
 
-const COVERED: &[u8] = b"ltest-cover,1,tag,state,by\ntest,t1,,returned,\nlabel,1,A,covered,t1\n";
-
-const FILE_REFUSED: &str = "ltest: FILE is not of the first form";
-
 const SUITE_REFUSED: &str = "ltest: SUITE is not of the first form";
-
-const LOOP: &[u8] =
-    b"int f(int n) { int i; i = 0; while (i < n) { i = i + 1; pc_label(i == 3, 1, \"A\"); } return i; }";
-
-#[test]
-fn the_texts_of_small_functions_are_replayed(rt: HostRuntime) -> Result<(), Fail> {
-    let alloc = rt.alloc();
-    replays(&rt, alloc, LABEL, SUITE, "", COVERED)?;
-    replays(
-        &rt,
-        alloc,
-        b"int f(int x) { return x++; }",
-        SUITE,
-        FILE_REFUSED,
-        b"",
-    )?;
-    replays(
-        &rt,
-        alloc,
-        LABEL,
-        b"test t1\npoint x null\n",
-        SUITE_REFUSED,
-        b"",
-    )?;
-    replays(
-        &rt,
-        alloc,
-        b"int f(int x) { pc_label(1 / x > 0, 1, \"A\"); return 1 / x; }",
-        b"test t1\n",
-        "",
-        b"ltest-cover,1,tag,state,by\ntest,t1,,undefined 2,\nlabel,1,A,uncovered,\n",
-    )?;
-    replays(
-        &rt,
-        alloc,
-        b"int f(int x) { int y; return y; }",
-        b"test a\n",
-        "",
-        b"ltest-cover,1,tag,state,by\ntest,a,,undefined 9,\n",
-    )?;
-    Ok(())
-}
-
-#[test]
-fn a_run_out_of_ticks_covers_nothing(rt: HostRuntime) -> Result<(), Fail> {
-    let alloc = rt.alloc();
-    replays(
-        &rt,
-        alloc,
-        LOOP,
-        b"test t1\nset n 49999\ntest t2\nset n 49998\n",
-        "",
-        b"ltest-cover,1,tag,state,by\ntest,t1,,steps,\ntest,t2,,returned,\nlabel,1,A,covered,t2\n",
-    )?;
-    replays(
-        &rt,
-        alloc,
-        LOOP,
-        b"test t1\nset n 49999\n",
-        "",
-        b"ltest-cover,1,tag,state,by\ntest,t1,,steps,\nlabel,1,A,uncovered,\n",
-    )?;
-    Ok(())
-}
-
-// A function whose return or body nests so deep: a front, a piece repeated, a middle, another repeated, and a back.
-fn nested(
-    alloc: Global,
-    front: &str,
-    open: &str,
-    middle: &str,
-    close: &str,
-    back: &str,
-    depth: u32,
-) -> Result<Vec<u8>, AllocError> {
-    let mut text = Vec::from_slice(alloc, front.as_bytes())?;
-    for _ in 0..depth {
-        text.extend_from_slice(open.as_bytes())?;
-    }
-    text.extend_from_slice(middle.as_bytes())?;
-    for _ in 0..depth {
-        text.extend_from_slice(close.as_bytes())?;
-    }
-    text.extend_from_slice(back.as_bytes())?;
-    Ok(text)
-}
-
-// The deepest text runs, and one that is deeper is refused.
-fn deepest(
-    rt: &impl Abort,
-    alloc: Global,
-    pieces: [&str; 5],
-    depth: u32,
-) -> Result<(), AllocError> {
-    let [front, open, middle, close, back] = pieces;
-    let last = nested(alloc, front, open, middle, close, back, depth)?;
-    let done = b"ltest-cover,1,tag,state,by\ntest,t,,returned,\n";
-    replays(rt, alloc, last.as_slice(), b"test t\n", "", done.as_slice())?;
-    let over = nested(
-        alloc,
-        front,
-        open,
-        middle,
-        close,
-        back,
-        depth.saturating_add(1),
-    )?;
-    replays(rt, alloc, over.as_slice(), b"test t\n", FILE_REFUSED, b"")
-}
-
-#[test]
-fn the_deepest_nests_run(rt: HostRuntime) -> Result<(), Fail> {
-    let alloc = rt.alloc();
-    deepest(
-        &rt,
-        alloc,
-        ["int f(int x) { return ", "(", "x", ")", "; }"],
-        998,
-    )?;
-    deepest(
-        &rt,
-        alloc,
-        ["int f(int x) { return ", "- ", "x", "", "; }"],
-        998,
-    )?;
-    deepest(&rt, alloc, ["int f(int x) { ", "{", "", "}", " }"], 998)?;
-    deepest(
-        &rt,
-        alloc,
-        ["int f(int x) { ", "if (x) ", "return x;", "", " }"],
-        499,
-    )?;
-    deepest(
-        &rt,
-        alloc,
-        ["int f(int x) { ", "if (x) {} else ", "return x;", "", " }"],
-        332,
-    )?;
-    Ok(())
-}
 
 #[test]
 fn files_that_are_not_had_are_named(rt: HostRuntime) -> Result<(), Fail> {

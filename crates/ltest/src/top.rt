@@ -1,9 +1,9 @@
 ghost use Rattle.std.specs.Prelude.{◌≡◌, ◌≢◌, ◌≤◌, ◌↔◌, ◌⊎◌, ℕ, IfOk, IfErr, OnOk, OnErr, IfSome, Option, Some, None};
-ghost use Rattle.lt_outside.specs.Count.{Rose};
+ghost use Rattle.lt_outside.specs.Count.{raised, Rose};
 ghost use Rattle.lt_outside.specs.Shelf.{Files};
 ghost use Rattle.lt_outside.specs.Sink.{Appends, AppendsPart};
 ghost use Rattle.ltest.specs.Words.{Plan, plan_of, plan_in, words_of};
-ghost use Rattle.ltest.specs.Top.{IsDue, IsOutside, HasCause, IsText, IsPut, IsFrontPut, Gave, ReadEnds, Ends, PutEnds, HasReadCause};
+ghost use Rattle.ltest.specs.Top.{IsDue, IsOutside, HasCause, HasPuts, IsText, IsPut, IsFrontPut, Gave, ReadEnds, Ends, PutEnds, HasReadCause};
 ghost use Rattle.ltest.specs.declared.status.Status.{Status};
 
 use crate::status::{Refusal, Status};
@@ -56,10 +56,11 @@ fn answer<S: Shelf>(alloc: Global, shelf: &mut S, command: Command<'_>) -> Resul
     }
 }
 
-// Puts the text, in one piece.
+// Puts the text, in one put.
 fn put_text<K: Sink>(out: &mut K, text: &[u8]) -> Status
     ensures ends { PutEnds (K.taken out.old) (K.taken out.new) text.now result }
     ensures cause { result ≡ Status.WriteFault → Rose (K.put_faults out.old) (K.put_faults out.new) }
+    ensures puts { K.puts out.new ≡ raised (K.puts out.old) }
 {
     match out.put(text) {
         Ok(()) => Status::Done,
@@ -69,7 +70,7 @@ fn put_text<K: Sink>(out: &mut K, text: &[u8]) -> Status
 }
 
 /// Does what the words ask for: `replay FILE SUITE` reads a function and a suite from the shelf, at most 4,194,304 bytes
-/// each, and puts the coverage text on the sink, in one piece. Nothing is put on any status but `Done` and `WriteFault`.
+/// each, and puts the coverage text on the sink, in one put. The sink takes nothing on any status but `Done` and `WriteFault`.
 pub fn ltest<S: Shelf, K: Sink>(
     alloc: Global,
     words: &[String],
@@ -88,6 +89,8 @@ pub fn ltest<S: Shelf, K: Sink>(
     ensures cause { HasCause result (record { missed = S.missed shelf.old; read_faults = S.read_faults shelf.old; put_faults = K.put_faults out.old })
         (record { missed = S.missed shelf.new; read_faults = S.read_faults shelf.new; put_faults = K.put_faults out.new }) }
     ensures write_fault { result ≡ Status.WriteFault → IsFrontPut (S.told shelf.old) (plan_of (words_of words.now)) (K.taken out.old) (K.taken out.new) }
+    // The text is put in one put, and none is made but for the text.
+    ensures puts { HasPuts result (K.puts out.old) (K.puts out.new) }
     ensures nothing_put { result ≢ Status.Done → result ≢ Status.WriteFault → K.taken out.new ≡ K.taken out.old }
     ensures stays { S.told shelf.new ≡ S.told shelf.old }
 {

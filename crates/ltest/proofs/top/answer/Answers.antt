@@ -1,6 +1,6 @@
 use Rattle.std.proofs.lemmas.Result.{err_from_is_err_and}
 use Rattle.ltest.specs.Words.{plan_in}
-use Rattle.ltest.proofs.Due.{ends_at_file, ends_at_suite, ends_at_form, is_text}
+use Rattle.ltest.proofs.Due.{ends_at_file, ends_at_suite, ends_at_form}
 use Rattle.ltest.proofs.top.answer.Goals as goal
 
 pub returns-in_err-text-clause-ends : goal.returns-in_err-text-clause-ends

@@ -1,7 +1,6 @@
-use Rattle.std.proofs.Common.{◌≡◌, ◌⊎◌, subst, Some}
-use Rattle.lt_outside.specs.Shelf.{Files}
-use Rattle.ltest.specs.Words.{Plan, plan_in}
-use Rattle.ltest.specs.Top.{Ends, IsText, IsDue, IsOutside}
+use Rattle.std.proofs.Common.{◌≡◌, subst}
+use Rattle.ltest.specs.Words.{plan_in}
+use Rattle.ltest.specs.Top.{Ends, IsText}
 use Rattle.ltest.proofs.Due.{due_of_ends, due_of_put, exactly, same_plan}
 use Rattle.ltest.proofs.top.ltest.Goals as goal
 
