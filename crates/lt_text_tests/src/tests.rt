@@ -1,6 +1,0 @@
-mod every;
-mod expressions;
-mod lexing;
-mod printing;
-mod trees;
-mod units;

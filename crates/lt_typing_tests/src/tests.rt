@@ -1,8 +1,0 @@
-mod choices;
-mod constants;
-mod declared;
-mod rules;
-mod spots;
-mod structs;
-mod types;
-mod typing;
