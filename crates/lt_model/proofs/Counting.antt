@@ -1,7 +1,8 @@
 -- Numbers of elements, where those from 2 ^ 64 count as that.
-use Rattle.std.proofs.Common.{arith, ◌≡◌, refl, ◌∙◌, sym, ap, ℕ, zero, suc, ◌+◌, ◌*◌, ◌^◌, ◌<◌, ◌≤◌, min, ◌⊎◌, inl, inr}
-use Rattle.std.proofs.lemmas.Bool.{cases_lt}
-use Rattle.std.proofs.Math.Nat.{mul-le-mul_left, mul-zero}
+use Rattle.std.proofs.Common.{arith, ◌≡◌, ◌∙◌, sym, ap, ℕ, zero, suc, ◌*◌, ◌^◌, ◌≤◌, min, cond, Some, None, ◌⊎◌, inl, inr}
+use Rattle.std.proofs.lemmas.Bool.{cases_lt, le-ltb}
+use Rattle.std.proofs.Math.Nat.{mul-le-mul_left, mul-zero, zero-mul, mul_comm}
+use Rattle.lt_model.specs.Layout.{within}
 
 capped_by : (top x y : ℕ) → (x ≡ y) ⊎ ((top ≤ x) × (top ≤ y)) → min x top ≡ min y top
 capped_by top x y h = elim h [ inl e ↦ ap (λ n. min n top) e | inr p ↦ omega arith ]
@@ -16,3 +17,19 @@ capped_product top a (suc k) =
       | inl h ↦ capped_by top (min a top * suc k) (a * suc k) (inr (omega arith, omega arith))
       | inr h ↦ capped_by top (min a top * suc k) (a * suc k) (inl (ap (λ n. n * suc k) (omega arith)))
     ]
+
+within_none : (n : ℕ) → 2 ^ 64 ≤ n → within n ≡ None
+within_none n h = ap (λ b. cond b (Some n) None) (le-ltb n (2 ^ 64) h)
+
+many_times : (size n : ℕ) → 2 ^ 64 ≤ n → within (suc size * n) ≡ None
+many_times size n more =
+    let product : n * 1 ≤ n * suc size = mul-le-mul_left n (omega arith) in
+    within_none (suc size * n) (omega (arith, product, mul_comm (suc size) n, more))
+
+-- where a number of elements passes 64 bits, so does that of their bytes, unless they have none
+pub capped_within : (size n : ℕ) → within (size * min n (2 ^ 64)) ≡ within (size * n)
+capped_within zero n = ap within (zero-mul (min n (2 ^ 64)) ∙ sym (zero-mul n))
+capped_within (suc size) n = elim (cases_lt n (2 ^ 64)) [
+  | inl less ↦ ap (λ k. within (suc size * k)) (omega arith)
+  | inr more ↦ many_times size (min n (2 ^ 64)) (omega arith) ∙ sym (many_times size n more)
+]

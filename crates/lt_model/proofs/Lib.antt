@@ -5,3 +5,4 @@ pub mod Values
 pub mod Results
 pub mod Counting
 pub mod Nesting
+pub mod Layouts

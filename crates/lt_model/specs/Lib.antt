@@ -1,7 +1,9 @@
 pub mod Whole
 pub mod Scalar
 pub mod Conversions
+pub mod Types
 pub mod Layout
+pub mod TypeView
 pub mod Operators
 pub mod Memory
 pub mod State

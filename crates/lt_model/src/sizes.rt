@@ -1,6 +1,8 @@
-ghost use Rattle.std.specs.Prelude.{◌≡◌, ◌+◌, ◌*◌, ◌<◌, ◌≤◌, ◌^◌, min, slice_get, ℕ, length};
+ghost use Rattle.std.specs.Prelude.{◌≡◌, ◌+◌, ◌*◌, ◌<◌, ◌≤◌, ◌^◌, min, map, false, Some, option_map, slice_get, ℕ, length};
 ghost use Rattle.std.specs.Option.{option_copied};
-ghost use Rattle.lt_model.specs.Layout.{within, rounded, scalar_extent, pointer_extent, extent_for, resized, element, elements, single_extent, type_extent, member_offset, with_member, no_members, members_extent, struct_extent, extent_of, size_in, offset_behind, offset_among, offset_in, members_of, AreRanked};
+ghost use Rattle.lt_model.specs.Types.{unqualified, element};
+ghost use Rattle.lt_model.specs.TypeView.{type_of, is_quoted, member_of, structs_of};
+ghost use Rattle.lt_model.specs.Layout.{then_some, within, rounded, scalar_extent, pointer_extent, extent_for, resized, elements, single_extent, type_extent, member_offset, with_member, no_members, members_extent, struct_extent, extent_of, size_in, placed_behind, offset_among, offset_in, members_of, AreRanked};
 
 use crate::ctype::{CType, MemberType, StructType, Structs};
 use crate::scalar::{DataModel, Scalar, pointer_width, width};
@@ -83,11 +85,12 @@ fn counted(count: u128, length: u32) -> u128
     (count * u128::from(length)).min(1 << 64)
 }
 
-#[tactic(auto, using(crate::proofs::Counting::capped_product))]
-// The type of an array's elements, and how many it has; numbers from 2 ^ 64 count as that.
+// The type of an array's elements without its qualifiers, and how many it has; numbers from 2 ^ 64 count as that.
+#[tactic(auto, using(crate::proofs::Layouts::element_qualified, crate::proofs::Layouts::elements_qualified))]
 fn elements(t: &CType) -> (&CType, u128)
-    ensures element { result.0.now ≡ element t.now }
-    ensures count { result.1 ≡ min (elements t.now) (2 ^ 64) }
+    ensures element { type_of result.0.now ≡ unqualified (element (type_of t.now)) }
+    ensures bare { is_quoted result.0.now ≡ false }
+    ensures count { result.1 ≡ min (elements (type_of t.now)) (2 ^ 64) }
 {
     let mut count: u128 = 1;
     let mut at = t;
@@ -128,8 +131,9 @@ fn with_member(before: Extent, member: Extent) -> Option<Extent>
 }
 
 // The members of a struct that is complete.
+#[tactic(auto, using(crate::proofs::Layouts::members_held))]
 fn members_of(structs: &[StructType], k: u32) -> Option<&[MemberType]>
-    ensures { option_copied result ≡ members_of structs.now k }
+    ensures { option_map (map member_of) (option_copied result) ≡ members_of (structs_of structs.now) k }
 {
     match structs.get(k as usize) {
         None => None,
@@ -140,7 +144,7 @@ fn members_of(structs: &[StructType], k: u32) -> Option<&[MemberType]>
     }
 }
 
-// The extent of a type that is no array.
+// The extent of a type that is no array and has no qualifiers.
 #[cycle(extent)]
 fn single_extent(
     model: DataModel,
@@ -148,7 +152,8 @@ fn single_extent(
     depth: usize,
     t: &CType,
 ) -> Option<Extent>
-    ensures { result ≡ single_extent model (struct_extent model structs.now depth) t.now }
+    requires { is_quoted t.now ≡ false }
+    ensures { result ≡ single_extent model (struct_extent model (structs_of structs.now) depth) (type_of t.now) }
 {
     match t {
         CType::Num(s) => Some(scalar_extent(model, *s)),
@@ -164,8 +169,9 @@ fn single_extent(
 
 // The extent of a type.
 #[cycle(extent)]
+#[tactic(auto, using(crate::proofs::Layouts::single_unqualified))]
 fn type_extent(model: DataModel, structs: &[StructType], depth: usize, t: &CType) -> Option<Extent>
-    ensures { result ≡ type_extent model (struct_extent model structs.now depth) t.now }
+    ensures { result ≡ type_extent model (struct_extent model (structs_of structs.now) depth) (type_of t.now) }
 {
     let (of, count) = elements(t);
     let extent = single_extent(model, structs, depth, of)?;
@@ -180,7 +186,7 @@ fn members_extent(
     depth: usize,
     members: &[MemberType],
 ) -> Option<Extent>
-    ensures { result ≡ members_extent (type_extent model (struct_extent model structs.now depth)) no_members members.now }
+    ensures { result ≡ members_extent (type_extent model (struct_extent model (structs_of structs.now) depth)) no_members (map member_of members.now) }
 {
     let mut before = Extent {
         size: 0,
@@ -197,7 +203,7 @@ fn members_extent(
 #[cycle(extent)]
 #[tactic(auto, unfolding(crate::specs::Layout::struct_extent))]
 fn struct_extent(model: DataModel, structs: &[StructType], depth: usize, k: u32) -> Option<Extent>
-    ensures { result ≡ struct_extent model structs.now depth k }
+    ensures { result ≡ struct_extent model (structs_of structs.now) depth k }
 {
     if depth == 0 {
         return None;
@@ -207,13 +213,26 @@ fn struct_extent(model: DataModel, structs: &[StructType], depth: usize, k: u32)
     resized(all, rounded(all.size, all.alignment))
 }
 
-/// The size of a type in bytes. None for void, function and floating types, for a struct that is incomplete or holds itself, and where a
+// The extent of a type of a program.
+fn extent_of(model: DataModel, structs: &[StructType], t: &CType) -> Option<Extent>
+    ensures { result ≡ extent_of model (structs_of structs.now) (type_of t.now) }
+{
+    type_extent(model, structs, structs.len(), t)
+}
+
+// The end of members of a program and their greatest alignment.
+fn end_of(model: DataModel, structs: &[StructType], members: &[MemberType]) -> Option<Extent>
+    ensures { result ≡ members_extent (extent_of model (structs_of structs.now)) no_members (map member_of members.now) }
+{
+    members_extent(model, structs, structs.len(), members)
+}
+
+/// The size of a type in bytes, C11 6.5.3.4. None for void, function and floating types, for a struct that is incomplete or holds itself, and where a
 /// number of bytes on the way passes 64 bits.
 pub fn size_of(model: DataModel, structs: &Structs, t: &CType) -> Option<u64>
-    ensures { result ≡ size_in model structs.now.list t.now }
+    ensures { result ≡ size_in model (structs_of structs.now.list) (type_of t.now) }
 {
-    let list = structs.list.as_slice();
-    let extent = type_extent(model, list, list.len(), t)?;
+    let extent = extent_of(model, structs.list.as_slice(), t)?;
     Some(extent.size)
 }
 
@@ -224,18 +243,13 @@ fn member_at(members: &[MemberType], place: usize) -> Option<&MemberType>
     members.get(place)
 }
 
-// Where a member of this type stands behind others.
-fn offset_behind(
-    model: DataModel,
-    structs: &[StructType],
-    before: &[MemberType],
-    t: &CType,
-) -> Option<u64>
-    ensures { result ≡ offset_behind model structs.now before.now t.now }
+// Where a member stands behind others, if its end fits too.
+fn offset_behind(before: Extent, member: Extent) -> Option<u64>
+    ensures { result ≡ then_some (member_offset before member) (λ offset. then_some (with_member before member) (λ after. Some offset)) }
 {
-    let extent = type_extent(model, structs, structs.len(), t)?;
-    let end = members_extent(model, structs, structs.len(), before)?;
-    member_offset(end, extent)
+    let offset = member_offset(before, member)?;
+    let _end = with_member(before, member)?;
+    Some(offset)
 }
 
 // Where a member stands among all members of its struct.
@@ -245,16 +259,18 @@ fn offset_among(
     members: &[MemberType],
     place: usize,
 ) -> Option<u64>
-    ensures { result ≡ offset_among model structs.now members.now place }
+    ensures { result ≡ offset_among (placed_behind (extent_of model (structs_of structs.now)) no_members (map member_of members.now)) place }
 {
     let member = member_at(members, place)?;
-    offset_behind(model, structs, &members[..place], &member.ty)
+    let extent = extent_of(model, structs, &member.ty)?;
+    let before = end_of(model, structs, &members[..place])?;
+    offset_behind(before, extent)
 }
 
-/// The offset of a member of a struct in bytes. None where there is no such member, or the struct is incomplete, or a type on the way has
-/// no size.
+/// The offset of a member of a struct in bytes, C11 6.7.2.1. None where there is no such member, or the struct is incomplete, or a type on the way has
+/// no size, or a number of bytes on the way passes 64 bits.
 pub fn layout(model: DataModel, structs: &Structs, tag: u32, member: u32) -> Option<u64>
-    ensures { result ≡ offset_in model structs.now.list tag member }
+    ensures { result ≡ offset_in model (structs_of structs.now.list) tag member }
 {
     let list = structs.list.as_slice();
     let members = members_of(list, tag)?;
@@ -264,5 +280,5 @@ pub fn layout(model: DataModel, structs: &Structs, tag: u32, member: u32) -> Opt
 /// A law: where no struct holds itself, a greater bound on how deep structs nest changes no extent. It does nothing.
 #[tactic(auto, using(crate::proofs::Nesting::nesting_bounded))]
 pub fn nesting_law(model: DataModel, structs: &Structs)
-    ensures { (rank : ℕ → ℕ) → AreRanked structs.now.list rank → (depth k : ℕ) → k < length structs.now.list → length structs.now.list ≤ depth → struct_extent model structs.now.list depth k ≡ struct_extent model structs.now.list (length structs.now.list) k }
+    ensures { (rank : ℕ → ℕ) → AreRanked (structs_of structs.now.list) rank → (depth k : ℕ) → k < length (structs_of structs.now.list) → length (structs_of structs.now.list) ≤ depth → struct_extent model (structs_of structs.now.list) depth k ≡ struct_extent model (structs_of structs.now.list) (length (structs_of structs.now.list)) k }
 {}

@@ -1,16 +1,12 @@
 -- Trees of C as values, without where they lie in memory, in the order of C11 6.5 to 6.9.
 use Rattle.std.specs.Prelude.{ℕ, Bool, List, Option}
 use Rattle.lt_model.specs.declared.operator.Op.{Op}
+pub use Rattle.lt_model.specs.Types.{Qualifiers}
 use Rattle.lt_tree.specs.declared.expression.UnaryOp.{UnaryOp}
 use Rattle.lt_tree.specs.declared.expression.LogicalOp.{LogicalOp}
 use Rattle.lt_tree.specs.declared.specifier.Storage.{Storage}
 use Rattle.lt_tree.specs.declared.specifier.BasicType.{BasicType}
 use Rattle.lt_tree.specs.declared.specifier.TypeWord.{TypeWord}
-
--- the qualifiers of C11 6.7.3
-pub record Qualifiers : Type 0 where
-  pub constant : Bool
-  pub volatile : Bool
 
 -- the words among specifiers that are no part of a type, C11 6.7.1, 6.7.3 and 6.7.4; storage classes in the order of the source
 pub record Words : Type 0 where

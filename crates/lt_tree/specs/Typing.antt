@@ -36,4 +36,3 @@ pub mod ValueView
 pub mod StatementView
 pub mod EntityView
 pub mod ProgramView
-pub mod TypeView

@@ -2,6 +2,7 @@
 use Rattle.std.specs.Prelude.{Bool}
 use Rattle.std.specs.Global.{Vec}
 use Rattle.lt_model.specs.declared.ctype.Quals.{Quals}
+pub use Rattle.lt_model.specs.TypeView.{qualifiers_of}
 use Rattle.lt_tree.specs.declared.specifier.Storage.{Storage}
 use Rattle.lt_tree.specs.declared.expression.Expr.{Expr}
 use Rattle.lt_tree.specs.declared.mark.Mark.{Mark}
@@ -11,9 +12,6 @@ use Rattle.lt_tree.specs.declared.declarator.DeclaratorPart.{DeclaratorPart}
 use Rattle.lt_tree.specs.declared.declarator.Parameters.{Parameters}
 use Rattle.lt_tree.specs.declared.declarator.DeclaratorPart.TheBlock as at
 use Rattle.lt_tree.specs.Tree as t
-
-abbrev pub qualifiers_of : Quals → t.Qualifiers
-qualifiers_of q = record { constant = q.constant; volatile = q.volatile }
 
 abbrev pub words_of : Vec Storage → Bool → Bool → Quals → t.Words
 words_of storage inline noreturn quals = record { storage = storage.items; inline = inline; noreturn = noreturn; qualifiers = qualifiers_of quals }

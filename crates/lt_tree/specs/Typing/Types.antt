@@ -1,56 +1,19 @@
--- Types of C as values, C11 6.2.5 and 6.7.3, without where they lie in memory.
+-- What typing asks of types, C11 6.2.5, 6.2.7 and 6.7.3. Types as values are those that layout has.
 use Rattle.std.specs.Prelude.{ℕ, ◌==◌, ◌&&◌, ◌||◌, Bool, true, false, not, if◌then◌else◌, Option, Some, None}
 use denote.Enum.Bare.{sameb}
 use Rattle.lt_model.specs.contracts.scalar.Scalar.{the_type}
 use Rattle.lt_model.specs.declared.scalar.Scalar.{Scalar}
-use Rattle.lt_tree.specs.Tree.{Qualifiers}
-
--- Qualifiers other than `const` and `volatile` aren't read. Those of an array stand at its elements; a type with qualifiers isn't qualified
--- again.
-mutual
-  pub data CType : Type 0 where
-    Void : CType
-    Num : (scalar : Scalar) → CType
-    Pointer : (target : CType) → CType
-    -- of so many elements; 0 as long as its initialiser is to give the number
-    Array : (element : CType) (length : ℕ) → CType
-    -- by its place in the list of structs
-    Struct : (number : ℕ) → CType
-    -- parameters are adjusted and have no qualifiers of their own; dots stand for further arguments
-    Function : (result : CType) (parameters : CTypes) (dots : Bool) → CType
-    -- `float`, `double` and `long double` are one type
-    Floating : CType
-    Qualified : (qualifiers : Qualifiers) (type : CType) → CType
-
-  pub data CTypes : Type 0 where
-    no_types : CTypes
-    a_type : (first : CType) (rest : CTypes) → CTypes
+use Rattle.lt_model.specs.Types.{Qualifiers}
+pub use Rattle.lt_model.specs.Types.{CType, Void, Num, Pointer, Array, Struct, Function, Floating, Qualified, CTypes, no_types, a_type, both, add_qualifiers, qualified, unqualified, is_floating, element}
 
 -- ---- qualifiers, C11 6.7.3
 
 abbrev pub no_qualifiers : Qualifiers
 no_qualifiers = record { constant = false; volatile = false }
 
-abbrev pub both : Qualifiers → Qualifiers → Qualifiers
-both p q = record { constant = p.constant || q.constant; volatile = p.volatile || q.volatile }
-
 -- whether the first have all of the second
 abbrev pub include : Qualifiers → Qualifiers → Bool
 include p q = (p.constant || not q.constant) && (p.volatile || not q.volatile)
-
-abbrev pub add_qualifiers : Qualifiers → CType → CType
-add_qualifiers q t = if q.constant || q.volatile then Qualified q t else t
-
--- The type with these qualifiers too. Those of an array are its elements'; a function has none.
-abbrev pub qualified : Qualifiers → CType → CType
-qualified q (Array t n) = Array (qualified q t) n
-qualified q (Qualified p t) = Qualified (both p q) t
-qualified q (Function t ts dots) = Function t ts dots
-qualified q t = add_qualifiers q t
-
-abbrev pub unqualified : CType → CType
-unqualified (Qualified q t) = t
-unqualified t = t
 
 -- its qualifiers; for an array those of its elements
 abbrev pub qualifiers_of : CType → Qualifiers
@@ -157,20 +120,10 @@ abbrev pub is_function : CType → Bool
 is_function (Function t ts dots) = true
 is_function _ = false
 
-abbrev pub is_floating : CType → Bool
-is_floating Floating = true
-is_floating (Qualified q t) = is_floating t
-is_floating _ = false
-
 abbrev pub is_pointer_to_function : CType → Bool
 is_pointer_to_function (Pointer t) = is_function t
 is_pointer_to_function (Qualified q t) = is_pointer_to_function t
 is_pointer_to_function _ = false
-
--- the type of an array's elements, and of theirs
-abbrev pub element : CType → CType
-element (Array t n) = element t
-element t = t
 
 -- Its own qualifiers: an array has none, since those that are written at it are its elements', C11 6.7.3p9.
 abbrev pub own_qualifiers : CType → Qualifiers
