@@ -145,7 +145,7 @@ fn put_layout(
 pub fn layouts(alloc: Global, text: &[u8], model: DataModel) -> Result<Vec<u8>, Stop> {
     let unit = parsed(alloc, text)?.unit;
     let mut types = known(alloc, &unit, model)?.types;
-    let program = elaborate(alloc, unit, model)?;
+    let program = elaborate(alloc, &unit, model)?;
     let mut words = Words::new(alloc);
     let mut number = 0_u32;
     for it in &program.structs {

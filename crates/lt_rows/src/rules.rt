@@ -18,7 +18,7 @@ pub fn rule(
 ) -> Result<Vec<u8>, Stop> {
     let Parsed { unit, spots } = parsed(alloc, text)?;
     let mut words = Words::new(alloc);
-    match elaborate(alloc, unit, model) {
+    match elaborate(alloc, &unit, model) {
         Ok(_) => words.push_number(0)?,
         Err(TypeStop::Broken(rule, node)) => {
             words.push_number(i128::from(rule.number()))?;

@@ -94,7 +94,8 @@ pub fn put_type(words: &mut Words, rows: &[TypeRow], t: TypeId) -> Result<(), Al
 
 /// The types of a unit's program.
 pub fn types(alloc: Global, text: &[u8], model: DataModel) -> Result<Vec<u8>, Stop> {
-    let program = elaborate(alloc, parsed(alloc, text)?.unit, model)?;
+    let unit = parsed(alloc, text)?.unit;
+    let program = elaborate(alloc, &unit, model)?;
     let mut words = Words::new(alloc);
     for t in &program.types {
         put_type(&mut words, program.table.as_slice(), *t)?;

@@ -34,8 +34,9 @@ use lt_type::{
 use std::alloc::{AllocError, Global};
 
 /// The typed program of a unit in a data model, or the first rule that it breaks, with the number of the node in the walk of the unit, C11 6.5 to 6.9.
-pub fn elaborate(alloc: Global, unit: Unit, model: DataModel) -> Result<Program, TypeStop>
-    ensures { Elaborated model unit result }
+/// The program borrows the unit.
+pub fn elaborate(alloc: Global, unit: &Unit, model: DataModel) -> Result<Program<'_>, TypeStop>
+    ensures { Elaborated model unit.now result }
 {
     let defined = defined_names(alloc, unit.externals.as_slice())?;
     let mut walker = at_start(alloc, model, defined)?;

@@ -62,8 +62,8 @@ fn parts_of(types: Types) -> Result<Parts, AllocError>
 }
 
 /// The program of a unit, of what is known at its end.
-pub fn program(walker: Walker, unit: Unit) -> Result<Program, TypeStop>
-    ensures { IsProgram walker unit result }
+pub fn program(walker: Walker, unit: &Unit) -> Result<Program<'_>, TypeStop>
+    ensures { IsProgram walker unit.now result }
 {
     let alloc = walker.types.alloc();
     let model = walker.types.model();

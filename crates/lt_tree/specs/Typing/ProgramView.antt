@@ -10,7 +10,7 @@ use Rattle.lt_tree.specs.Typing.Programs as s
 -- where the rows of the table stand for these types
 abbrev pub program_with : List CType → Program → s.Program
 program_with types p = record {
-  unit = unit_of p.unit;
+  unit = unit_of p.unit.now;
   model = p.model;
   structs = structs_of types p.structs.items;
   objects = map (object_of types) p.objects.items;

@@ -5,8 +5,8 @@ use lt_model::DataModel;
 
 /// A typed program, with the unit of which it is.
 #[derive(Drop)]
-pub struct Program {
-    pub unit: Unit,
+pub struct Program<'u> {
+    pub unit: &'u Unit,
     pub model: DataModel,
     pub structs: Vec<StructType>,
     /// In the order in which the text first declares them, string literals among them.

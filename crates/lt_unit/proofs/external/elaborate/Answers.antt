@@ -12,12 +12,12 @@ returns-in_err-walker c = rw (stopped c.from_residual-in_err-walker.ensures ∙ 
 
 pub returns-in_err-externals : goal.returns-in_err-externals
 returns-in_err-externals c =
-    broken_off c.args.model c.args.unit c.in_ok-walker.walker c.externals.new.walker _ _
+    broken_off c.args.model c.args.unit.now c.in_ok-walker.walker c.externals.new.walker _ _
     (λ types. c.in_ok-walker.ensures.known types ∙ ap (at_start c.args.model) (c.in_ok-defined.ensures ∙ ap (λ l. filter_map defined_in (map external_of l)) c.as_slice.ensures.value))
     (rw c.as_slice-2.ensures.value at c.in_err-externals.ensures) (stopped c.from_residual-in_err-externals.ensures)
 
 pub returns : goal.returns
 returns c =
-    elaborated c.args.model c.args.unit c.in_ok-walker.walker c.externals.new.walker _ _
+    elaborated c.args.model c.args.unit.now c.in_ok-walker.walker c.externals.new.walker _ _
     (λ types. c.in_ok-walker.ensures.known types ∙ ap (at_start c.args.model) (c.in_ok-defined.ensures ∙ ap (λ l. filter_map defined_in (map external_of l)) c.as_slice.ensures.value))
     (rw c.as_slice-2.ensures.value at c.in_ok-externals.ensures) c.program.ensures
