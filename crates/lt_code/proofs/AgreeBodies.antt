@@ -105,13 +105,14 @@ one_less_of (suc m) d e = omega arith
 abbrev pub scene_of : (graph : Graph) (program : Program) → graph.model ≡ program.model → (calls : Calls) (n f : ℕ) (stack : List Frame) (fun : Function) (code : Code) → code_at graph f ≡ Some code → Scene
 scene_of graph program same calls n f stack fun code is = record {
   graph = graph;
-  site = site_of program graph.labels fun code (stands_in code.nodes);
+  site = site_of program graph.labels graph.stubs fun code (stands_in code.nodes);
   calls = calls;
   most = n;
   code = f;
   stack = stack;
   model = same;
   labels = refl;
+  stubs = refl;
   structs = ap structs_of is;
   locals = ap locals_of is;
   nodes = λ i m has. ap (λ q. slice_get (nodes_of q) i) is ∙ has;
@@ -145,7 +146,7 @@ has_first [] n c long has = absurd (cc)
 has_first (it ∷ rs) n c long has = omega (arith, long)
 
 -- the body of a function from its start on, whose parameters have their values
-pub body_run : (graph : Graph) (program : Program) (same : graph.model ≡ program.model) (calls : Calls) (n : ℕ) → CallsRun graph program calls n → (f : ℕ) (stack : List Frame) (fun : Function) (code : Code) (is : code_at graph f ≡ Some code) → HasCode program graph.labels fun code → (at : At) → at.ticks ≤ n → (k : Flow → At → Over) → ((flow : Flow) (at1 : At) (i : ℕ) (rs : List Register) → Left (scene_of graph program same calls n f stack fun code is) fun flow i rs → at1.ticks ≤ at.ticks → at1.depth ≡ at.depth → at1.scope ≡ dropped 0 fun.parameters at.scope → Finishes graph (conf f i rs stack at1) (k flow at1)) → Finishes graph (conf f code.start (blanks code.registers) stack at) (finish (body_of program calls fun at) k)
+pub body_run : (graph : Graph) (program : Program) (same : graph.model ≡ program.model) (calls : Calls) (n : ℕ) → CallsRun graph program calls n → (f : ℕ) (stack : List Frame) (fun : Function) (code : Code) (is : code_at graph f ≡ Some code) → HasCode program graph.labels graph.stubs fun code → (at : At) → at.ticks ≤ n → (k : Flow → At → Over) → ((flow : Flow) (at1 : At) (i : ℕ) (rs : List Register) → Left (scene_of graph program same calls n f stack fun code is) fun flow i rs → at1.ticks ≤ at.ticks → at1.depth ≡ at.depth → at1.scope ≡ dropped 0 fun.parameters at.scope → Finishes graph (conf f i rs stack at1) (k flow at1)) → Finishes graph (conf f code.start (blanks code.registers) stack at) (finish (body_of program calls fun at) k)
 body_run graph program same calls n ok f stack fun code is has at le k h =
     let z = scene_of graph program same calls n f stack fun code is in
     let ps = fun.parameters in

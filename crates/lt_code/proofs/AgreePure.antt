@@ -21,8 +21,9 @@ use Rattle.lt_ir.specs.Running.{At, Answer, Step, ◌>>=◌, gives, quietly, pla
 use Rattle.lt_ir.specs.Evaluation.{valued, number_in, address_in, truth_in, of_truth, grown, settled_in, apart, moved, member_at, applied, counted, compared}
 use Rattle.lt_meaning.specs.Expressions.{Calls, Fate, wanted, unconverted, dropped, dropped_branch, untaken, inside, of_branch, of_last, fate_of_part, converted, converted_here, is_pure, is_pure_place, are_pure, pure_only, eval, place_of, parts_of, comma_from, bound_at, decides, second_truth, pointer_of, count_of, scalar_in}
 use Rattle.lt_code.specs.Predicates.{Names, moving, truth_value, connects, converts, converts_here, raw_of, raw_place, raw_parts, pure_in, names_bound, pures_bound, around, IsTruthOf, IsNumberOf}
-use Rattle.lt_code.proofs.PureAnswers.{Quiet, quiet_untouched, quiet_grown, quiet_settled_in, Same, same_stays, same_bind, same_into, same_step, same_apart, same_quietly}
-use Rattle.lt_code.proofs.PureOperators.{stays_address_in, stays_truth_in, stays_moved, stays_member_at, stays_applied, stays_counted, stays_compared, stays_place, stays_converted, same_loaded, same_last, same_alike, alike_swapped, and_left, and_right}
+use Rattle.lt_meaning.proofs.SameBut.{Quiet, quiet_untouched, and_left, and_right}
+use Rattle.lt_code.proofs.PureAnswers.{quiet_grown, quiet_settled_in, Same, same_stays, same_bind, same_into, same_step, same_apart, same_quietly}
+use Rattle.lt_code.proofs.PureOperators.{stays_address_in, stays_truth_in, stays_moved, stays_member_at, stays_applied, stays_counted, stays_compared, stays_place, stays_converted, same_loaded, same_last, same_alike, alike_swapped}
 
 module _ (tracks : Bool) where
   -- what both give

@@ -24,7 +24,7 @@ use Rattle.lt_meaning.specs.Expressions.{Calls}
 use Rattle.lt_meaning.specs.Statements.{Flow}
 use Rattle.lt_meaning.specs.Runs.{initials, stops, without_body, shapes_of, back, value_of_call, body_of, with_body, function_among, call_of, invoke, name_of_object, over_by, run}
 use Rattle.lt_code.specs.Pieces.{Stands, either, when, one}
-use Rattle.lt_code.specs.Code.{number_among, taken_into, call_by_number}
+use Rattle.lt_code.specs.Code.{number_among, taken_into, next_for, call_by_number}
 use Rattle.lt_code.specs.Bodies.{parameters_of, HasCode, Lowered, HasProgram}
 use Rattle.lt_code.proofs.Finishing.{finish, Finishes, conf, Later, later_same, later_still, go, stop, through, step_at, with_bind}
 use Rattle.lt_code.proofs.Registers.{After, replaced_set}
@@ -56,14 +56,14 @@ abbrev Follows : Graph → (f : ℕ) (stack : List Frame) → (is_taken : Bool) 
 Follows graph f stack is_taken w r to rs at k = (c : Content) (at1 : At) (rs1 : List Register) → After is_taken w r rs rs1 (valued c (footprint_at rs r)) → Later at at1 → Finishes graph (conf f to rs1 stack at1) (k c at1)
 
 -- a function without a body
-missing_run : (graph : Graph) (f : ℕ) (stack : List Frame) (P : Stands) (nodes : (i : ℕ) (m : Node) → P i m → node_at graph f i ≡ Some m) (is_taken : Bool) (name : List ℕ) (t : CType) (w r count i to : ℕ) → call_by_number P is_taken name t r count None i to → (rs : List Register) → length rs ≡ w → r < w → (at : At) (k : Content → At → Over) → Follows graph f stack is_taken w r to rs at k → Finishes graph (conf f i rs stack at) (finish (without_body name t is_taken at) k)
+missing_run : (graph : Graph) (f : ℕ) (stack : List Frame) (P : Stands) (nodes : (i : ℕ) (m : Node) → P i m → node_at graph f i ≡ Some m) (is_taken : Bool) (name : List ℕ) (t : CType) (w r count i to : ℕ) → call_by_number P graph.stubs is_taken name t r count None i to → (rs : List Register) → length rs ≡ w → r < w → (at : At) (k : Content → At → Over) → Follows graph f stack is_taken w r to rs at k → Finishes graph (conf f i rs stack at) (finish (without_body name t is_taken at) k)
 missing_run graph f stack P nodes is_taken name t w r count i to has rs long lt at k h = by_name (stops name) is_taken (is_void t) has h
   where
-    by_name : (b b1 b2 : Bool) → either b (λ from to. P from node.Stop) (when b1 (either b2 (one P (node.Constant r content.Unset true)) (one P (node.Stub name (Some r))))) i to → Follows graph f stack b1 w r to rs at k → Finishes graph (conf f i rs stack at) (finish ((if b then over RunEnd.Stopped else (if b1 && not b2 then stub_value name else gives content.Unset)) at) k)
+    by_name : (b b1 b2 : Bool) → either b (λ from to. P from node.Stop) (when b1 (either b2 (one P (node.Constant r content.Unset true)) (next_for P graph.stubs name r))) i to → Follows graph f stack b1 w r to rs at k → Finishes graph (conf f i rs stack at) (finish ((if b then over RunEnd.Stopped else (if b1 && not b2 then stub_value name else gives content.Unset)) at) k)
     by_name true b1 b2 has h = stop graph _ _ at (step_at graph f i node.Stop rs stack at (nodes i _ has))
     by_name false true true has h = go graph _ _ _ (step_at graph f i (node.Constant r content.Unset true to) rs stack at (nodes i _ has)) (h content.Unset at _ (after_written true w r rs content.Unset lt long) (later_same at))
     by_name false true false has h =
-        through graph at (conf f i rs stack at) (stub_value name at) (λ x at1. conf f to (targets rs (Some r) x) stack at1) k (step_at graph f i (node.Stub name (Some r) to) rs stack at (nodes i _ has)) (calm-stub_value name at) (λ x at1 l. h x at1 _ (after_written true w r rs x lt long) l)
+        through graph at (conf f i rs stack at) (stub_value name at) (λ x at1. conf f to (targets rs (Some r) x) stack at1) k (step_at graph f i (node.Stub has.0 r to) rs stack at (nodes i _ has.2) ∙ ap (λ o. g.stub_for o r (conf f i rs stack at) to) has.1) (calm-stub_value name at) (λ x at1 l. h x at1 _ (after_written true w r rs x lt long) l)
     by_name false false b2 has h = subst (λ j. Finishes graph (conf f j rs stack at) (k content.Unset at)) (sym has) (h content.Unset at rs (after_written false w r rs content.Unset lt long) (later_same at))
 
 module _ (graph : Graph) (program : Program) (low : HasProgram program graph) where
@@ -78,7 +78,7 @@ module _ (graph : Graph) (program : Program) (low : HasProgram program graph) wh
       ∙ ap (λ d. Goes (conf f to (targets rs (taken_into is_taken r) c) stack (record at1 { scope = at.scope; depth = d }))) depth) h
 
   -- a function with a body
-  entered_run : (n : ℕ) → CallsRun graph program (invoke program n) n → (f : ℕ) (P : Stands) (nodes : (i : ℕ) (m : Node) → P i m → node_at graph f i ≡ Some m) (j w r count to fn : ℕ) (is_taken : Bool) → P j (node.Call fn (taken_into is_taken r) r count to) → (fun : Function) (code : Code) (is : code_at graph fn ≡ Some code) → HasCode program graph.labels fun code → (rs : List Register) (stack : List Frame) (at : At) → length rs ≡ w → r < w → at.ticks ≤ n → (xs : List Content) → ((at1 : At) → contents_from rs r count at1 ≡ Gives xs at1) → (k : Content → At → Over) → Follows graph f stack is_taken w r to rs at k → Finishes graph (conf f j rs stack at) (finish (with_body program (invoke program n) fun xs at) k)
+  entered_run : (n : ℕ) → CallsRun graph program (invoke program n) n → (f : ℕ) (P : Stands) (nodes : (i : ℕ) (m : Node) → P i m → node_at graph f i ≡ Some m) (j w r count to fn : ℕ) (is_taken : Bool) → P j (node.Call fn (taken_into is_taken r) r count to) → (fun : Function) (code : Code) (is : code_at graph fn ≡ Some code) → HasCode program graph.labels graph.stubs fun code → (rs : List Register) (stack : List Frame) (at : At) → length rs ≡ w → r < w → at.ticks ≤ n → (xs : List Content) → ((at1 : At) → contents_from rs r count at1 ≡ Gives xs at1) → (k : Content → At → Over) → Follows graph f stack is_taken w r to rs at k → Finishes graph (conf f j rs stack at) (finish (with_body program (invoke program n) fun xs at) k)
   entered_run n ok f P nodes j w r count to fn is_taken has fun code is has_code rs stack at long lt le xs e k h =
       let ps = fun.parameters in
       let frame : Frame = record { code = f; place = to; target = taken_into is_taken r; registers = rs; scope = at.scope } in
@@ -96,16 +96,16 @@ module _ (graph : Graph) (program : Program) (low : HasProgram program graph) wh
       (h (value_of_call fun flow) (record at2 { scope = at.scope; depth = at.depth }) _ (after_written is_taken w r rs (value_of_call fun flow) lt long) (record { ticks = omega (arith, entered.0); scope = refl; depth = refl })))))))
 
   -- the call itself
-  call_run : (n : ℕ) → CallsRun graph program (invoke program n) n → (f : ℕ) (P : Stands) (nodes : (i : ℕ) (m : Node) → P i m → node_at graph f i ≡ Some m) (j w r count to : ℕ) (name : List ℕ) (t : CType) (is_taken : Bool) (o : Option ℕ) (q : Option Function) → call_by_number P is_taken name t r count o j to → Found program.functions 0 o q → (rs : List Register) (stack : List Frame) (at : At) → length rs ≡ w → r < w → at.ticks ≤ n → (xs : List Content) → ((at1 : At) → contents_from rs r count at1 ≡ Gives xs at1) → (k : Content → At → Over) → Follows graph f stack is_taken w r to rs at k → Finishes graph (conf f j rs stack at) (finish ((elim (q) as (λ z. Step Content) [ None ↦ without_body name t is_taken | Some fun ↦ with_body program (invoke program n) fun xs ]) at) k)
+  call_run : (n : ℕ) → CallsRun graph program (invoke program n) n → (f : ℕ) (P : Stands) (nodes : (i : ℕ) (m : Node) → P i m → node_at graph f i ≡ Some m) (j w r count to : ℕ) (name : List ℕ) (t : CType) (is_taken : Bool) (o : Option ℕ) (q : Option Function) → call_by_number P graph.stubs is_taken name t r count o j to → Found program.functions 0 o q → (rs : List Register) (stack : List Frame) (at : At) → length rs ≡ w → r < w → at.ticks ≤ n → (xs : List Content) → ((at1 : At) → contents_from rs r count at1 ≡ Gives xs at1) → (k : Content → At → Over) → Follows graph f stack is_taken w r to rs at k → Finishes graph (conf f j rs stack at) (finish ((elim (q) as (λ z. Step Content) [ None ↦ without_body name t is_taken | Some fun ↦ with_body program (invoke program n) fun xs ]) at) k)
   call_run n ok f P nodes j w r count to name t is_taken None None has fd rs stack at long lt le xs e k h = missing_run graph f stack P nodes is_taken name t w r count j to has rs long lt at k h
   call_run n ok f P nodes j w r count to name t is_taken None (Some fun) has fd rs stack at long lt le xs e k h = absurd fd
   call_run n ok f P nodes j w r count to name t is_taken (Some i) None has fd rs stack at long lt le xs e k h = absurd fd
   call_run n ok f P nodes j w r count to name t is_taken (Some i) (Some fun) has fd rs stack at long lt le xs e k h =
       let number : i ≡ fd.0 = omega (arith, fd.1) in
       let there : slice_get program.functions i ≡ Some fun = ap (slice_get program.functions) number ∙ fd.2 in
-      by_code (code_at graph i) refl (subst (λ p. Lowered program graph.labels p (slice_get graph.codes i)) there (low.each i))
+      by_code (code_at graph i) refl (subst (λ p. Lowered program graph.labels graph.stubs p (slice_get graph.codes i)) there (low.each i))
     where
-      by_code : (z : Option Code) → code_at graph i ≡ z → Lowered program graph.labels (Some fun) z → Finishes graph (conf f j rs stack at) (finish (with_body program (invoke program n) fun xs at) k)
+      by_code : (z : Option Code) → code_at graph i ≡ z → Lowered program graph.labels graph.stubs (Some fun) z → Finishes graph (conf f j rs stack at) (finish (with_body program (invoke program n) fun xs at) k)
       by_code None is l = absurd l
       by_code (Some code) is l = entered_run n ok f P nodes j w r count to i is_taken has fun code is l rs stack at long lt le xs e k h
 
@@ -130,7 +130,7 @@ module _ (graph : Graph) (program : Program) (low : HasProgram program graph) wh
   over_same (Ends end at) = refl
 
   -- from the start on
-  started_run : (f : ℕ) (fun : Function) (code : Code) (ticks : ℕ) (is : code_at graph f ≡ Some code) → HasCode program graph.labels fun code → (a : Answer (Unit {0})) → Holds (λ u at. at.ticks ≤ ticks) a → (count : ℕ) × (next_of (elim (a) as (λ q. g.Next) [ Gives u at ↦ Goes (conf f code.start (blanks code.registers) [] at) | Ends end at ↦ Stops end at ]) (steps graph count) ≡ Some (over_by (elim (a) as (λ q. Answer Flow) [ Gives u at ↦ body_of program (invoke program (suc ticks)) fun at | Ends end at ↦ Ends end at ])))
+  started_run : (f : ℕ) (fun : Function) (code : Code) (ticks : ℕ) (is : code_at graph f ≡ Some code) → HasCode program graph.labels graph.stubs fun code → (a : Answer (Unit {0})) → Holds (λ u at. at.ticks ≤ ticks) a → (count : ℕ) × (next_of (elim (a) as (λ q. g.Next) [ Gives u at ↦ Goes (conf f code.start (blanks code.registers) [] at) | Ends end at ↦ Stops end at ]) (steps graph count) ≡ Some (over_by (elim (a) as (λ q. Answer Flow) [ Gives u at ↦ body_of program (invoke program (suc ticks)) fun at | Ends end at ↦ Ends end at ])))
   started_run f fun code ticks is has (Ends end at) le = (0, refl)
   started_run f fun code ticks is has (Gives u at) le =
       let n = suc ticks in
@@ -140,9 +140,9 @@ module _ (graph : Graph) (program : Program) (low : HasProgram program graph) wh
 
   -- the run of the program is a run of its graph
   pub agrees : (f : ℕ) (fun : Function) → slice_get program.functions f ≡ Some fun → (input : Input) (ticks : ℕ) → Runs graph f input ticks (run program fun input ticks)
-  agrees f fun is_fun input ticks = by_code (code_at graph f) refl (subst (λ p. Lowered program graph.labels p (slice_get graph.codes f)) is_fun (low.each f))
+  agrees f fun is_fun input ticks = by_code (code_at graph f) refl (subst (λ p. Lowered program graph.labels graph.stubs p (slice_get graph.codes f)) is_fun (low.each f))
     where
-      by_code : (z : Option Code) → code_at graph f ≡ z → Lowered program graph.labels (Some fun) z → Runs graph f input ticks (run program fun input ticks)
+      by_code : (z : Option Code) → code_at graph f ≡ z → Lowered program graph.labels graph.stubs (Some fun) z → Runs graph f input ticks (run program fun input ticks)
       by_code None is l = absurd l
       by_code (Some code) is l =
           let at0 = nowhere input ticks in

@@ -10,7 +10,8 @@ use Rattle.lt_ir.specs.declared.node.Node.TheVariants as node
 use Rattle.lt_ir.specs.declared.pure.How.TheVariants as how
 use Rattle.lt_ir.specs.Running.{Bound, At, Step, Over, ◌>>=◌, ◌>>◌, gives, tick, ends, without}
 use Rattle.lt_ir.specs.Evaluation.{number_in, used}
-use Rattle.lt_ir.specs.Graph.{Register, register_at, had, going, goes, arm_of}
+use Rattle.lt_ir.specs.Tables.{arm_of}
+use Rattle.lt_ir.specs.Graph.{Register, register_at, had, going, goes}
 use Rattle.lt_meaning.specs.Expressions.{Around, eval, marked, wanted, dropped, untaken}
 use Rattle.lt_meaning.specs.Statements.{Flow, Next, Breaks, Continues, Returns, after, next_turn, left_switch, opened, within, within_all, tested, tested_if, stepped, turns, do_turns, looped, do_looped, entry_label, exec, exec_items, exec_cases}
 use Rattle.lt_code.specs.Code.{full_test}
@@ -177,9 +178,9 @@ module _ (z : Scene) (expr : (v : Value) → Full z v) (test : (v : Value) → F
         let entries = Q.1 in
         let i = has.2.0 in
         tick_run z from has.0 rs at _ k has.1 (λ at1 lt l1. with_bind z.graph _ (eval here wanted v >>= (λ y. number_in y.value)) _ at1 k (full_then z v (expr v) wanted 0 has.0 i has.2.1 rs long at1 (omega arith) number_in _ (λ y at2 rs2 a2 l2.
-        through z.graph at2 (conf z.code i rs2 z.stack at2) (number_in y.value at2) (λ n at3. conf z.code (arm_of (arms_of entries) (default_of entries x.next) n) rs2 z.stack at3) _ (step_at z.graph z.code i (node.Switch 0 (arms_of entries) (default_of entries x.next)) rs2 z.stack at2 (z.nodes i _ Q.2) ∙ ap (λ c. going (had c >>= number_in) at2 (λ n. goes (conf z.code i rs2 z.stack at2) (arm_of (arms_of entries) (default_of entries x.next) n))) (a2.content refl)) (calm-number_in y.value at2) (λ n at3 l3.
+        through z.graph at2 (conf z.code i rs2 z.stack at2) (number_in y.value at2) (λ n at3. conf z.code (arm_of (arms_of entries) (default_of entries x.next) n) rs2 z.stack at3) _ (step_at z.graph z.code i (node.Switch 0 (arms_of entries) Q.2 (default_of entries x.next)) rs2 z.stack at2 (z.nodes i _ Q.3) ∙ ap (λ c. going (had c >>= number_in) at2 (λ n. goes (conf z.code i rs2 z.stack at2) (arm_of (arms_of entries) (default_of entries x.next) n))) (a2.content refl)) (calm-number_in y.value at2) (λ n at3 l3.
         let l03 = later_still at at2 at3 (later_still at at1 at2 l1 l2) l3 in
-        with_bind z.graph _ (exec_cases here (entry_label n its) false its) _ at3 k (subst (λ i. Run z i rs2 at3 (finish (exec_cases here (entry_label n its) false its at3) (λ flow at4. k (left_switch flow) at4))) (sym (switch_entry z.site its entries Q.0 x.next (inside_switch x) n Q.3)) (cases_run its (entry_label n its) entries Q.0 (inside_switch x) Q.3 rs2 a2.long at3 (omega (arith, l03.ticks)) (λ flow at4. k (left_switch flow) at4) (record {
+        with_bind z.graph _ (exec_cases here (entry_label n its) false its) _ at3 k (subst (λ i. Run z i rs2 at3 (finish (exec_cases here (entry_label n its) false its at3) (λ flow at4. k (left_switch flow) at4))) (sym (switch_entry z.site its entries Q.0 x.next (inside_switch x) n Q.4)) (cases_run its (entry_label n its) entries Q.0 (inside_switch x) Q.4 rs2 a2.long at3 (omega (arith, l03.ticks)) (λ flow at4. k (left_switch flow) at4) (record {
           next = λ at4 rs4 long4 l4. h.next at4 rs4 long4 (later_still at at3 at4 l03 l4);
           back = λ c at4 rs4 long4 is l4. h.back c at4 rs4 long4 is (later_still at at3 at4 l03 l4);
           leaves = λ at4 rs4 long4 l4. h.leaves at4 rs4 long4 (later_still at at3 at4 l03 l4);

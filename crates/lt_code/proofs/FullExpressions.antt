@@ -28,6 +28,7 @@ tracked_at tracks z = record {
   stack = z.stack;
   model = z.model;
   labels = z.labels;
+  stubs = z.stubs;
   structs = z.structs;
   locals = z.locals;
   nodes = z.nodes;

@@ -45,6 +45,7 @@ pub record Scene : Type 1 where
   pub stack : List Frame
   pub model : graph.model ≡ site.names.program.model
   pub labels : graph.labels ≡ site.labels
+  pub stubs : graph.stubs ≡ site.stubs
   pub structs : structs_of (code_at graph code) ≡ site.structs
   pub locals : locals_of (code_at graph code) ≡ site.locals
   pub nodes : (i : ℕ) (n : Node) → site.stands i n → node_at graph code i ≡ Some n

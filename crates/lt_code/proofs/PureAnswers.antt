@@ -6,23 +6,7 @@ use Rattle.lt_model.specs.declared.operator.Ub.TheVariants as U
 use Rattle.lt_model.specs.State.{CellName, Footprint, Valued, clash, joined, settle, untouched, Gives, Ends}
 use Rattle.lt_ir.specs.Running.{At, Answer, Step, ◌>>=◌, gives, defined, quietly}
 use Rattle.lt_ir.specs.Evaluation.{grown, settled_in, apart}
-
--- an expression that wrote nothing
-pub record Quiet (p : Footprint) : Type 0 where
-  pub settled : p.settled ≡ []
-  pub pending : p.pending ≡ []
-
-pub quiet_untouched : Quiet untouched
-quiet_untouched = record { settled = refl; pending = refl }
-
-pub quiet_joined : (p q : Footprint) → Quiet p → Quiet q → Quiet (joined p q)
-quiet_joined p q a b = record { settled = both p.settled q.settled a.settled b.settled; pending = both p.pending q.pending a.pending b.pending }
-  where
-    both : (xs ys : List CellName) → xs ≡ [] → ys ≡ [] → xs ++ ys ≡ []
-    both xs ys e f = subst (λ l. l ++ ys ≡ []) (sym e) f
-
-pub quiet_settled : (p : Footprint) → Quiet p → Quiet (settle p)
-quiet_settled p a = record { settled = subst (λ l. l ++ p.pending ≡ []) (sym a.settled) a.pending; pending = refl }
+use Rattle.lt_meaning.proofs.SameBut.{Quiet, quiet_joined, quiet_settled, apart_quiet}
 
 pub quiet_grown : (tracks : Bool) (p q : Footprint) → Quiet p → Quiet q → Quiet (grown tracks p q)
 quiet_grown true p q a b = quiet_joined p q a b
@@ -33,15 +17,9 @@ quiet_settled_in true p a = quiet_settled p a
 quiet_settled_in false p a = a
 
 -- two such expressions don't clash
-pub apart_quiet : (tracks : Bool) (p q : Footprint) → Quiet p → Quiet q → (at : At) → apart tracks p q at ≡ Gives (grown tracks p q) at
-apart_quiet false p q a b at = refl
-apart_quiet true p q a b at = ap (λ c. by_clash c) (lists p.reads q.reads p.settled p.pending q.settled q.pending a.settled a.pending b.settled b.pending)
-  where
-    by_clash : Bool → Answer Footprint
-    by_clash c = (if c then defined (Err U.Unsequenced) else gives (joined p q)) at
-
-    lists : (r r' s1 p1 s2 p2 : List CellName) → s1 ≡ [] → p1 ≡ [] → s2 ≡ [] → p2 ≡ [] → clash (record { reads = r; settled = s1; pending = p1 }) (record { reads = r'; settled = s2; pending = p2 }) ≡ false
-    lists r r' s1 p1 s2 p2 e1 e2 e3 e4 = rw (e1, e2, e3, e4) refl
+apart_grown : (tracks : Bool) (p q : Footprint) → Quiet p → Quiet q → (at : At) → apart tracks p q at ≡ Gives (grown tracks p q) at
+apart_grown false p q a b at = refl
+apart_grown true p q a b at = apart_quiet p q a b at
 
 -- an answer in the state where it began
 abbrev pub Stays : {A : Type 0} → At → Answer A → Type 0
@@ -83,7 +61,7 @@ same_step f at (Ends end at1) g h e k = tt
 
 -- the tree asks whether two parts clash
 pub same_apart : {C D : Type 0} (f : D → C) (tracks : Bool) (at : At) (m : Answer C) (p q : Footprint) (h : Footprint → Step (Valued D)) → Quiet p → Quiet q → Same f at m (h (grown tracks p q) at) → Same f at m ((apart tracks p q >>= h) at)
-same_apart f tracks at m p q h a b k = subst (λ n. Same f at m (elim (n) [ Gives x at1 ↦ h x at1 | Ends end at1 ↦ Ends end at1 ])) (sym (apart_quiet tracks p q a b at)) k
+same_apart f tracks at m p q h a b k = subst (λ n. Same f at m (elim (n) [ Gives x at1 ↦ h x at1 | Ends end at1 ↦ Ends end at1 ])) (sym (apart_grown tracks p q a b at)) k
 
 -- what both give, to which something is done
 pub same_quietly : {A : Type 0} (at : At) (m : Answer Content) (n : Answer (Valued Content)) (step : Content → Step A) → Same (λ c. c) at m n → quietly (λ _. elim (m) [ Gives a at1 ↦ step a at1 | Ends end at1 ↦ Ends end at1 ]) at ≡ quietly (λ _. elim (n) [ Gives x at1 ↦ step x.value at1 | Ends end at1 ↦ Ends end at1 ]) at

@@ -17,7 +17,8 @@ use Rattle.lt_ir.specs.declared.pure.How.TheVariants as how
 use Rattle.lt_ir.specs.Pure.{convert_as}
 use Rattle.lt_ir.specs.Running.{At, Answer, Step, ◌>>=◌, gives, defined, asked, absurdity, place, living_block}
 use Rattle.lt_ir.specs.Evaluation.{valued, number_in, address_in, truth_in, grown, loaded, moved, member_at, applied, counted, compared, reads, cell_at, is_some_address, used}
-use Rattle.lt_code.proofs.PureAnswers.{Quiet, quiet_grown, Stays, Same}
+use Rattle.lt_meaning.proofs.SameBut.{Quiet}
+use Rattle.lt_code.proofs.PureAnswers.{quiet_grown, Stays, Same}
 
 pub stays_bind : {A B : Type 0} (at : At) (m : Answer A) (g : A → Step B) → Stays at m → ((a : A) → Stays at (g a at)) → Stays at (elim (m) [ Gives a at1 ↦ g a at1 | Ends end at1 ↦ Ends end at1 ])
 stays_bind at (Gives a at1) g e k = subst (λ t. Stays at (g a t)) (sym e) (k a)
@@ -122,12 +123,3 @@ alike_swapped {A} {B} {C} at l r k sl sr = by_answers (l at) (r at) refl refl sl
     by_answers (Gives a at1) (Ends end at2) e1 e2 h1 h2 = subst (λ n. Alike (Ends end at2) (elim (n) [ Gives b at1 ↦ k a b at1 | Ends end at1 ↦ Ends end at1 ])) (sym (ap r h1 ∙ e2)) tt
     by_answers (Ends end at1) (Gives b at2) e1 e2 h1 h2 = subst (λ n. Alike (elim (n) [ Gives a at1 ↦ k a b at1 | Ends end at1 ↦ Ends end at1 ]) (Ends end at1)) (sym (ap l h2 ∙ e1)) tt
     by_answers (Ends end at1) (Ends end' at2) e1 e2 h1 h2 = tt
-
-pub and_left : (a b : Bool) → (a && b) ≡ true → a ≡ true
-and_left true b e = refl
-and_left false b e = e
-
-pub and_right : (a b : Bool) → (a && b) ≡ true → b ≡ true
-and_right true b e = e
-and_right false true e = refl
-and_right false false e = e

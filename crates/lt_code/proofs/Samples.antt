@@ -97,7 +97,7 @@ bounded = record {
   };
 }
 
-stands : HasCode s.program [] s.counting s.code
+stands : HasCode s.program [] [] s.counting s.code
 stands =
     let first : 0 < 4 = omega arith in
     let fourth : 3 < 4 = omega arith in
@@ -163,7 +163,7 @@ short_bounded = record {
   };
 }
 
-short_stands : HasCode s.program [] s.empty s.short
+short_stands : HasCode s.program [] [] s.empty s.short
 short_stands = record {
   name = refl;
   params = refl;

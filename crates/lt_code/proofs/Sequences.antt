@@ -68,7 +68,7 @@ passed_run z (a_value v vs) r i to has rs at (c ∷ cs) k held count room h =
 
 -- What a call gives is what the graph's tick and call do, while at most n ticks are left.
 pub record CallsRun (graph : Graph) (program : Program) (calls : Calls) (n : ℕ) : Type 1 where
-  pub by : (P : Stands) (f : ℕ) → ((i : ℕ) (m : Node) → P i m → node_at graph f i ≡ Some m) → (i j w r count to : ℕ) (name : List ℕ) (t : CType) (is_taken : Bool) → P i (node.Tick j) → call P program.functions is_taken name t r count j to → (rs : List Register) (stack : List Frame) (at : At) → length rs ≡ w → r < w → at.ticks ≤ n → (xs : List Content) → ((at1 : At) → contents_from rs r count at1 ≡ Gives xs at1) → (k : Content → At → Over) → ((c : Content) (at1 : At) (rs1 : List Register) → After is_taken w r rs rs1 (valued c (footprint_at rs r)) → Later at at1 → Finishes graph (conf f to rs1 stack at1) (k c at1)) → Finishes graph (conf f i rs stack at) (finish (calls name t xs is_taken at) k)
+  pub by : (P : Stands) (f : ℕ) → ((i : ℕ) (m : Node) → P i m → node_at graph f i ≡ Some m) → (i j w r count to : ℕ) (name : List ℕ) (t : CType) (is_taken : Bool) → P i (node.Tick j) → call P graph.stubs program.functions is_taken name t r count j to → (rs : List Register) (stack : List Frame) (at : At) → length rs ≡ w → r < w → at.ticks ≤ n → (xs : List Content) → ((at1 : At) → contents_from rs r count at1 ≡ Gives xs at1) → (k : Content → At → Over) → ((c : Content) (at1 : At) (rs1 : List Register) → After is_taken w r rs rs1 (valued c (footprint_at rs r)) → Later at at1 → Finishes graph (conf f to rs1 stack at1) (k c at1)) → Finishes graph (conf f i rs stack at) (finish (calls name t xs is_taken at) k)
 
 pub call_runs : (z : Scene) → CallsRun z.graph (program_at z) z.calls z.most → (t : CType) (name : List ℕ) (vs : Values) → Arguments z vs → Expr z (e.Call t name vs)
 call_runs z ok t name vs arguments fate r from to has rs long at le k h =
@@ -80,7 +80,7 @@ call_runs z ok t name vs arguments fate r from to has rs long at le k h =
     settled_node z P.0 r P.2.0 P.2.1 rs1 at1 xs.footprint _ (omega (arith, a.long, has.0)) a.footprint (λ rs2 wr.
     let c2 = after_arguments_tracked w r (count_of vs) rs rs1 rs2 xs q a wr in
     bind_run z P.2.0 rs2 (passed_in (program_at z) vs xs.value) (λ ys. z.calls name t ys (takes fate) >>= (λ c. gives (valued c q))) at1 k (passed_run z vs r P.2.0 P.2.2.0 P.2.2.1 rs2 at1 xs.value _ c2.contents c2.count (omega (arith, c2.room, c2.long)) (λ ys at2 rs3 p count l2.
-    bind_run z P.2.2.0 rs3 (z.calls name t ys (takes fate)) (λ c. gives (valued c q)) at2 k (ok.by z.site.stands z.code z.nodes P.2.2.0 P.2.2.2.0 w r (count_of vs) to name t (takes fate) P.2.2.2.1 P.2.2.2.2 rs3 z.stack at2 (p.long ∙ c2.long) has.0 (omega (arith, l1.ticks, l2.ticks)) ys (λ at. subst (λ n. contents_from rs3 r n at ≡ Gives ys at) count (contents_held rs3 ys r p.contents at)) _ (λ c at3 rs4 a3 l3.
+    bind_run z P.2.2.0 rs3 (z.calls name t ys (takes fate)) (λ c. gives (valued c q)) at2 k (ok.by z.site.stands z.code z.nodes P.2.2.0 P.2.2.2.0 w r (count_of vs) to name t (takes fate) P.2.2.2.1 (subst (λ stubs. call z.site.stands stubs (program_at z).functions (takes fate) name t r (count_of vs) P.2.2.2.0 to) (sym z.stubs) P.2.2.2.2) rs3 z.stack at2 (p.long ∙ c2.long) has.0 (omega (arith, l1.ticks, l2.ticks)) ys (λ at. subst (λ n. contents_from rs3 r n at ≡ Gives ys at) count (contents_held rs3 ys r p.contents at)) _ (λ c at3 rs4 a3 l3.
     h (valued c q) at3 rs4 (after_call (takes fate) w r (count_of vs) rs rs2 rs3 rs4 (valued xs.value q) ys c c2 p a3) (later_still at at1 at3 l1 (later_still at1 at2 at3 l2 l3)))))))))
 
 -- ---- comma expressions

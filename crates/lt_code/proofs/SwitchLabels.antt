@@ -6,7 +6,8 @@ use Rattle.std.specs.List.{list_any}
 use Rattle.lt_tree.specs.Typing.TypedTree as e
 use Rattle.lt_tree.specs.Typing.TypedTree.{Cases, Label}
 use Rattle.lt_meaning.specs.Statements.{is_case, is_default, has_label, entry_label}
-use Rattle.lt_ir.specs.Graph.{arm_of}
+use Rattle.lt_ir.specs.Tables.{arm_of}
+use Rattle.lt_ir.proofs.Membership.{or_assoc}
 use Rattle.lt_code.specs.Code.{Site}
 use Rattle.lt_code.specs.Bodies.{Exits, Entry, at_case, at_default, arms_of, default_of, labels_at, cases}
 
@@ -20,10 +21,6 @@ abbrev is_listed : (Label → Bool) → List Entry → Bool
 is_listed test [] = false
 is_listed test (at_case z place ∷ places) = test (e.Case z) || is_listed test places
 is_listed test (at_default place ∷ places) = test e.Default || is_listed test places
-
-or_assoc : (a b c : Bool) → ((a || b) || c) ≡ (a || (b || c))
-or_assoc true b c = refl
-or_assoc false b c = refl
 
 -- labels that lead to one place
 pub entry_labels : (test : Label → Bool) (labels : List Label) (from : ℕ) (more : List Entry) (to : ℕ) → entry_at test (labels_at labels from more) to ≡ (if list_any test labels then from else entry_at test more to)

@@ -172,7 +172,8 @@ inside_switch x = record { next = x.next; back = x.back; leaves = x.leaves; brea
 -- the choice of a `switch`, over the code of its statements
 abbrev pub switch : Site → (List Entry → Flows) → Flows
 switch s body from x =
-    (first : ℕ) × (entries : List Entry) × s.stands from (node.Switch 0 (arms_of entries) (default_of entries x.next))
+    (first : ℕ) × (entries : List Entry) × (table : List Arm)
+    × s.stands from (node.Switch 0 (arms_of entries) table (default_of entries x.next))
     × body entries first (inside_switch x)
 
 abbrev mutual
@@ -228,12 +229,13 @@ parameters_of program ns =
 abbrev pub stands_in : List Node → Stands
 stands_in nodes i n = slice_get nodes i ≡ Some n
 
-abbrev pub site_of : Program → List LabelInfo → Function → Code → Stands → Site
-site_of program labels f code P = record {
+abbrev pub site_of : Program → List LabelInfo → (stubs : List (List ℕ)) → Function → Code → Stands → Site
+site_of program labels stubs f code P = record {
   names = record { program = program; variable = variable_of program f };
   locals = code.locals;
   structs = code.structs;
   labels = labels;
+  stubs = stubs;
   registers = code.registers;
   stands = P;
   tracks = true;
@@ -244,7 +246,8 @@ abbrev pub of_body : (back leaves : ℕ) → Exits
 of_body back leaves = record { next = leaves; back = back; leaves = leaves; breaks = leaves; continues = leaves }
 
 -- the code of a function
-pub record HasCode (program : Program) (labels : List LabelInfo) (f : Function) (code : Code) : Type 0 where
+pub record HasCode (program : Program) (labels : List LabelInfo) (stubs : List (List ℕ)) (f : Function) (code : Code)
+    : Type 0 where
   pub name : code.name ≡ f.name
   pub params : code.params ≡ parameters_of program f.parameters
   pub first : ℕ
@@ -253,18 +256,18 @@ pub record HasCode (program : Program) (labels : List LabelInfo) (f : Function) 
   pub last : ℕ
   pub end : ℕ
   pub seals : parameters_sealed (stands_in code.nodes) program 0 f.parameters code.start first
-  pub body : items (site_of program labels f code (stands_in code.nodes)) f.body first (of_body back leaves)
+  pub body : items (site_of program labels stubs f code (stands_in code.nodes)) f.body first (of_body back leaves)
   -- with the value in register 0, if there are registers, and with that of the body's end
   pub ends_with : parameters_end (stands_in code.nodes) 0 f.parameters back last
   pub gives_it : 0 < code.registers → stands_in code.nodes last (node.Return (given.Held 0))
   pub ends_without : parameters_end (stands_in code.nodes) 0 f.parameters leaves end
   pub gives_none : stands_in code.nodes end (node.Return (given.Fixed (value_at_end f)))
 
-abbrev pub Lowered : Program → List LabelInfo → Option Function → Option Code → Type 0
-Lowered program labels None None = Unit {0}
-Lowered program labels (Some f) (Some code) = HasCode program labels f code
-Lowered program labels None (Some code) = ⊥
-Lowered program labels (Some f) None = ⊥
+abbrev pub Lowered : Program → List LabelInfo → (stubs : List (List ℕ)) → Option Function → Option Code → Type 0
+Lowered program labels stubs None None = Unit {0}
+Lowered program labels stubs (Some f) (Some code) = HasCode program labels stubs f code
+Lowered program labels stubs None (Some code) = ⊥
+Lowered program labels stubs (Some f) None = ⊥
 
 abbrev pub label_of : TypedLabel → LabelInfo
 label_of label = record { id = label.id; tag = label.tag; bound = label.bound }
@@ -274,4 +277,5 @@ pub record HasProgram (program : Program) (graph : Graph) : Type 0 where
   pub model : graph.model ≡ program.model
   pub statics : graph.statics ≡ initials program program.objects
   pub labels : graph.labels ≡ map label_of program.labels
-  pub each : (f : ℕ) → Lowered program graph.labels (slice_get program.functions f) (slice_get graph.codes f)
+  pub each : (f : ℕ) →
+      Lowered program graph.labels graph.stubs (slice_get program.functions f) (slice_get graph.codes f)

@@ -45,6 +45,8 @@ pub record Site : Type 1 where
   pub locals : List Shape
   pub structs : List Shape
   pub labels : List LabelInfo
+  -- the names of functions without a body that have values
+  pub stubs : List (List ℕ)
   pub registers : ℕ
   pub stands : Stands
   -- whether footprints are tracked
@@ -186,18 +188,25 @@ abbrev pub taken_into : Bool → ℕ → Option ℕ
 taken_into true r = Some r
 taken_into false r = None
 
+-- the next value for a function without a body, by its place in the graph's table
+abbrev pub next_for : Stands → (stubs : List (List ℕ)) → List ℕ → (r : ℕ) → Piece
+next_for P stubs name r from to = (k : ℕ) × (slice_get stubs k ≡ Some name) × P from (node.Stub k r to)
+
 -- the value of a function without a body: void has none, and others have it from the input
-abbrev pub stub : Stands → List ℕ → CType → (r : ℕ) → Piece
-stub P name t r = either (is_void t) (one P (node.Constant r content.Unset true)) (one P (node.Stub name (Some r)))
+abbrev pub stub : Stands → (stubs : List (List ℕ)) → List ℕ → CType → (r : ℕ) → Piece
+stub P stubs name t r = either (is_void t) (one P (node.Constant r content.Unset true)) (next_for P stubs name r)
 
 -- the call itself, behind its arguments and its tick
-abbrev pub call_by_number : Stands → (is_taken : Bool) → List ℕ → CType → (r n : ℕ) → Option ℕ → Piece
-call_by_number P is_taken name t r n None =
-    either (stops name) (λ from to. P from node.Stop) (when is_taken (stub P name t r))
-call_by_number P is_taken name t r n (Some k) = one P (node.Call k (taken_into is_taken r) r n)
+abbrev pub call_by_number : Stands → (stubs : List (List ℕ)) → (is_taken : Bool) → List ℕ → CType → (r n : ℕ) →
+    Option ℕ → Piece
+call_by_number P stubs is_taken name t r n None =
+    either (stops name) (λ from to. P from node.Stop) (when is_taken (stub P stubs name t r))
+call_by_number P stubs is_taken name t r n (Some k) = one P (node.Call k (taken_into is_taken r) r n)
 
-abbrev pub call : Stands → List Function → (is_taken : Bool) → List ℕ → CType → (r n : ℕ) → Piece
-call P functions is_taken name t r n = call_by_number P is_taken name t r n (number_among 0 name functions)
+abbrev pub call : Stands → (stubs : List (List ℕ)) → List Function → (is_taken : Bool) → List ℕ → CType → (r n : ℕ) →
+    Piece
+call P stubs functions is_taken name t r n =
+    call_by_number P stubs is_taken name t r n (number_among 0 name functions)
 
 -- ---- tests
 
@@ -340,7 +349,7 @@ abbrev mutual
       plain s (λ fate r. stepping s t r (place_of s p r) (stepped s op size r) when)
   codes_of s (e.Call t name vs) =
       plain s (λ fate r. up_to s r (arguments_of s vs r ▸ clash s (Settled r) ▸ passed s vs r ▸ one s.stands node.Tick
-      ▸ call s.stands (program_in s).functions (takes fate) name t r (count_of vs)))
+      ▸ call s.stands s.stubs (program_in s).functions (takes fate) name t r (count_of vs)))
   codes_of s (e.Comma t no_values) = plain s (λ fate r. up_to s r (constant s r content.Unset))
   codes_of s (e.Comma t (a_value v vs)) =
       plain s (λ fate r. up_to s r (constant s r content.Unset

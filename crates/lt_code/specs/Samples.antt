@@ -147,9 +147,9 @@ short = record {
 
 -- a code of a function is within its bounds, and its numbers are in range
 pub record IsWorkedOut (f : Function) (it : Code) : Type 0 where
-  pub stands : HasCode program [] f it
+  pub stands : HasCode program [] [] f it
   pub bounded : IsBounded (size_of program.functions f) it
-  pub in_range : is_code (counts_in 1 0 0 it) it ≡ true
+  pub in_range : is_code (counts_in 1 0 0 0 it) it ≡ true
 
 abbrev pub CodesAreWorkedOut : Type 0
 CodesAreWorkedOut = IsWorkedOut counting code × IsWorkedOut empty short

@@ -1,3 +1,3 @@
 pub mod OneWay
-mod Membership
+pub mod Membership
 mod Prepared

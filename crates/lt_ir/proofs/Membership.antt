@@ -5,7 +5,7 @@ use Rattle.std.specs.List.{list_any}
 use Rattle.lt_model.specs.State.{CellName, same_cell, meets}
 use Rattle.lt_ir.specs.Membership.{HaveTheSame, FootprintsCountByMembership}
 
-or_assoc : (a b c : Bool) → ((a || b) || c) ≡ (a || (b || c))
+pub or_assoc : (a b c : Bool) → ((a || b) || c) ≡ (a || (b || c))
 or_assoc true b c = refl
 or_assoc false b c = refl
 

@@ -1,6 +1,6 @@
 -- What is found in prepared tables is what stands in the lists.
 use Rattle.std.proofs.Common.{◌≡◌, ℕ, zero, suc, ℤ, ◌≤◌, ◌<ℤ◌, List, [], ◌∷◌, length, Option, Some, None, Bool, true, false, Ordering, Less, Equal, Greater, refl, sym, ap, ◌∙◌, subst, arith}
-use Rattle.std.specs.Prelude.{◌++◌, option_map, if◌then◌else◌, slice_get}
+use Rattle.std.specs.Prelude.{option_map, if◌then◌else◌, slice_get}
 use Rattle.std.specs.Ordering.{int_cmp, int_eq, MatchOrdering}
 use Rattle.std.specs.Cmp.{int_ranks, int_chain}
 use Rattle.std.specs.Int.Signed.{<ℤ_irrefl}
@@ -11,10 +11,33 @@ use Rattle.std.proofs.lemmas.Slice.Eq.{bytes_eq-Decides}
 use Rattle.lt_model.proofs.Fitting.{eq_true, eq_false}
 use Rattle.lt_ir.specs.declared.node.Arm.{Arm}
 use Rattle.lt_ir.specs.Running.{next_value, first_value, put_before}
-use Rattle.lt_ir.specs.Graph.{arm_of}
-use Rattle.lt_ir.specs.Prepared.{AreAbove, IsAscending, put_arm, table_of, IsTableOf, found_by, SwitchesAreTables, place_of, first_of, value_of, value_at, StubsHavePlaces, RegistersBeginBlank}
+use Rattle.lt_ir.specs.Tables.{arm_of, IsAscending, IsTableOf}
+use Rattle.lt_ir.specs.Prepared.{put_arm, table_of, AreFoundByValue, OthersFindNone, SwitchesAreTables, place_of, first_of, value_of, value_at, StubsHavePlaces, RegistersBeginBlank}
 
--- ---- order
+-- ---- order, by recursion
+
+abbrev AreAbove : ℤ → List Arm → Type 0
+AreAbove z [] = Unit {0}
+AreAbove z (arm ∷ arms) = (z <ℤ arm.value) × AreAbove z arms
+
+abbrev Ascends : List Arm → Type 0
+Ascends [] = Unit {0}
+Ascends (arm ∷ arms) = AreAbove arm.value arms × Ascends arms
+
+above_at : (z : ℤ) (arms : List Arm) (j : ℕ) (other : Arm) → AreAbove z arms → slice_get arms j ≡ Some other → z <ℤ other.value
+above_at z [] j other all is = absurd (cc)
+above_at z (arm ∷ arms) zero other all is =
+    let same : arm ≡ other = cc in
+    subst (λ a. z <ℤ a.value) same all.0
+above_at z (arm ∷ arms) (suc j) other all is = above_at z arms j other all.1 is
+
+ascending : (table : List Arm) → Ascends table → IsAscending table
+ascending [] up i j arm other lt is is' = absurd (cc)
+ascending (it ∷ table) up i zero arm other lt is is' = absurd (omega arith)
+ascending (it ∷ table) up zero (suc j) arm other lt is is' =
+    let same : it ≡ arm = cc in
+    subst (λ a. a.value <ℤ other.value) same (above_at it.value table j other up.0 is')
+ascending (it ∷ table) up (suc i) (suc j) arm other lt is is' = ascending table up.1 i j arm other (omega (arith, lt)) is is'
 
 above_all : (y z : ℤ) (arms : List Arm) → y <ℤ z → AreAbove z arms → AreAbove y arms
 above_all y z [] lt all = tt
@@ -29,12 +52,12 @@ above_put z arm (it ∷ table) lt all = by (int_cmp arm.value it.value) (above_p
     by Equal rest = (lt, all.1)
     by Greater rest = (all.0, rest)
 
-put_ascending : (arm : Arm) (table : List Arm) → IsAscending table → IsAscending (put_arm arm table)
+put_ascending : (arm : Arm) (table : List Arm) → Ascends table → Ascends (put_arm arm table)
 put_ascending arm [] h = (tt, tt)
 put_ascending arm (it ∷ table) h =
     by (int_cmp arm.value it.value) (int_ranks arm.value it.value) (put_ascending arm table h.1)
   where
-    by : (o : Ordering) → MatchOrdering o (arm.value <ℤ it.value) (arm.value ≡ it.value) (it.value <ℤ arm.value) → IsAscending (put_arm arm table) → IsAscending (elim (o) as (λ q. List Arm) [ Less ↦ arm ∷ it ∷ table | Equal ↦ arm ∷ table | Greater ↦ it ∷ put_arm arm table ])
+    by : (o : Ordering) → MatchOrdering o (arm.value <ℤ it.value) (arm.value ≡ it.value) (it.value <ℤ arm.value) → Ascends (put_arm arm table) → Ascends (elim (o) as (λ q. List Arm) [ Less ↦ arm ∷ it ∷ table | Equal ↦ arm ∷ table | Greater ↦ it ∷ put_arm arm table ])
     by Less lt rest = ((lt, above_all arm.value it.value table lt h.0), h)
     by Equal e rest = (subst (λ z. AreAbove z table) (sym e) h.0, h.1)
     by Greater gt rest = (above_put it.value arm table gt h.0, rest)
@@ -79,69 +102,41 @@ put_same arm (it ∷ table) default z =
         ap (λ n. if int_eq it.value z then it.next else n) rest
         ∙ swapped (int_eq it.value z) (int_eq arm.value z) it.next arm.next (arm_of table default z) (λ b c. less_apart it.value arm.value gt ((Decides-int_eq it.value z).0 b ∙ sym ((Decides-int_eq arm.value z).0 c)))
 
+ascends : (arms : List Arm) → Ascends (table_of arms)
+ascends [] = tt
+ascends (arm ∷ arms) = put_ascending arm (table_of arms) (ascends arms)
+
+few : (arms : List Arm) → length (table_of arms) ≤ length arms
+few [] = omega arith
+few (arm ∷ arms) = omega (arith, put_few arm (table_of arms), few arms)
+
+same_found : (arms : List Arm) (default : ℕ) (z : ℤ) → arm_of (table_of arms) default z ≡ arm_of arms default z
+same_found [] default z = refl
+same_found (arm ∷ arms) default z =
+    put_same arm (table_of arms) default z ∙ ap (λ n. if int_eq arm.value z then arm.next else n) (same_found arms default z)
+
 pub tabled : (arms : List Arm) → IsTableOf (table_of arms) arms
-tabled [] = record { ascending = tt; few = omega arith; same = λ default z. refl }
-tabled (arm ∷ arms) =
-    let rest = tabled arms in
-    record {
-      ascending = put_ascending arm (table_of arms) rest.ascending;
-      few = omega (arith, put_few arm (table_of arms), rest.few);
-      same = λ default z. put_same arm (table_of arms) default z ∙ ap (λ n. if int_eq arm.value z then arm.next else n) (rest.same default z);
-    }
+tabled arms = (ascending (table_of arms) (ascends arms), few arms, same_found arms)
 
--- ---- halves
+-- ---- what is found by value
 
-none_above : (y z : ℤ) (arms : List Arm) (default : ℕ) → z <ℤ y → AreAbove y arms → arm_of arms default z ≡ default
-none_above y z [] default lt all = refl
-none_above y z (arm ∷ arms) default lt all =
-    ap (λ b. if b then arm.next else arm_of arms default z) (eq_false arm.value z (λ e. less_apart z arm.value (int_chain z y arm.value lt all.0) (sym e)))
-    ∙ none_above y z arms default lt all.1
+pub found_at : (table : List Arm) → IsAscending table → AreFoundByValue table
+found_at [] up k default arm is = absurd (cc)
+found_at (it ∷ table) up zero default arm is =
+    let same : it ≡ arm = cc in
+    ap (λ b. if b then it.next else arm_of table default arm.value) (eq_true it.value arm.value (ap (λ a. a.value) same)) ∙ ap (λ a. a.next) same
+found_at (it ∷ table) up (suc k) default arm is =
+    ap (λ b. if b then it.next else arm_of table default arm.value) (eq_false it.value arm.value (less_apart it.value arm.value (up 0 (suc k) it arm (omega arith) refl is)))
+    ∙ found_at table (λ i j a b lt is is'. up (suc i) (suc j) a b (omega (arith, lt)) is is') k default arm is
 
-above_there : (z : ℤ) (before : List Arm) (arm : Arm) (after : List Arm) → AreAbove z (before ++ arm ∷ after) → z <ℤ arm.value
-above_there z [] arm after all = all.0
-above_there z (it ∷ before) arm after all = above_there z before arm after all.1
-
-above_before : (z : ℤ) (before : List Arm) (arm : Arm) (after : List Arm) → AreAbove z (before ++ arm ∷ after) → AreAbove z before
-above_before z [] arm after all = tt
-above_before z (it ∷ before) arm after all = (all.0, above_before z before arm after all.1)
-
-differs : (it : Arm) (z : ℤ) (n m k : ℕ) → (it.value ≡ z → ⊥) → n ≡ m → (if int_eq it.value z then k else n) ≡ m
-differs it z n m k apart e = ap (λ b. if b then k else n) (eq_false it.value z apart) ∙ e
-
-found : (before : List Arm) (arm : Arm) (after : List Arm) → IsAscending (before ++ arm ∷ after) → (default : ℕ) (z : ℤ) → arm_of (before ++ arm ∷ after) default z ≡ found_by (int_cmp z arm.value) before arm after default z
-found [] arm after up default z = by (int_cmp z arm.value) (int_ranks z arm.value)
-  where
-    by : (o : Ordering) → MatchOrdering o (z <ℤ arm.value) (z ≡ arm.value) (arm.value <ℤ z) → (if int_eq arm.value z then arm.next else arm_of after default z) ≡ found_by o [] arm after default z
-    by Less lt = differs arm z _ _ arm.next (λ e. less_apart z arm.value lt (sym e)) (none_above arm.value z after default lt up.0)
-    by Equal e = ap (λ b. if b then arm.next else arm_of after default z) (eq_true arm.value z (sym e))
-    by Greater gt = differs arm z _ _ arm.next (less_apart arm.value z gt) refl
-found (it ∷ before) arm after up default z = by (int_cmp z arm.value) (int_ranks z arm.value) (found before arm after up.1 default z)
-  where
-    below : it.value <ℤ arm.value
-    below = above_there it.value before arm after up.0
-
-    by : (o : Ordering) → MatchOrdering o (z <ℤ arm.value) (z ≡ arm.value) (arm.value <ℤ z) → arm_of (before ++ arm ∷ after) default z ≡ found_by o before arm after default z → (if int_eq it.value z then it.next else arm_of (before ++ arm ∷ after) default z) ≡ found_by o (it ∷ before) arm after default z
-    by Less lt e = ap (λ n. if int_eq it.value z then it.next else n) e
-    by Equal same e = differs it z _ _ it.next (λ d. less_apart it.value arm.value below (d ∙ same)) e
-    by Greater gt e = differs it z _ _ it.next (less_apart it.value z (int_chain it.value arm.value z below gt)) e
-
-ascending_before : (before : List Arm) (arm : Arm) (after : List Arm) → IsAscending (before ++ arm ∷ after) → IsAscending before
-ascending_before [] arm after up = tt
-ascending_before (it ∷ before) arm after up = (above_before it.value before arm after up.0, ascending_before before arm after up.1)
-
-ascending_after : (before : List Arm) (arm : Arm) (after : List Arm) → IsAscending (before ++ arm ∷ after) → IsAscending after
-ascending_after [] arm after up = up.1
-ascending_after (it ∷ before) arm after up = ascending_after before arm after up.1
+pub found_nowhere : (table : List Arm) → OthersFindNone table
+found_nowhere [] default z none = refl
+found_nowhere (it ∷ table) default z none =
+    ap (λ b. if b then it.next else arm_of table default z) (eq_false it.value z (none 0 it refl))
+    ∙ found_nowhere table default z (λ k arm is. none (suc k) arm is)
 
 pub switches : SwitchesAreTables
-switches = (
-  tabled,
-  λ before arm after up. record {
-    ascending_before = ascending_before before arm after up;
-    ascending_after = ascending_after before arm after up;
-    found = found before arm after up;
-  },
-)
+switches = (tabled, λ table up. (found_at table up, found_nowhere table))
 
 -- ---- values for functions without a body
 

@@ -1,8 +1,7 @@
 -- What graph code does: nodes that name their successors, over registers. Each register has a content, or none, and the
 -- footprint of the expression whose value it is.
-use Rattle.std.specs.Prelude.{◌≡◌, ℕ, zero, suc, ℤ, List, [], ◌∷◌, Bool, true, false, Option, Some, None, if◌then◌else◌}
+use Rattle.std.specs.Prelude.{◌≡◌, ℕ, zero, suc, List, [], ◌∷◌, Bool, true, false, Option, Some, None, if◌then◌else◌}
 use Rattle.std.specs.Prelude.{map, slice_get, slice_set}
-use Rattle.std.specs.Ordering.{int_eq}
 use Rattle.lt_model.specs.declared.cell.Content.{Content}
 use Rattle.lt_model.specs.declared.cell.Content.TheVariants as content
 use Rattle.lt_model.specs.declared.cell.Shape.{Shape}
@@ -25,7 +24,6 @@ use Rattle.lt_ir.specs.declared.node.Parts.{Parts}
 use Rattle.lt_ir.specs.declared.node.Parts.TheVariants.{Unsequenced, Sequenced, Settled, Read, Target}
 use Rattle.lt_ir.specs.declared.node.Given.{Given}
 use Rattle.lt_ir.specs.declared.node.Given.TheVariants.{Nothing, Fixed, Held}
-use Rattle.lt_ir.specs.declared.node.Arm.{Arm}
 use Rattle.lt_ir.specs.declared.node.Node.{Node}
 use Rattle.lt_ir.specs.declared.node.Node.TheVariants as node
 use Rattle.lt_ir.specs.Running.{Bound, At, Step, gives, absurdity, ◌>>=◌, ◌>>◌, tick, one_deeper, place, begins, ends}
@@ -35,6 +33,7 @@ use Rattle.lt_ir.specs.Evaluation.{valued, number_in, address_in, used, truth_in
 use Rattle.lt_ir.specs.Evaluation.{loaded, stored, copied, with_reads, moved, member_at, applied, counted, compared}
 use Rattle.lt_ir.specs.Evaluation.{store_parameters}
 use Rattle.lt_ir.specs.Starting.{started, nowhere}
+use Rattle.lt_ir.specs.Tables.{arm_of}
 use Rattle.lt_ir.specs.Pure.{Pure, convert_as, look, looked_at}
 use Rattle.lt_ir.specs.PureView.{pure_of}
 
@@ -157,10 +156,6 @@ parted structs rs (Target r access) = do
   p ← aimed true (cells_of structs access) a (footprint_at rs r)
   gives (with_footprint rs r p)
 
-abbrev pub arm_of : List Arm → ℕ → ℤ → ℕ
-arm_of [] default z = default
-arm_of (arm ∷ arms) default z = if int_eq arm.value z then arm.next else arm_of arms default z
-
 -- ---- calls
 
 abbrev pub contents_from : List Register → ℕ → ℕ → Step (List Content)
@@ -229,9 +224,10 @@ given rs Nothing = gives content.Unset
 given rs (Fixed c) = gives c
 given rs (Held r) = content_at rs r
 
-abbrev pub stub_for : List ℕ → Option ℕ → State → ℕ → Next
-stub_for name None s next = goes s next s.at
-stub_for name (Some r) s next = going (stub_value name) s.at (puts s r next)
+-- the next value for a function without a body
+abbrev pub stub_for : Option (List ℕ) → (r : ℕ) → State → (next : ℕ) → Next
+stub_for None r s next = Stops Stopped s.at
+stub_for (Some name) r s next = going (stub_value name) s.at (puts s r next)
 
 -- ---- marks
 
@@ -304,10 +300,10 @@ act g code (Some (node.Seal v next)) s = going (seals v) s.at (λ _. goes s next
 act g code (Some (node.End v next)) s = going (ends v) s.at (λ _. goes s next)
 act g code (Some (node.Branch test on off)) s =
     going (content_at s.registers test >>= truth_in) s.at (λ b. goes s (if b then on else off))
-act g code (Some (node.Switch value arms default)) s =
+act g code (Some (node.Switch value arms table default)) s =
     going (content_at s.registers value >>= number_in) s.at (λ z. goes s (arm_of arms default z))
 act g code (Some (node.Call f to first count next)) s = calls g.model (slice_get g.codes f) s f to first count next
-act g code (Some (node.Stub name to next)) s = stub_for name to s next
+act g code (Some (node.Stub k to next)) s = stub_for (slice_get g.stubs k) to s next
 act g code (Some node.Stop) s = Stops Stopped s.at
 act g code (Some (node.Return value)) s = going (given s.registers value) s.at (returns s.stack)
 act g code (Some (node.Tick next)) s = going tick s.at (λ _. goes s next)

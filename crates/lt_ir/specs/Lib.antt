@@ -4,6 +4,7 @@ pub mod Starting
 pub mod Pure
 pub mod PureView
 pub mod Ranges
+pub mod Tables
 pub mod Graph
 pub mod Outcomes
 pub mod Membership

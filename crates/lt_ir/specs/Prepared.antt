@@ -1,25 +1,17 @@
--- Tables that a machine prepares once, and what it finds there: the same as in the lists of graph code.
-use Rattle.std.specs.Prelude.{◌≡◌, ℕ, suc, ℤ, ◌≤◌, ◌<ℤ◌, List, [], ◌∷◌, ◌++◌, length, Option, Some, None, option_map}
+-- What is prepared once for a machine: arms of a switch have a table, in which they are found by value; values for
+-- functions without a body stand at places; registers begin blank.
+use Rattle.std.specs.Prelude.{◌≡◌, ℕ, suc, ℤ, List, [], ◌∷◌, Option, Some, None, option_map}
 use Rattle.std.specs.Prelude.{if◌then◌else◌, slice_get, slice_set}
 use Rattle.std.specs.Ordering.{int_cmp}
-use Rattle.std.specs.declared.cmp.Ordering.{Ordering}
 use Rattle.std.specs.declared.cmp.Ordering.TheVariants.{Less, Equal, Greater}
 use Rattle.std.specs.Str.{bytes_eq}
 use Rattle.lt_model.specs.State.{Left}
 use Rattle.lt_ir.specs.declared.node.Arm.{Arm}
 use Rattle.lt_ir.specs.Running.{next_value}
-use Rattle.lt_ir.specs.Graph.{arm_of, blank, blanks, register_at}
+use Rattle.lt_ir.specs.Tables.{arm_of, IsAscending, IsTableOf}
+use Rattle.lt_ir.specs.Graph.{blank, blanks, register_at}
 
 -- ---- the arms of a switch, by value
-
-abbrev pub AreAbove : ℤ → List Arm → Type 0
-AreAbove z [] = Unit {0}
-AreAbove z (arm ∷ arms) = (z <ℤ arm.value) × AreAbove z arms
-
--- each value is less than the next, so that none comes twice
-abbrev pub IsAscending : List Arm → Type 0
-IsAscending [] = Unit {0}
-IsAscending (arm ∷ arms) = AreAbove arm.value arms × IsAscending arms
 
 -- an arm comes into a table, in place of one of the same value
 abbrev pub put_arm : Arm → List Arm → List Arm
@@ -36,30 +28,21 @@ abbrev pub table_of : List Arm → List Arm
 table_of [] = []
 table_of (arm ∷ arms) = put_arm arm (table_of arms)
 
--- a table in which each number finds what it finds in the list
-pub record IsTableOf (table arms : List Arm) : Type 0 where
-  pub ascending : IsAscending table
-  pub few : length table ≤ length arms
-  pub same : (default : ℕ) (z : ℤ) → arm_of table default z ≡ arm_of arms default z
+-- In an ascending table an arm is found by its value, wherever it stands.
+abbrev pub AreFoundByValue : List Arm → Type 0
+AreFoundByValue table =
+    (k default : ℕ) (arm : Arm) → slice_get table k ≡ Some arm → arm_of table default arm.value ≡ arm.next
 
--- what a number finds, by how it compares with the arm between two parts of a table
-abbrev pub found_by : Ordering → (before : List Arm) (arm : Arm) (after : List Arm) → (default : ℕ) → ℤ → ℕ
-found_by Less before arm after default z = arm_of before default z
-found_by Equal before arm after default z = arm.next
-found_by Greater before arm after default z = arm_of after default z
-
--- In an ascending table a number is looked for in one part alone.
-pub record IsHalved (before : List Arm) (arm : Arm) (after : List Arm) : Type 0 where
-  pub ascending_before : IsAscending before
-  pub ascending_after : IsAscending after
-  pub found : (default : ℕ) (z : ℤ) →
-      arm_of (before ++ arm ∷ after) default z ≡ found_by (int_cmp z arm.value) before arm after default z
+-- a value that no arm has finds none
+abbrev pub OthersFindNone : List Arm → Type 0
+OthersFindNone table =
+    (default : ℕ) (z : ℤ) → ((k : ℕ) (arm : Arm) → slice_get table k ≡ Some arm → ¬ arm.value ≡ z)
+    → arm_of table default z ≡ default
 
 abbrev pub SwitchesAreTables : Type 0
 SwitchesAreTables =
     ((arms : List Arm) → IsTableOf (table_of arms) arms)
-    × ((before : List Arm) (arm : Arm) (after : List Arm)
-    → IsAscending (before ++ arm ∷ after) → IsHalved before arm after)
+    × ((table : List Arm) → IsAscending table → AreFoundByValue table × OthersFindNone table)
 
 -- ---- values for functions without a body, by the place of the name
 

@@ -28,10 +28,11 @@ pub record Counts : Type 0 where
   pub structs : ℕ
   pub statics : ℕ
   pub labels : ℕ
+  pub stubs : ℕ
   pub functions : ℕ
 
-abbrev pub counts_in : (functions statics labels : ℕ) → Code → Counts
-counts_in functions statics labels code = record {
+abbrev pub counts_in : (functions statics labels stubs : ℕ) → Code → Counts
+counts_in functions statics labels stubs code = record {
   nodes = length code.nodes;
   registers = code.registers;
   params = length code.params;
@@ -39,6 +40,7 @@ counts_in functions statics labels code = record {
   structs = length code.structs;
   statics = statics;
   labels = labels;
+  stubs = stubs;
   functions = functions;
 }
 
@@ -119,11 +121,11 @@ is_node n (node.Create k is_zeroed next) = nat_lt k n.locals && is_point n next
 is_node n (node.Seal v next) = is_variable n v && is_point n next
 is_node n (node.End v next) = is_variable n v && is_point n next
 is_node n (node.Branch test on off) = is_register n test && is_point n on && is_point n off
-is_node n (node.Switch value arms default) =
+is_node n (node.Switch value arms table default) =
     is_register n value && list_all (λ arm. is_point n arm.next) arms && is_point n default
 is_node n (node.Call function to first count next) =
     nat_lt function n.functions && is_target n to && nat_le (first + count) n.registers && is_point n next
-is_node n (node.Stub name to next) = is_target n to && is_point n next
+is_node n (node.Stub stub to next) = nat_lt stub n.stubs && is_register n to && is_point n next
 is_node n node.Stop = true
 is_node n (node.Return value) = is_given n value
 is_node n (node.Tick next) = is_point n next
@@ -135,6 +137,7 @@ is_node n (node.Clash which next) = are_parts n which && is_point n next
 abbrev pub is_code : Counts → Code → Bool
 is_code n code = (is_point n code.start) && list_all (is_node n) code.nodes
 
-abbrev pub are_in_range : List Code → List Static → List LabelInfo → Bool
-are_in_range codes statics labels =
-    list_all (λ code. is_code (counts_in (length codes) (length statics) (length labels) code) code) codes
+abbrev pub are_in_range : List Code → List Static → List LabelInfo → (stubs : List (List ℕ)) → Bool
+are_in_range codes statics labels stubs =
+    list_all (λ code. is_code (counts_in (length codes) (length statics) (length labels) (length stubs) code) code)
+    codes

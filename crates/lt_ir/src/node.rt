@@ -1,6 +1,6 @@
 use crate::pure::{How, Pure};
 use crate::variable::Variable;
-use lt_model::{CellType, Content, Name, Op, Scalar, Sequence};
+use lt_model::{CellType, Content, Op, Scalar, Sequence};
 
 /// What an access is to.
 #[derive(Clone, Copy)]
@@ -144,9 +144,12 @@ pub enum Node {
         on: u32,
         off: u32,
     },
+    /// The arms in the order of the text, and their table: ascending by value, each value once, and each number finds there what it
+    /// finds first among the arms.
     Switch {
         value: u32,
         arms: Sequence<Arm>,
+        table: Sequence<Arm>,
         default: u32,
     },
     /// The arguments are in so many registers from `first` on.
@@ -157,9 +160,10 @@ pub enum Node {
         count: u32,
         next: u32,
     },
+    /// A function without a body, by its place among the graph's.
     Stub {
-        name: Name,
-        to: Option<u32>,
+        stub: u32,
+        to: u32,
         next: u32,
     },
     Stop,

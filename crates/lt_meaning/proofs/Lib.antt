@@ -1,2 +1,2 @@
-mod SameBut
+pub mod SameBut
 pub mod Untracked

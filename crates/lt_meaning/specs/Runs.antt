@@ -1,6 +1,6 @@
 -- Calls and runs, C11 6.5.2.2 and 5.1.2.2.
 use Rattle.std.specs.Prelude.{ℕ, zero, suc, pos, ◌+◌, ◌==◌, List, [], ◌∷◌, ◌++◌, map, Bool, true, false, not, ◌&&◌}
-use Rattle.std.specs.Prelude.{Option, Some, None, if◌then◌else◌, slice_get, codes}
+use Rattle.std.specs.Prelude.{Option, Some, None, length, if◌then◌else◌, slice_get, codes}
 use Rattle.std.specs.Str.{bytes_eq, byte}
 use Rattle.std.specs.List.{list_any}
 use Rattle.lt_model.specs.declared.cell.Content.{Content}
@@ -72,11 +72,12 @@ abbrev mutual
   locals_among e.no_cases = []
   locals_among (e.a_case labels first rest) = locals_in first ++ locals_among rest
 
--- a local object, by its place among those of the function, or one that is there from the start
+-- An object that is there from the start, or a local object by its place among those of the function. A name of neither
+-- kind has a variable behind these, which never begins.
 abbrev pub other_variable : Program → List ℕ → ℕ → Variable
 other_variable program locals n =
     if is_there_first program n then StaticObject (statics_before n program.objects)
-    else elim (place_among 0 n locals) [ None ↦ Local n | Some k ↦ Local k ]
+    else elim (place_among 0 n locals) [ None ↦ Local (length locals) | Some k ↦ Local k ]
 
 abbrev pub variable_of : Program → Function → ℕ → Variable
 variable_of program f n =
