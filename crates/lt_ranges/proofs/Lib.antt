@@ -1,0 +1,14 @@
+mod References
+mod Steps
+mod TypesInRange
+mod TypedInRange
+mod Lookups
+mod OperationsInRange
+mod BinaryInRange
+mod Growth
+mod Nodes
+mod Specified
+mod RangedExpressions
+mod FillingsInRange
+mod RangedDeclarations
+mod RangedUnits
