@@ -1,5 +1,5 @@
 -- What operators on two and three operands, and marks, make of operands in range.
-use Rattle.std.proofs.Common.{◌≡◌, refl, ℕ, zero, suc, ℤ, pos, List, [], ◌∷◌, ◌++◌, length, map, Bool, true, false, Option, Some, None}
+use Rattle.std.proofs.Common.{ℕ, List, [], ◌∷◌, Bool, true, false, Option, Some, None}
 use Rattle.std.specs.Prelude.{if◌then◌else◌, ◌&&◌, ◌||◌}
 use Rattle.std.specs.List.{Contains}
 use Rattle.lt_model.specs.declared.scalar.Scalar.{Scalar}
@@ -7,21 +7,20 @@ use Rattle.lt_model.specs.declared.scalar.Scalar.TheVariants as S
 use Rattle.lt_model.specs.declared.operator.Op.{Op}
 use Rattle.lt_model.specs.declared.operator.Op.TheVariants as O
 use Rattle.lt_model.specs.Conversions.{usual_of}
-use Rattle.lt_model.specs.Scalar.{difference_type}
 use Rattle.lt_tree.specs.declared.expression.LogicalOp.{LogicalOp}
-use Rattle.lt_tree.specs.Typing.Types.{CType, Void, Num, Pointer, unqualified, qualified, both as both_of, own_qualifiers, is_integer, is_pointer}
-use Rattle.lt_tree.specs.Typing.Constants.{Constancy, varying, moved_by, chosen, is_null_constant, converted}
+use Rattle.lt_tree.specs.Typing.Types.{CType, Void, Num, unqualified, both as both_of, own_qualifiers, is_integer, is_pointer}
+use Rattle.lt_tree.specs.Typing.Constants.{moved_by, chosen, is_null_constant}
 use Rattle.lt_tree.specs.Typing.TypedTree as e
 use Rattle.lt_tree.specs.Typing.TypedTree.{Value, Values, Place, Marks, Bindings}
 use Rattle.lt_tree.specs.Typing.Entities.{Known}
-use Rattle.lt_tree.specs.Typing.Expressions.{Typed, Use, valued, varies, own_type, value_in, place_in, as_it_is_read, Judged, judgement, converted_to, constancy_to, scalar_in}
+use Rattle.lt_tree.specs.Typing.Expressions.{Typed, Use, own_type, value_in, place_in, converted_to, scalar_in}
 use Rattle.lt_tree.specs.Typing.Operands.{are_integers, point_alike, is_relation, is_equality}
-use Rattle.lt_tree.specs.Typing.Operations.{target_in, pointer_among, other_among, element_size, object_size, side_of}
+use Rattle.lt_tree.specs.Typing.Operations.{target_in, pointer_among, other_among, element_size, object_size}
 use Rattle.lt_tree.specs.Typing.BinaryOperations.{operation_type, right_type, result_type, on_integers, towards, moved, distance, beside, compared, on_pointers, judge_binary, settles, judge_logical, common_pointer, chosen_pointer, chosen_type, judge_conditional, judge_assign, updated, judge_update, judge_assignment, values_of, last_of, judge_comma}
-use Rattle.lt_tree.specs.Typing.MarkRules.{TypedBinding, bindings_of, number_of_id, judge_decide, after_of, judge_after, judge_marked}
-use Rattle.lt_ranges.specs.Ranges.{Counts, in_type, in_constancy, in_value, in_values, in_marks, in_bindings, to_label}
-use Rattle.lt_ranges.proofs.References.{Has, none, one, cons, head, tail, both, front, back}
-use Rattle.lt_ranges.proofs.TypesInRange.{T, C, unqualified_in, qualified_in, converted_in, operated_in, moved_by_in, connected_in, chosen_in, constancy_to_in}
+use Rattle.lt_tree.specs.Typing.MarkRules.{TypedBinding, bindings_of, number_of_id, judge_decide, judge_after, judge_marked}
+use Rattle.lt_tree.specs.Typing.Ranges.{Counts, in_values, in_marks, in_bindings}
+use Rattle.lt_ranges.proofs.References.{Has, none, cons, both}
+use Rattle.lt_ranges.proofs.TypesInRange.{T, C, unqualified_in, qualified_in, operated_in, moved_by_in, connected_in, chosen_in, constancy_to_in}
 use Rattle.lt_ranges.proofs.TypedInRange.{V, TypedIn, own_type_in, value_in_range, place_in_range, valued_in, varies_in, read_typed, converted_value_in}
 use Rattle.lt_ranges.proofs.OperationsInRange.{AllTyped, target_type_in, pointer_among_in}
 
@@ -41,7 +40,7 @@ moved_in : {b : Counts} {x y : Typed} (known : Known) (op : Op) → TypedIn b x 
 moved_in {b} {x} {y} known op h i =
     let pointer : TypedIn b (pointer_among x y) = pointer_among_in h i in
     let c : C b (moved_by (object_size known) (element_size known x y) (pointer_among x y).constancy (towards op (other_among x y).constancy)) =
-      moved_by_in (object_size known) (element_size known x y) (pointer_among x y).constancy (towards op (other_among x y).constancy) pointer.constancy in
+    moved_by_in (object_size known) (element_size known x y) (pointer_among x y).constancy (towards op (other_among x y).constancy) pointer.constancy in
     valued_in (both (own_type_in pointer) (both (value_in_range h) (value_in_range i))) c c
 
 distance_in : {b : Counts} {x y : Typed} (known : Known) → TypedIn b x → TypedIn b y → TypedIn b (distance known x y)
@@ -88,9 +87,10 @@ pointer_or_null {b} {x} {y} false false h i = common_in Void (target_in x) (targ
 chosen_pointer_in : {b : Counts} {x y : Typed} → TypedIn b x → TypedIn b y → T b (chosen_pointer x y)
 chosen_pointer_in {b} {x} {y} h i =
     elim (point_alike (own_type x) (own_type y)) as (λ v. T b (if v then common_pointer (unqualified (target_in x)) (target_in x) (target_in y)
-    else (if is_null_constant x.constancy then own_type y else (if is_null_constant y.constancy then own_type x else common_pointer Void (target_in x) (target_in y)))))
-    [ true ↦ common_in (unqualified (target_in x)) (target_in x) (target_in y) (unqualified_in (target_in x) (target_type_in h))
-    | false ↦ pointer_or_null (is_null_constant x.constancy) (is_null_constant y.constancy) h i ]
+    else (if is_null_constant x.constancy then own_type y else (if is_null_constant y.constancy then own_type x else common_pointer Void (target_in x) (target_in y))))) [
+      | true ↦ common_in (unqualified (target_in x)) (target_in x) (target_in y) (unqualified_in (target_in x) (target_type_in h))
+      | false ↦ pointer_or_null (is_null_constant x.constancy) (is_null_constant y.constancy) h i
+    ]
 
 chosen_other_in : {b : Counts} {x y : Typed} (test : Bool) → TypedIn b x → TypedIn b y → T b (if test then chosen_pointer x y else own_type x)
 chosen_other_in true h i = chosen_pointer_in h i
@@ -124,9 +124,10 @@ assign_in {b} {x} {y} known h i =
 updated_in : {b : Counts} {x y : Typed} (known : Known) (op : Op) → TypedIn b x → TypedIn b y → V b (updated known op x y)
 updated_in {b} {x} {y} known op h i =
     elim (is_pointer (own_type x)) as (λ v. V b (if v then e.UpdatePointer (unqualified (own_type x)) op (element_size known x y) (place_in x) (value_in y)
-    else e.Update (unqualified (own_type x)) op (operation_type known op x y) (place_in x) (converted_to (Num (right_type known op x y)) (value_in y))))
-    [ true ↦ both (own_unqualified_in h) (both (place_in_range h) (value_in_range i))
-    | false ↦ both (own_unqualified_in h) (both (place_in_range h) (converted_value_in (Num (right_type known op x y)) (value_in y) none (value_in_range i))) ]
+    else e.Update (unqualified (own_type x)) op (operation_type known op x y) (place_in x) (converted_to (Num (right_type known op x y)) (value_in y)))) [
+      | true ↦ both (own_unqualified_in h) (both (place_in_range h) (value_in_range i))
+      | false ↦ both (own_unqualified_in h) (both (place_in_range h) (converted_value_in (Num (right_type known op x y)) (value_in y) none (value_in_range i)))
+    ]
 
 update_in : {b : Counts} {x y : Typed} (op : Op) (known : Known) → TypedIn b x → TypedIn b y → TypedIn b (judge_update op x y known).typed
 unfolding judge_update

@@ -1,9 +1,9 @@
 -- Parts of objects that are left to be filled, and those that are filled, in range.
-use Rattle.std.proofs.Common.{◌≡◌, refl, ℕ, zero, suc, ◌+◌, List, [], ◌∷◌, ◌++◌, length, map, Bool, true, false, Option, Some, None}
+use Rattle.std.proofs.Common.{ℕ, zero, suc, ◌+◌, List, [], ◌∷◌, ◌++◌, length, map, Bool, true, false, Option, Some, None}
 use Rattle.std.specs.Prelude.{if◌then◌else◌, nat_le, ◌-◌, ◌==◌, ◌&&◌}
 use Rattle.std.specs.List.{flat_map}
 use Rattle.lt_tree.specs.Tree as c
-use Rattle.lt_tree.specs.Typing.Types.{CType, Void, Num, Pointer, Array, Struct, Function, Floating, Qualified, unqualified}
+use Rattle.lt_tree.specs.Typing.Types.{CType, Array, Struct, Qualified, unqualified}
 use Rattle.lt_tree.specs.Typing.Extents.{size_of, Placed, placed_members}
 use Rattle.lt_tree.specs.Typing.TypedTree.{StartPart, stored, fixed}
 use Rattle.lt_tree.specs.Typing.Entities.{Known}
@@ -11,8 +11,8 @@ use Rattle.lt_tree.specs.Typing.Operands.{holds}
 use Rattle.lt_tree.specs.Typing.Expressions.{Typed, value_in, converted_to}
 use Rattle.lt_tree.specs.Typing.Filling.{Run, one_object, length_left, behind_first, member_run, parts_of, first_within, first_in_members, first_in_struct, opened, is_character_array, content_of, value_part, Filling, only_text, filling_of, nothing_to_fill}
 use Rattle.lt_tree.specs.Typing.InitialiserTyping.{filled_by, filling_for, behind_list, with_length}
-use Rattle.lt_ranges.specs.Ranges.{Reference, Counts, in_type, in_constancy, in_start_part}
-use Rattle.lt_ranges.proofs.References.{Has, none, one, both, front, back, Kept, later, pushed, appended}
+use Rattle.lt_tree.specs.Typing.Ranges.{Reference, Counts, in_type, in_start_part}
+use Rattle.lt_ranges.proofs.References.{Has, none, both, front, back, Kept, later, pushed, appended}
 use Rattle.lt_ranges.proofs.Steps.{Sound, counts_of}
 use Rattle.lt_ranges.proofs.TypesInRange.{T, unqualified_in, constancy_to_in}
 use Rattle.lt_ranges.proofs.TypedInRange.{TypedIn, value_in_range, converted_value_in}
@@ -107,9 +107,10 @@ opened_in known whole (run ∷ runs) s h =
 
 pub value_part_in : {b : Counts} {x : Typed} (known : Known) (is_static : Bool) (offset : ℕ) (t : CType) → T b t → TypedIn b x → Has b (in_start_part (value_part known is_static offset t x))
 value_part_in {b} {x} known is_static offset t h i =
-    elim is_static as (λ v. Has b (in_start_part (if v then fixed offset (unqualified t) (content_of known t x) else stored offset (converted_to (unqualified t) (value_in x)))))
-    [ true ↦ both (unqualified_in t h) (constancy_to_in known.model (unqualified t) x.constancy i.constancy)
-    | false ↦ converted_value_in (unqualified t) (value_in x) (unqualified_in t h) (value_in_range i) ]
+    elim is_static as (λ v. Has b (in_start_part (if v then fixed offset (unqualified t) (content_of known t x) else stored offset (converted_to (unqualified t) (value_in x))))) [
+      | true ↦ both (unqualified_in t h) (constancy_to_in known.model (unqualified t) x.constancy i.constancy)
+      | false ↦ converted_value_in (unqualified t) (value_in x) (unqualified_in t h) (value_in_range i)
+    ]
 
 pub filled_in : {b : Counts} (filling : Filling) (part : StartPart) (rest : List Run) → FillingIn b filling → Has b (in_start_part part) → RunsIn b rest → FillingIn b (filled_by filling part rest)
 filled_in filling part rest h i j = record { left = j; parts = pushed in_start_part filling.parts part h.parts i }

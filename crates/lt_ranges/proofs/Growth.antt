@@ -1,22 +1,22 @@
 -- What typing adds to what is known, and what it changes there.
-use Rattle.std.proofs.Common.{◌≡◌, refl, sym, subst, ap, ◌∙◌, ℕ, zero, suc, ◌+◌, ◌<◌, ◌≤◌, List, [], ◌∷◌, ◌++◌, length, map, Bool, true, false, Option, Some, None, arith}
+use Rattle.std.proofs.Common.{◌≡◌, refl, sym, subst, ap, ℕ, ◌<◌, List, [], ◌∷◌, ◌++◌, length, map, Bool, true, false, Option, Some, None, arith}
 use Rattle.std.specs.Prelude.{if◌then◌else◌, slice_get, slice_set}
 use Rattle.std.specs.Str.{bytes_eq}
-use Rattle.std.specs.List.{flat_map, Contains}
+use Rattle.std.specs.List.{Contains}
 use Rattle.std.proofs.lemmas.List.{length-append}
-use Rattle.std.proofs.lemmas.List.Elements.{Contains-append_left, Contains-append_right, Contains-push}
+use Rattle.std.proofs.lemmas.List.Elements.{Contains-append_left, Contains-push}
 use Rattle.std.proofs.lemmas.Slice.Eq.{bytes_eq-Decides}
 use Rattle.std.proofs.Math.ListN.{length-set}
 use Rattle.lt_tree.specs.Typing.Types.{CType}
 use Rattle.lt_tree.specs.Typing.Extents.{StructType}
 use Rattle.lt_tree.specs.Typing.TypedTree.{Start}
-use Rattle.lt_tree.specs.Typing.Entities.{Known, Object, Declared, declared_among, Function, Label, Fact, Entity, Tagged, bind_name, bind_tag, binding, tagging}
+use Rattle.lt_tree.specs.Typing.Entities.{Known, Object, Declared, declared_among, Function, Label, Fact, Entity, Tagged, bind_name, bind_tag}
 use Rattle.lt_tree.specs.Typing.Declaring.{with_declared, with_start}
-use Rattle.lt_ranges.specs.Ranges.{Reference, to_function, Counts, IsThere, in_type, in_option, in_start, in_struct, in_object, in_declared, in_function, in_entity, in_tagged, in_fact}
-use Rattle.lt_ranges.proofs.References.{Has, none, one, both, front, back, Kept, same, later, pushed, changed}
+use Rattle.lt_tree.specs.Typing.Ranges.{to_function, in_option, in_start, in_struct, in_object, in_declared, in_function, in_entity, in_tagged, in_fact}
+use Rattle.lt_ranges.proofs.References.{Has, one, both, Kept, same, later, pushed, changed}
 use Rattle.lt_ranges.proofs.Steps.{Sound, counts_of, later_sound}
 use Rattle.lt_ranges.proofs.TypesInRange.{T}
-use Rattle.lt_ranges.proofs.Lookups.{binding_in, tagging_in, found_in}
+use Rattle.lt_ranges.proofs.Lookups.{binding_in, tagging_in}
 
 -- ---- names and tags
 
@@ -70,7 +70,7 @@ start_of_in n start t known None h i s = (same, s)
 start_of_in n start t known (Some object) h i s =
     let it : Object = record object { type = t; start = start } in
     let kept : Kept (counts_of known) (counts_of (record known { objects = slice_set known.objects n it })) =
-      record { objects = omega (arith, length-set known.objects n it); structs = omega arith; declared = λ name t h. h; ids = λ id h. h } in
+    record { objects = omega (arith, length-set known.objects n it); structs = omega arith; declared = λ name t h. h; ids = λ id h. h } in
     let l = later_sound kept s in
     let whole : Has (counts_of known) (in_object it) = both h i in
     (kept, record { frames = l.frames; structs = l.structs; objects = changed in_object known.objects n it l.objects (later kept whole); declared = l.declared; functions = l.functions; facts = l.facts })
@@ -101,7 +101,7 @@ pub struct_changed : (k : ℕ) (it : StructType) (known : Known) → Has (counts
     → IsStarted known (record known { structs = slice_set known.structs k it })
 struct_changed k it known h s =
     let kept : Kept (counts_of known) (counts_of (record known { structs = slice_set known.structs k it })) =
-      record { objects = omega arith; structs = omega (arith, length-set known.structs k it); declared = λ name t h. h; ids = λ id h. h } in
+    record { objects = omega arith; structs = omega (arith, length-set known.structs k it); declared = λ name t h. h; ids = λ id h. h } in
     let l = later_sound kept s in
     (kept, record { frames = l.frames; structs = changed in_struct known.structs k it l.structs (later kept h); objects = l.objects; declared = l.declared; functions = l.functions; facts = l.facts })
 
@@ -109,7 +109,6 @@ struct_changed k it known h s =
 
 abbrev pub with_label : Label → Known → Known
 with_label label known = record known { labels = known.labels ++ label ∷ [] }
-
 
 ids_appended : (xs ys : List Label) → map (λ label. label.id) (xs ++ ys) ≡ map (λ label. label.id) xs ++ map (λ label. label.id) ys
 ids_appended [] ys = refl
@@ -168,7 +167,7 @@ declared_of_in : (name : List ℕ) (t : CType) (known : Known) (found : Option C
 declared_of_in name t known None is h s =
     let f : Declared = record { name = name; type = t } in
     let kept : Kept (counts_of known) (counts_of (record known { declared = known.declared ++ f ∷ [] })) =
-      record { objects = omega arith; structs = omega arith; declared = λ other u there. among_more other known.declared f u there; ids = λ id h. h } in
+    record { objects = omega arith; structs = omega arith; declared = λ other u there. among_more other known.declared f u there; ids = λ id h. h } in
     let l = later_sound kept s in
     record {
       kept = kept;

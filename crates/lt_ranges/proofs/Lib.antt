@@ -12,3 +12,5 @@ mod RangedExpressions
 mod FillingsInRange
 mod RangedDeclarations
 mod RangedUnits
+mod LastingIds
+mod IdsHaveRows

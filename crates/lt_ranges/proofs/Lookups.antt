@@ -1,18 +1,18 @@
 -- What is looked up where all is in range.
-use Rattle.std.proofs.Common.{◌≡◌, refl, sym, subst, ap, ℕ, zero, suc, ◌+◌, ◌<◌, ◌≤◌, List, [], ◌∷◌, ◌++◌, length, map, Bool, true, false, Option, Some, None, arith}
-use Rattle.std.specs.Prelude.{if◌then◌else◌, slice_get, slice_set, unwrap_or, option_and_then, ◌&&◌}
+use Rattle.std.proofs.Common.{◌≡◌, refl, subst, ℕ, zero, suc, ◌+◌, ◌<◌, List, [], ◌∷◌, length, Bool, true, false, Option, Some, None, arith}
+use Rattle.std.specs.Prelude.{if◌then◌else◌, slice_get, unwrap_or, option_and_then, ◌&&◌}
 use Rattle.std.specs.Str.{bytes_eq}
 use Rattle.std.specs.List.{flat_map}
 use Rattle.std.proofs.lemmas.Slice.Eq.{bytes_eq-Decides}
 use Rattle.lt_model.specs.declared.scalar.DataModel.{DataModel}
 use Rattle.lt_model.specs.declared.sizes.Extent.{Extent}
 use Rattle.lt_model.specs.Layout.{then_some, member_offset, with_member, no_members}
-use Rattle.lt_tree.specs.Typing.Types.{CType, Void, Struct, struct_of}
-use Rattle.lt_tree.specs.Typing.Extents.{Member, StructType, Structs, members_of, members_in, Placed, placed_at, placed_behind, placed_members, named_among, member_of, extent_of}
-use Rattle.lt_tree.specs.Typing.Entities.{Known, Object, Declared, declared_among, Entity, Bound, Tagged, Tag, Frame, no_names, innermost, bound_among, tagged_among, or_else, bound_in, tagged_in, meaning_of, tag_here, is_linked, linked_from, type_of_object, binding, tagging}
+use Rattle.lt_tree.specs.Typing.Types.{CType, Void, struct_of}
+use Rattle.lt_tree.specs.Typing.Extents.{Member, StructType, Structs, members_in, Placed, placed_at, placed_behind, placed_members, named_among, member_of, extent_of}
+use Rattle.lt_tree.specs.Typing.Entities.{Known, Object, Declared, declared_among, Entity, Bound, Tagged, Tag, Frame, innermost, bound_among, tagged_among, or_else, bound_in, tagged_in, is_linked, linked_from, type_of_object, binding, tagging}
 use Rattle.lt_tree.specs.Typing.Operations.{member_in}
-use Rattle.lt_ranges.specs.Ranges.{Reference, Counts, in_type, in_option, in_member, in_struct, in_object, in_declared, in_entity, in_bound, in_tagged, in_tag, in_frame}
-use Rattle.lt_ranges.proofs.References.{Has, none, one, cons, both, front, back}
+use Rattle.lt_tree.specs.Typing.Ranges.{Reference, Counts, in_type, in_option, in_member, in_struct, in_object, in_declared, in_entity, in_bound, in_tagged, in_tag, in_frame}
+use Rattle.lt_ranges.proofs.References.{Has, none, both, front, back}
 use Rattle.lt_ranges.proofs.Steps.{Sound, counts_of}
 use Rattle.lt_ranges.proofs.TypesInRange.{T}
 

@@ -1,14 +1,11 @@
 -- How the node of an expression ends.
-use Rattle.std.proofs.Common.{◌≡◌, refl, ℕ, List, [], ◌∷◌, ◌++◌, Bool, true, false, Option, Some, None}
-use Rattle.lt_tree.specs.Typing.Types.{Num}
-use Rattle.lt_model.specs.declared.scalar.Scalar.TheVariants as S
-use Rattle.lt_tree.specs.Typing.Rules.{Rule}
+use Rattle.std.proofs.Common.{◌≡◌, ℕ, List, [], ◌∷◌, ◌++◌}
 use Rattle.lt_tree.specs.Typing.Entities.{Known}
-use Rattle.lt_tree.specs.Typing.Steps.{Outcome, Goes}
+use Rattle.lt_tree.specs.Typing.Steps.{Goes}
 use Rattle.lt_tree.specs.Typing.Expressions.{Typed, Use, Judged, faults_of_any, fact_of, used, finish}
-use Rattle.lt_tree.specs.Typing.MarkRules.{number_of_id, judge_decide, judge_after, after_of}
-use Rattle.lt_ranges.specs.Ranges.{Counts, in_constancy, in_fact}
-use Rattle.lt_ranges.proofs.References.{Has, none, both, same, Kept}
+use Rattle.lt_tree.specs.Typing.MarkRules.{judge_decide, judge_after}
+use Rattle.lt_tree.specs.Typing.Ranges.{Counts, in_constancy, in_fact}
+use Rattle.lt_ranges.proofs.References.{Has, none, both, same}
 use Rattle.lt_ranges.proofs.Steps.{Sound, counts_of, Good, went, judges}
 use Rattle.lt_ranges.proofs.TypedInRange.{TypedIn, own_type_in, read_typed, used_in, fact_in}
 use Rattle.lt_ranges.proofs.OperationsInRange.{front_empty}

@@ -1,8 +1,7 @@
 -- What operators make of operands in range.
-use Rattle.std.proofs.Common.{◌≡◌, refl, sym, subst, ap, ◌∙◌, ℕ, zero, suc, ℤ, pos, ◌+◌, ◌<◌, List, [], ◌∷◌, ◌++◌, length, map, Bool, true, false, Option, Some, None, arith}
-use Rattle.std.specs.Prelude.{if◌then◌else◌, unwrap_or, option_and_then, not, ◌&&◌, ◌||◌, slice_get, ◌-ℤ◌}
+use Rattle.std.proofs.Common.{◌≡◌, refl, ap, ◌∙◌, ℕ, suc, pos, ◌+◌, ◌<◌, List, [], ◌∷◌, ◌++◌, length, Bool, true, false, Option, Some, None}
+use Rattle.std.specs.Prelude.{if◌then◌else◌, unwrap_or, option_and_then, ◌-ℤ◌}
 use Rattle.lt_model.specs.declared.scalar.DataModel.{DataModel}
-use Rattle.lt_model.specs.declared.scalar.Scalar.{Scalar}
 use Rattle.lt_model.specs.declared.scalar.Scalar.TheVariants as S
 use Rattle.lt_model.specs.declared.operator.Op.{Op}
 use Rattle.lt_model.specs.declared.operator.Op.TheVariants as O
@@ -10,23 +9,23 @@ use Rattle.lt_model.specs.Conversions.{promoted}
 use Rattle.lt_model.specs.Scalar.{size_type}
 use Rattle.lt_tree.specs.declared.expression.UnaryOp.{UnaryOp}
 use Rattle.lt_tree.specs.declared.expression.UnaryOp.TheVariants as unary
-use Rattle.lt_tree.specs.Typing.Types.{CType, CTypes, no_types, a_type, Void, Num, Pointer, Array, Struct, Function, Floating, Qualified, target_of, unqualified, qualified, qualifiers_of, is_integer, is_pointer, is_void}
+use Rattle.lt_tree.specs.Typing.Types.{CType, CTypes, no_types, a_type, Void, Num, Function, target_of, unqualified, qualifiers_of, is_integer, is_pointer}
 use Rattle.lt_tree.specs.Typing.Extents.{Placed, size_of, is_complete}
-use Rattle.lt_tree.specs.Typing.Constants.{Constancy, varying, number, address, converted, applied, negated, moved_by, TypedConstant}
+use Rattle.lt_tree.specs.Typing.Constants.{Constancy, varying, number, address, converted, moved_by, TypedConstant}
 use Rattle.lt_tree.specs.Typing.Rules.{Rule, broken_if, unless, bad_address, bad_call, bad_assignment, no_body, floating_type, function_as_value}
 use Rattle.lt_tree.specs.Typing.TypedTree as e
 use Rattle.lt_tree.specs.Typing.TypedTree.{Value, Values, Place, When}
-use Rattle.lt_tree.specs.Typing.Entities.{Known, Entity, an_object, a_function, a_typedef, an_enumerator, declared_among, type_of_object}
-use Rattle.lt_tree.specs.Typing.Expressions.{Form, a_value, a_place, a_designator, Typed, Use, valued, varies, placed, nothing, own_type, value_in, place_in, Judged, judgement, cast_to, converted_to, constancy_to, scalar_in, has_floating, has_pointer_to_function}
+use Rattle.lt_tree.specs.Typing.Entities.{Known, Entity, an_object, a_function, a_typedef, an_enumerator, declared_among}
+use Rattle.lt_tree.specs.Typing.Expressions.{Form, a_value, a_place, a_designator, Typed, Use, placed, nothing, own_type, value_in, place_in, Judged, judgement, scalar_in, has_floating, has_pointer_to_function}
 use Rattle.lt_tree.specs.Typing.Operands.{points_to}
-use Rattle.lt_tree.specs.Typing.Operations.{lives_from_the_start, object_named, function_named, judge_name, judge_constant, text_type, promoted_value, promoted_constancy, judge_plus, judge_minus, judge_complement, judge_not, judge_address_of, target_in, constant_address, judge_dereference, stepped, judge_step, judge_size, part_of, judge_part, member_in, judge_member, judge_arrow, pointer_among, other_among, element_size, object_size, side_of, judge_index, count_types, promoted_argument, passed, is_right_number, all_fit, takes_or_gives, can_be_run, judge_function, judge_call, judge_cast}
+use Rattle.lt_tree.specs.Typing.Operations.{lives_from_the_start, object_named, function_named, judge_name, judge_constant, promoted_value, judge_plus, judge_minus, judge_complement, judge_not, judge_address_of, target_in, constant_address, judge_dereference, stepped, judge_step, judge_size, part_of, judge_part, member_in, judge_member, judge_arrow, pointer_among, other_among, element_size, object_size, judge_index, promoted_argument, passed, is_right_number, all_fit, takes_or_gives, can_be_run, judge_function, judge_call, judge_cast}
 use Rattle.lt_tree.specs.Typing.NodeEnds.{judge_unary, text_at}
-use Rattle.lt_ranges.specs.Ranges.{Counts, in_type, in_types, in_constancy, in_value, in_values, in_place, in_option, count_values, IsThere, to_object, takes}
+use Rattle.lt_tree.specs.Typing.Ranges.{Counts, in_type, in_types, in_values, in_option, count_values, takes}
 use Rattle.lt_ranges.proofs.References.{Has, none, one, cons, head, both, front, back}
 use Rattle.lt_ranges.proofs.Steps.{Sound, counts_of}
 use Rattle.lt_ranges.proofs.TypesInRange.{T, C, unqualified_in, qualified_in, converted_in, applied_in, negated_in, moved_by_in, constant_address_in, constancy_to_in}
 use Rattle.lt_ranges.proofs.TypesInRange as types
-use Rattle.lt_ranges.proofs.TypedInRange.{V, P, FormIn, TypedIn, own_type_in, value_in_range, place_in_range, valued_in, varies_in, placed_typed, constant_in, nothing_in, cast_in, converted_value_in}
+use Rattle.lt_ranges.proofs.TypedInRange.{V, FormIn, TypedIn, own_type_in, value_in_range, place_in_range, valued_in, varies_in, placed_typed, constant_in, nothing_in, cast_in, converted_value_in}
 use Rattle.lt_ranges.proofs.Lookups.{EntityIn, PlacedIn, object_type_in, declared_among_in, member_in_range}
 
 -- ---- names and constants
@@ -34,7 +33,7 @@ use Rattle.lt_ranges.proofs.Lookups.{EntityIn, PlacedIn, object_type_in, declare
 object_named_in : (known : Known) (n : ℕ) (is_register : Bool) → Sound known → n < length known.objects → TypedIn (counts_of known) (object_named known n is_register)
 object_named_in known n is_register s h =
     let c : C (counts_of known) (if lives_from_the_start known n then address n 0 else varying) =
-      elim (lives_from_the_start known n) as (λ v. C (counts_of known) (if v then address n 0 else varying)) [ true ↦ one h | false ↦ none ] in
+    elim (lives_from_the_start known n) as (λ v. C (counts_of known) (if v then address n 0 else varying)) [ true ↦ one h | false ↦ none ] in
     record { form = both (object_type_in known n s) (one h); constancy = c; erased = c }
 
 -- the type with which a function is declared
@@ -174,7 +173,7 @@ unfolding judge_index
 index_in {b} {x} {y} known h i =
     let pointer : TypedIn b (pointer_among x y) = pointer_among_in h i in
     let c : C b (moved_by (object_size known) (element_size known x y) (pointer_among x y).constancy (other_among x y).constancy) =
-      moved_by_in (object_size known) (element_size known x y) (pointer_among x y).constancy (other_among x y).constancy pointer.constancy in
+    moved_by_in (object_size known) (element_size known x y) (pointer_among x y).constancy (other_among x y).constancy pointer.constancy in
     record { form = both (target_type_in pointer) (both (value_in_range h) (value_in_range i)); constancy = c; erased = c }
 
 -- ---- calls
@@ -219,8 +218,8 @@ function_in : {b : Counts} (known : Known) (name : List ℕ) (t : CType) (xs : L
 unfolding judge_function
 function_in {b} known name (Function result ts dots) xs is h i clean =
     let right : is_right_number (length xs) ts dots ≡ true =
-      right_number (broken_if floating_type (takes_or_gives has_floating result ts)) (broken_if function_as_value (takes_or_gives has_pointer_to_function result ts))
-      (unless (all_fit xs ts) bad_assignment) (is_right_number (length xs) ts dots) (unless (can_be_run known name result) no_body) clean in
+    right_number (broken_if floating_type (takes_or_gives has_floating result ts)) (broken_if function_as_value (takes_or_gives has_pointer_to_function result ts))
+    (unless (all_fit xs ts) bad_assignment) (is_right_number (length xs) ts dots) (unless (can_be_run known name result) no_body) clean in
     let counted : takes (count_values (passed known.model xs ts)) (Function result ts dots) ≡ true = ap (λ n. is_right_number n ts dots) (as_many known.model xs ts) ∙ right in
     varies_in (both (unqualified_in result (front {rs = in_type result} _ h)) (cons (Function result ts dots, is, counted) (passed_in known.model xs ts i (back (in_type result) h))))
 function_in known name _ xs is h i clean = nothing_in

@@ -8,26 +8,26 @@ use Rattle.lt_tree.specs.Typing.Types.{CType, struct_of, is_array}
 use Rattle.lt_tree.specs.Typing.Extents.{has_too_many_cells}
 use Rattle.lt_tree.specs.Typing.Constants.{varying}
 use Rattle.lt_tree.specs.Typing.Rules.{broken_if, bad_length, bad_initialiser}
-use Rattle.lt_tree.specs.Typing.TypedTree.{StartPart, Start, Local}
+use Rattle.lt_tree.specs.Typing.TypedTree.{Start, Local}
 use Rattle.lt_tree.specs.Typing.Entities.{Known, Object, Fact, Life, an_object, a_typedef, a_function, is_linked, is_static, linked_object, bind_name, type_of_object}
-use Rattle.lt_tree.specs.Typing.Steps.{Walk, Goes, ◌>>◌, gives, settle}
+use Rattle.lt_tree.specs.Typing.Steps.{Walk, ◌>>◌, gives, settle}
 use Rattle.lt_tree.specs.Typing.Expressions.{Typed, as_value, own_type}
 use Rattle.lt_tree.specs.Typing.Operations.{text_type}
 use Rattle.lt_tree.specs.Typing.Specifying.{Specified, alone, elsewhere}
 use Rattle.lt_tree.specs.Typing.Declarators.{Declares}
 use Rattle.lt_tree.specs.Typing.Filling.{Run, Filling, opened, is_struct_of, is_character_array, is_too_long_for, letters_of, value_faults, value_part, text_in, filling_of, nothing_to_fill, list_faults}
-use Rattle.lt_tree.specs.Typing.InitialiserTyping.{Judges, literal_alone, filled_by, fill_value, value_initialiser, fill_text, initialiser_without_braces, filling_for, faults_of_list, initialiser, initialisers, Started, with_length, whole_value, whole_text, whole_without_braces, listed_length, end_of_list, object_initialiser, initialiser_of_none}
-use Rattle.lt_tree.specs.Typing.Declaring.{Kind, a_type_name, a_function_name, an_object_of, kind_of, declaration_faults, with_declared, with_start, new_object, object_for, declare_object, length_faults}
+use Rattle.lt_tree.specs.Typing.InitialiserTyping.{Judges, literal_alone, filled_by, fill_value, value_initialiser, fill_text, initialiser_without_braces, filling_for, faults_of_list, initialiser, initialisers, Started, with_length, whole_value, whole_text, whole_without_braces, listed_length, object_initialiser, initialiser_of_none}
+use Rattle.lt_tree.specs.Typing.Declaring.{Kind, a_type_name, a_function_name, an_object_of, kind_of, declaration_faults, with_declared, new_object, object_for, declare_object, length_faults}
 use Rattle.lt_tree.specs.Typing.DeclarationTyping.{no_object, created, started_object, declare, init_declarators, has_no_declarator, DeclaredLocals, declaration_by}
-use Rattle.lt_ranges.specs.Ranges.{Counts, to_object, in_type, in_start, in_local, in_option}
-use Rattle.lt_ranges.proofs.References.{Has, none, one, cons, head, both, front, back, Kept, same, then_kept, later, pushed, appended}
+use Rattle.lt_tree.specs.Typing.Ranges.{Counts, to_object, in_start, in_local, in_option}
+use Rattle.lt_ranges.proofs.References.{Has, none, one, cons, head, both, front, back, same, then_kept, later, appended}
 use Rattle.lt_ranges.proofs.Steps.{Sound, counts_of, Good, went, bind, onward, done, Any, judged, entered}
 use Rattle.lt_ranges.proofs.TypesInRange.{T}
 use Rattle.lt_ranges.proofs.TypedInRange.{TypedIn}
 use Rattle.lt_ranges.proofs.Lookups.{object_type_in, linked_in}
-use Rattle.lt_ranges.proofs.Growth.{bound, noted, with_object, object_kept, object_there, object_added, start_in, declared_in}
-use Rattle.lt_ranges.proofs.Specified.{SpecifiedIn, DeclaresIn, later_declares}
-use Rattle.lt_ranges.proofs.FillingsInRange.{in_run, RunsIn, PartsIn, FillingIn, later_filling, opened_in, value_part_in, filled_in, filling_in, nothing_in_filling, filling_for_in, behind_list_in, with_length_in}
+use Rattle.lt_ranges.proofs.Growth.{bound, noted, object_kept, object_there, object_added, start_in, declared_in}
+use Rattle.lt_ranges.proofs.Specified.{SpecifiedIn, DeclaresIn}
+use Rattle.lt_ranges.proofs.FillingsInRange.{in_run, RunsIn, FillingIn, later_filling, opened_in, value_part_in, filled_in, filling_in, nothing_in_filling, filling_for_in, behind_list_in, with_length_in}
 use Rattle.lt_ranges.proofs.RangedExpressions.{of_expression, of_specifiers, of_declarator}
 
 -- ---- string literals

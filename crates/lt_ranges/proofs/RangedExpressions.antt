@@ -1,5 +1,5 @@
 -- The typing of expressions, and of what stands inside them, stays in range.
-use Rattle.std.proofs.Common.{◌≡◌, refl, subst, ℕ, ℤ, pos, Bool, true, false, if◌then◌else◌, List, [], ◌∷◌, ◌++◌, length, Option, Some, None}
+use Rattle.std.proofs.Common.{◌≡◌, refl, subst, ℕ, ℤ, pos, Bool, true, false, List, [], ◌∷◌, ◌++◌, length, Option, Some, None}
 use Rattle.std.specs.Prelude.{unwrap_or}
 use Rattle.std.specs.List.{Contains}
 use Rattle.lt_model.specs.declared.operator.Op.TheVariants as O
@@ -10,27 +10,27 @@ use Rattle.lt_tree.specs.Typing.Constants.{constant_of}
 use Rattle.lt_tree.specs.Typing.Rules.{Rule, broken_if, unless, bad_mark, incomplete_type}
 use Rattle.lt_tree.specs.Typing.TypedTree as e
 use Rattle.lt_tree.specs.Typing.TypedTree.{before, after}
-use Rattle.lt_tree.specs.Typing.Entities.{Known, Object, Label, an_enumerator, meaning_of, tagged_in}
+use Rattle.lt_tree.specs.Typing.Entities.{Known, Label, an_enumerator, meaning_of, tagged_in}
 use Rattle.lt_tree.specs.Typing.Steps.{Goes}
 use Rattle.lt_tree.specs.Typing.Expressions.{Typed, Use, as_value, as_truth, as_place, as_callee, own_type}
 use Rattle.lt_tree.specs.Typing.Operations.{judge_name, judge_constant, judge_step, judge_size, judge_member, judge_arrow, judge_index, judge_call, judge_cast}
 use Rattle.lt_tree.specs.Typing.BinaryOperations.{judge_binary, judge_logical, judge_conditional, judge_assignment, judge_comma}
 use Rattle.lt_tree.specs.Typing.MarkRules.{TypedBinding, is_good_mark, names_of, number_of_id, label_of, judge_decide, inside_mark, inside_after, judge_after, judge_marked}
 use Rattle.lt_tree.specs.Typing.Specifying.{Specified, is_register, Setting, elsewhere, beside_words, value_given, enumerator_faults}
-use Rattle.lt_tree.specs.Typing.Declarators.{Built, built, all_faults, length_or_none, setting_in_sizeof, is_written, type_name_faults, parameter_faults, member_faults, with_member, has_width}
+use Rattle.lt_tree.specs.Typing.Declarators.{Built, all_faults, length_or_none, setting_in_sizeof, is_written, type_name_faults, parameter_faults, member_faults, with_member, has_width}
 use Rattle.lt_tree.specs.Typing.NodeEnds.{text_object, text_at, judge_unary, operand_of, also, end_of_mark, end_of_enumerator, is_no_declarator, alone_faults, end_of_declarator, enter_if, without_parameters}
 use Rattle.lt_tree.specs.Typing.ExpressionTyping.{expression, expressions, maybe, marks, mark, bindings, specifiers, type_specifiers, type_specifier, members, struct_member, member_declarators, enumerators, declarator, parts, parameters, parameter_list}
-use Rattle.lt_ranges.specs.Ranges.{Counts, to_label, in_type, in_option, in_marks, in_mark}
+use Rattle.lt_tree.specs.Typing.Ranges.{Counts, to_label, in_marks, in_mark}
 use Rattle.lt_ranges.proofs.References.{Has, none, one, cons, both, Kept, same, then_kept, later}
 use Rattle.lt_ranges.proofs.Steps.{Sound, counts_of, Good, went, bind, onward, done, Any, judged, unmarked, in_innermost, in_new_frame, unmarked_here, entered, new_frame, scoped}
 use Rattle.lt_ranges.proofs.TypesInRange.{T, adjusted_in}
-use Rattle.lt_ranges.proofs.TypedInRange.{TypedIn, later_typed, own_type_in, value_in_range, used_in}
-use Rattle.lt_ranges.proofs.Lookups.{bound_in_range, tagged_in_range, Ms}
+use Rattle.lt_ranges.proofs.TypedInRange.{TypedIn, later_typed, value_in_range, used_in}
+use Rattle.lt_ranges.proofs.Lookups.{bound_in_range, Ms}
 use Rattle.lt_ranges.proofs.OperationsInRange.{name_in, constant_in_range, text_in_range, unary_in, step_in, size_in, member_typed_in, arrow_in, index_in, AllTyped, call_in, cast_typed_in}
 use Rattle.lt_ranges.proofs.BinaryInRange.{binary_in, logical_in, conditional_in, assignment_in, comma_in, marked_in, decide_in, after_in, AllBound, bindings_in}
 use Rattle.lt_ranges.proofs.Growth.{bound, with_object, object_kept, object_there, object_added, with_label, label_kept, label_there, label_added}
 use Rattle.lt_ranges.proofs.Nodes.{finished_as, finished, decide_fact_in, after_fact_in}
-use Rattle.lt_ranges.proofs.Specified.{NamingIn, NamingsIn, SpecifiedIn, basic_in, typedef_in, specified_in, struct_tag_in, enum_tag_in, open_struct_in, close_struct_in, open_enum_in, close_enum_in, ParametersIn, BuiltIn, DeclaresIn, later_built, later_declares, array_in, function_built_in, pointer_in, dots_in, binds_in, parameter_in, MemberedIn, member_added}
+use Rattle.lt_ranges.proofs.Specified.{NamingIn, NamingsIn, SpecifiedIn, basic_in, typedef_in, specified_in, struct_tag_in, enum_tag_in, open_struct_in, close_struct_in, open_enum_in, close_enum_in, ParametersIn, BuiltIn, DeclaresIn, later_declares, array_in, function_built_in, pointer_in, dots_in, binds_in, parameter_in, MemberedIn, member_added}
 
 abbrev pub MaybeIn : Counts → Option Typed → Type 0
 MaybeIn b None = Unit {0}

@@ -1,36 +1,36 @@
 -- The typing of statements and units stays in range.
-use Rattle.std.proofs.Common.{◌≡◌, refl, sym, subst, ap, ◌∙◌, ℕ, ℤ, ◌<◌, true, false, List, [], ◌∷◌, ◌++◌, length, map, Bool, Option, Some, None, arith}
+use Rattle.std.proofs.Common.{◌≡◌, subst, ℕ, true, false, List, [], ◌∷◌, ◌++◌, map, Bool, Option, Some, None}
 use Rattle.std.specs.Prelude.{if◌then◌else◌, filter_map, unwrap_or, ◌||◌}
-use Rattle.std.specs.List.{All, flat_map, list_any}
+use Rattle.std.specs.List.{flat_map, list_any}
 use Rattle.lt_model.specs.declared.scalar.DataModel.{DataModel}
 use Rattle.lt_model.specs.declared.scalar.Scalar.{Scalar}
 use Rattle.lt_model.specs.Conversions.{promoted}
 use Rattle.lt_tree.specs.Tree as c
-use Rattle.lt_tree.specs.Typing.Types.{CType, CTypes, no_types, a_type, Void, Num, Pointer, Array, Struct, Function, Floating, Qualified, bare, all_bare, same as same_type, is_integer, is_void, unqualified}
+use Rattle.lt_tree.specs.Typing.Types.{CType, CTypes, no_types, a_type, Void, Num, Pointer, Array, Struct, Function, Floating, Qualified, bare, all_bare, same as same_type, is_integer, unqualified}
 use Rattle.lt_tree.specs.Typing.Extents.{Member, StructType}
-use Rattle.lt_tree.specs.Typing.Rules.{Rule, broken_if, unless, bad_case, stray_jump}
+use Rattle.lt_tree.specs.Typing.Rules.{broken_if, unless, bad_case, stray_jump}
 use Rattle.lt_tree.specs.Typing.TypedTree as e
 use Rattle.lt_tree.specs.Typing.TypedTree.{Value, Local}
-use Rattle.lt_tree.specs.Typing.Entities.{Known, Frame, Function as Defined, a_function, at_start, bind_name, innermost}
-use Rattle.lt_tree.specs.Typing.Steps.{Outcome, Goes}
-use Rattle.lt_tree.specs.Typing.Expressions.{Typed, as_value, as_truth, own_type, value_in, converted_to, scalar_in}
+use Rattle.lt_tree.specs.Typing.Entities.{Known, Function as Defined, a_function, at_start, bind_name}
+use Rattle.lt_tree.specs.Typing.Steps.{Outcome}
+use Rattle.lt_tree.specs.Typing.Expressions.{Typed, as_value, as_truth, own_type, value_in, scalar_in}
 use Rattle.lt_tree.specs.Typing.Operations.{promoted_value}
 use Rattle.lt_tree.specs.Typing.Specifying.{elsewhere}
-use Rattle.lt_tree.specs.Typing.Declarators.{Parameters, Declares}
+use Rattle.lt_tree.specs.Typing.Declarators.{Parameters}
 use Rattle.lt_tree.specs.Typing.Declaring.{definition_faults, with_declared}
 use Rattle.lt_tree.specs.Typing.DeclarationTyping.{declaration, effective_in_for}
-use Rattle.lt_tree.specs.Typing.StatementTyping.{Around, in_a_loop, in_a_switch, test_faults, optional_test_faults, optional_expression, optional_test, optional_value, TypedStart, for_start, switch_type, switch_value, Seen, is_new_case, with_case, case_value, Labelled, labels, return_faults, returned, locals_before, statement, items, cases}
-use Rattle.lt_tree.specs.Typing.Programs.{Program, Typing, typed, broken, made_of, all_made_of, with_new, types_of_struct, types_in, program_of}
+use Rattle.lt_tree.specs.Typing.StatementTyping.{Around, in_a_loop, in_a_switch, test_faults, optional_test_faults, optional_expression, optional_test, optional_value, TypedStart, for_start, switch_type, switch_value, Seen, is_new_case, with_case, case_value, labels, return_faults, returned, locals_before, statement, items, cases}
+use Rattle.lt_tree.specs.Typing.Programs.{Program, typed, made_of, all_made_of, with_new, types_of_struct, types_in, program_of}
 use Rattle.lt_tree.specs.Typing.UnitTyping.{around_body, frame_of, objects_of, external, externals, defined_in, answer, typing}
-use Rattle.lt_ranges.specs.Ranges.{Reference, Counts, to_object, in_type, in_types, in_value, in_option, in_for_start, in_statement, in_items, in_cases, in_member, in_struct, in_object, in_declared, in_frame, in_fact, in_local, counts_in, references, IsInRange}
+use Rattle.lt_tree.specs.Typing.Ranges.{Reference, Counts, to_object, in_type, in_types, in_value, in_option, in_for_start, in_statement, in_items, in_cases, in_member, in_struct, in_object, in_frame, in_fact, in_local, IsInRange}
 use Rattle.lt_ranges.specs.Laws.{ProgramsAreInRange}
-use Rattle.lt_ranges.proofs.References.{Has, as_all, none, one, cons, head, both, front, back, Kept, same, then_kept, later, pushed, appended}
+use Rattle.lt_ranges.proofs.References.{Has, as_all, none, cons, head, both, front, back, Kept, same, then_kept, later, pushed, appended}
 use Rattle.lt_ranges.proofs.Steps.{Sound, counts_of, Good, went, broke, bind, onward, done, Any, judged, unmarked, blocked, in_innermost, with_frames, in_new_frame, unmarked_here, entered, new_frame, scoped}
 use Rattle.lt_ranges.proofs.TypesInRange.{T, unqualified_in}
 use Rattle.lt_ranges.proofs.TypedInRange.{V, TypedIn, later_typed, value_in_range, converted_value_in}
 use Rattle.lt_ranges.proofs.Growth.{bound, defined, declared_in}
-use Rattle.lt_ranges.proofs.Specified.{in_parameters, DeclaresIn, later_declares}
-use Rattle.lt_ranges.proofs.RangedExpressions.{MaybeIn, MarkIn, of_expression, of_mark, of_specifiers, of_declarator}
+use Rattle.lt_ranges.proofs.Specified.{in_parameters}
+use Rattle.lt_ranges.proofs.RangedExpressions.{MaybeIn, of_expression, of_mark, of_specifiers, of_declarator}
 use Rattle.lt_ranges.proofs.RangedDeclarations.{LocalsIn, DeclaredLocalsIn, of_declaration_by}
 
 -- ---- parts of statements
@@ -188,7 +188,7 @@ of_external (c.Defines sp d body) known s =
     onward there.kept (bind (blocked start.frames start_sound.frames (of_items body (around_body declared.type) inside (with_frames start (frame ∷ start.frames) (both frame_there start_sound.frames) start_sound) result_there))
     (λ found k2 kept2 s2 h. let f : Defined = record { node = known.next; name = name; type = declared.type; parameters = objects_of declared.parameters; body = found.0 } in
     let all_kept = then_kept there.kept kept2 in
-    went same (defined f k2 (both (later all_kept d_in.type) (both (later all_kept (objects_in declared.parameters d_in.parameters)) h.0)) s2) tt))))
+    went same (defined f k2 (cons (head (later kept2 there.there)) (both (later all_kept d_in.type) (both (later all_kept (objects_in declared.parameters d_in.parameters)) h.0))) s2) tt))))
 of_external (c.Declared d) known s = bind (of_declaration d (entered known) s) (λ it k kept s h. judged known.next it.faults k s)
 
 of_externals : (them : List c.External) (known : Known) → Sound known → Good Any (counts_of known) (externals them known)

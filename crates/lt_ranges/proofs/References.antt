@@ -1,11 +1,11 @@
 -- References of which each is to something that is there.
-use Rattle.std.proofs.Common.{◌≡◌, sym, subst, ℕ, zero, suc, ◌<◌, ◌≤◌, List, [], ◌∷◌, ◌++◌, length, map, Bool, true, false, Option, Some, None, arith}
-use Rattle.std.specs.Prelude.{slice_get, slice_set}
+use Rattle.std.proofs.Common.{◌≡◌, ℕ, zero, suc, ◌≤◌, List, [], ◌∷◌, ◌++◌, Some, arith}
+use Rattle.std.specs.Prelude.{slice_set}
 use Rattle.std.specs.List.{All, AllByRecursion, Contains, flat_map}
 use Rattle.std.proofs.lemmas.List.Elements.{All-from_recursion}
 use Rattle.lt_tree.specs.Typing.Types.{CType}
-use Rattle.lt_tree.specs.Typing.Entities.{Declared, declared_among}
-use Rattle.lt_ranges.specs.Ranges.{Reference, to_object, to_struct, to_function, to_call, to_label, Counts, IsThere}
+use Rattle.lt_tree.specs.Typing.Entities.{declared_among}
+use Rattle.lt_tree.specs.Typing.Ranges.{Reference, to_object, to_struct, to_function, to_call, to_label, Counts, IsThere}
 
 -- all of these are there
 pub record Has (b : Counts) (rs : List Reference) : Type 0 where

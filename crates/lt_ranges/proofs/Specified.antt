@@ -1,22 +1,20 @@
 -- Specifiers, declarators and members in range.
-use Rattle.std.proofs.Common.{◌≡◌, refl, ℕ, ℤ, ◌<◌, List, [], ◌∷◌, ◌++◌, length, map, Bool, true, false, Option, Some, None}
-use Rattle.std.specs.Prelude.{if◌then◌else◌, unwrap_or, slice_set}
+use Rattle.std.proofs.Common.{ℕ, List, [], ◌∷◌, ◌++◌, length, map, Bool, true, false, Option, Some, None}
+use Rattle.std.specs.Prelude.{if◌then◌else◌, unwrap_or}
 use Rattle.std.specs.List.{flat_map}
 use Rattle.lt_model.specs.declared.scalar.Scalar.TheVariants as S
 use Rattle.lt_tree.specs.declared.specifier.BasicType.{BasicType}
 use Rattle.lt_tree.specs.declared.specifier.BasicType.TheVariants as basic
 use Rattle.lt_tree.specs.Tree as c
-use Rattle.lt_tree.specs.Typing.Types.{CType, CTypes, no_types, a_type, Void, Num, Pointer, Array, Struct, Function, Floating, unqualified, adjusted}
+use Rattle.lt_tree.specs.Typing.Types.{CType, a_type, Num, Pointer, unqualified, adjusted}
 use Rattle.lt_tree.specs.Typing.Extents.{Member, StructType}
 use Rattle.lt_tree.specs.Typing.Rules.{Rule, declared_twice}
-use Rattle.lt_tree.specs.Typing.Entities.{Known, Entity, an_object, a_function, a_typedef, an_enumerator, Tagged, a_struct, an_enum, Tag, tagged_in, tag_here, Object, parameter, unmade, bind_tag, Frame, innermost}
-use Rattle.lt_tree.specs.Typing.Steps.{Goes}
-use Rattle.lt_tree.specs.Typing.Expressions.{Typed}
+use Rattle.lt_tree.specs.Typing.Entities.{Known, Entity, an_object, a_function, a_typedef, an_enumerator, Tagged, a_struct, an_enum, tagged_in, tag_here, Object, parameter, unmade, bind_tag, Frame, innermost}
 use Rattle.lt_tree.specs.Typing.Specifying.{Naming, basic_type, typedef_named, Specified, only_type, specified, Setting, is_alone, struct_by_tag, struct_tagged, enum_tagged, OpenStruct, open_new, open_tagged, open_struct, is_complete_struct, with_members, close_struct, open_enum, close_enum}
 use Rattle.lt_tree.specs.Typing.Declarators.{Parameters, Built, array_of, function_of, pointer_to, Declares, binds_parameter, parameter_before, with_member, Membered}
 use Rattle.lt_tree.specs.Typing.NodeEnds.{with_dots}
-use Rattle.lt_ranges.specs.Ranges.{Reference, to_object, to_struct, Counts, in_type, in_types, in_option, in_member, in_struct, in_entity, in_bound, in_tagged, in_tag, in_frame}
-use Rattle.lt_ranges.proofs.References.{Has, none, one, cons, head, both, front, back, Kept, same, then_kept, later, pushed, appended}
+use Rattle.lt_tree.specs.Typing.Ranges.{Reference, to_object, to_struct, Counts, in_type, in_types, in_option, in_member, in_frame}
+use Rattle.lt_ranges.proofs.References.{Has, none, one, cons, head, both, front, back, Kept, same, later, pushed}
 use Rattle.lt_ranges.proofs.Steps.{Sound, counts_of, Good, went, done, Any, in_innermost}
 use Rattle.lt_ranges.proofs.TypesInRange.{T, unqualified_in, qualified_in, adjusted_in}
 use Rattle.lt_ranges.proofs.Lookups.{EntityIn, TagIn, tagged_in_range, tag_here_in, Ms}
@@ -175,7 +173,7 @@ pub parameter_in : {b : Counts} {it : Declares} (objects : List ℕ) (others : P
 parameter_in {b} {it} objects others h i j =
     let behind : Has b (map to_object others.objects ++ in_frame others.frame) = back (in_types others.types) j in
     let list : Has b (in_types (a_type (unqualified (adjusted it.type)) others.types)) =
-      both (unqualified_in (adjusted it.type) (adjusted_in it.type h.type)) (front {rs = in_types others.types} _ j) in
+    both (unqualified_in (adjusted it.type) (adjusted_in it.type h.type)) (front {rs = in_types others.types} _ j) in
     both list (both (objects_appended objects others.objects i (front {rs = map to_object others.objects} _ behind)) (back (map to_object others.objects) behind))
 
 -- ---- members

@@ -1,12 +1,12 @@
 -- How what is known stays in range while a unit is typed.
-use Rattle.std.proofs.Common.{◌≡◌, refl, sym, subst, ℕ, ◌+◌, List, [], ◌∷◌, ◌++◌, length, map, Bool, true, false, Option, Some, None, arith}
+use Rattle.std.proofs.Common.{◌≡◌, refl, ℕ, ◌+◌, List, [], ◌∷◌, length, map, Bool, true, Option, Some, None}
 use Rattle.std.specs.List.{flat_map}
 use Rattle.lt_tree.specs.Typing.Extents.{Structs}
-use Rattle.lt_tree.specs.Typing.Rules.{Rule, least, lesser}
+use Rattle.lt_tree.specs.Typing.Rules.{Rule, least}
 use Rattle.lt_tree.specs.Typing.Entities.{Known, Frame, no_names, innermost, Object, Declared, Function, Fact}
 use Rattle.lt_tree.specs.Typing.Steps.{Outcome, Goes, Breaks, goes_on, unless_broken, settle, gives, left, marked_again}
-use Rattle.lt_ranges.specs.Ranges.{Reference, Counts, in_frame, in_struct, in_object, in_declared, in_function, in_fact}
-use Rattle.lt_ranges.proofs.References.{Has, none, both, front, back, Kept, same, then_kept, later}
+use Rattle.lt_tree.specs.Typing.Ranges.{Reference, Counts, in_frame, in_struct, in_object, in_declared, in_function, in_fact}
+use Rattle.lt_ranges.proofs.References.{Has, none, front, Kept, same, then_kept, later}
 
 abbrev pub counts_of : Known → Counts
 counts_of known = record {

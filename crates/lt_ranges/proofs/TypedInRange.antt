@@ -1,16 +1,15 @@
 -- Typed expressions in range, as values and as places.
-use Rattle.std.proofs.Common.{◌≡◌, refl, ℕ, ℤ, pos, Bool, true, false, List, [], ◌∷◌, ◌++◌, Option, Some, None}
+use Rattle.std.proofs.Common.{◌≡◌, ℕ, ℤ, pos, true, false, [], ◌∷◌, Some, None}
 use Rattle.std.specs.Prelude.{if◌then◌else◌, ◌||◌}
 use Rattle.lt_model.specs.declared.scalar.Scalar.{Scalar}
-use Rattle.lt_tree.specs.Typing.Types.{CType, Void, Num, Pointer, Array, Struct, Function, Floating, Qualified, is_struct, is_array, same, unqualified}
-use Rattle.lt_tree.specs.Typing.Constants.{Constancy, varying}
+use Rattle.lt_tree.specs.Typing.Types.{CType, Void, Array, is_struct, is_array, same, unqualified}
+use Rattle.lt_tree.specs.Typing.Constants.{Constancy}
 use Rattle.lt_tree.specs.Typing.TypedTree as e
 use Rattle.lt_tree.specs.Typing.TypedTree.{Value, Place, Conversion, type_of, type_at}
-use Rattle.lt_tree.specs.Typing.Rules.{Rule}
-use Rattle.lt_tree.specs.Typing.Entities.{declared_among, Fact}
-use Rattle.lt_tree.specs.Typing.Expressions.{Form, a_value, a_place, a_designator, Typed, Use, as_value, as_truth, as_place, as_callee, valued, varies, placed, constant, nothing, own_type, value_at, value_in, place_in, read, as_it_is_read, is_read, used, object_of_place, object_of, fact_of, Judged, judgement, how_to, cast_to, converted_to}
-use Rattle.lt_ranges.specs.Ranges.{Counts, in_type, in_constancy, in_value, in_place, in_fact, in_option, to_object}
-use Rattle.lt_ranges.proofs.References.{Has, none, one, head, both, front, back, Kept, later}
+use Rattle.lt_tree.specs.Typing.Entities.{declared_among}
+use Rattle.lt_tree.specs.Typing.Expressions.{Form, a_value, a_place, a_designator, Typed, Use, valued, varies, placed, constant, nothing, own_type, value_at, value_in, place_in, read, as_it_is_read, is_read, used, object_of_place, fact_of, cast_to, converted_to}
+use Rattle.lt_tree.specs.Typing.Ranges.{Counts, in_type, in_constancy, in_value, in_place, in_fact, in_option, to_object}
+use Rattle.lt_ranges.proofs.References.{Has, none, both, front, back, Kept, later}
 use Rattle.lt_ranges.proofs.TypesInRange.{T, C, unqualified_in}
 
 abbrev pub V : Counts → Value → Type 0

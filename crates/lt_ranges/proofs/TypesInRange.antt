@@ -1,21 +1,19 @@
 -- Types and constants that are made of types and constants in range.
-use Rattle.std.proofs.Common.{◌≡◌, ℕ, ℤ, Bool, true, false, List, [], ◌∷◌, ◌++◌, Option, Some, None, Result, Ok, Err}
+use Rattle.std.proofs.Common.{ℕ, ℤ, Bool, true, false, Result, Ok, Err}
 use Rattle.std.specs.Prelude.{if◌then◌else◌, unwrap_or, ◌||◌, ◌&&◌, nat_le, negsuc, pos, ◌+ℤ◌, ◌*ℤ◌}
 use Rattle.lt_model.specs.declared.scalar.DataModel.{DataModel}
 use Rattle.lt_model.specs.declared.scalar.Scalar.{Scalar}
 use Rattle.lt_model.specs.declared.scalar.Scalar.TheVariants as S
 use Rattle.lt_model.specs.declared.operator.Op.{Op}
-use Rattle.lt_model.specs.declared.operator.Op.TheVariants as O
 use Rattle.lt_model.specs.declared.operator.Ub.{Ub}
 use Rattle.lt_model.specs.Operators.{value_of}
 use Rattle.lt_tree.specs.Tree.{Qualifiers}
-use Rattle.lt_tree.specs.Typing.Types.{CType, CTypes, Void, Num, Pointer, Array, Struct, Function, Floating, Qualified, both as both_of, add_qualifiers, qualified, unqualified, target_of, value_type, adjusted, same}
+use Rattle.lt_tree.specs.Typing.Types.{CType, Void, Num, Pointer, Array, Struct, Function, Floating, Qualified, add_qualifiers, qualified, unqualified, target_of, value_type, adjusted, same}
 use Rattle.lt_tree.specs.Typing.Constants.{Constancy, varying, faulty, number, null_constant, null_address, address, value_or_fault, converted, applied, operated, negated, truth_of, connected, chosen, moved_to, moved_by, is_form, is_true, is_zero}
 use Rattle.lt_tree.specs.Typing.Expressions.{null_of, constancy_as_pointer, truth_of_address, constancy_as_number, constancy_to}
 use Rattle.lt_tree.specs.Typing.Operations.{constant_address}
-use Rattle.lt_tree.specs.Typing.BinaryOperations.{towards}
-use Rattle.lt_ranges.specs.Ranges.{Counts, in_type, in_types, in_constancy}
-use Rattle.lt_ranges.proofs.References.{Has, none, one, head, both, front, back}
+use Rattle.lt_tree.specs.Typing.Ranges.{Counts, in_type, in_constancy}
+use Rattle.lt_ranges.proofs.References.{Has, none}
 
 abbrev pub T : Counts → CType → Type 0
 T b t = Has b (in_type t)

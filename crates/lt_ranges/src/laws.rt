@@ -1,8 +1,13 @@
-//! The function does nothing.
+//! The functions do nothing.
 
-ghost use Rattle.lt_ranges.specs.Laws.{ProgramsAreInRange};
+ghost use Rattle.lt_ranges.specs.Laws.{ProgramsAreInRange, LastingIdsHaveRows};
 
 /// All that stands in the typed program of a unit refers to what is there.
 pub fn programs_are_in_range()
     ensures { ProgramsAreInRange }
+{}
+
+/// The type ids of a program that is the same, whatever types are added later, have rows in its table.
+pub fn lasting_ids_have_rows()
+    ensures { LastingIdsHaveRows }
 {}

@@ -27,6 +27,7 @@ pub mod DeclarationTyping
 -- statements and units
 pub mod StatementTyping
 pub mod Programs
+pub mod Ranges
 pub mod UnitTyping
 -- what lies in memory
 pub mod Shapes
@@ -36,3 +37,5 @@ pub mod ValueView
 pub mod StatementView
 pub mod EntityView
 pub mod ProgramView
+pub mod TypeIds
+pub mod ProgramRanges

@@ -183,7 +183,7 @@ abbrev pub in_declared : Declared → List Reference
 in_declared f = in_type f.type
 
 abbrev pub in_function : Function → List Reference
-in_function f = in_type f.type ++ (map to_object f.parameters ++ in_items f.body)
+in_function f = to_function f.name ∷ in_type f.type ++ (map to_object f.parameters ++ in_items f.body)
 
 abbrev pub in_entity : List ℕ → Entity → List Reference
 in_entity name (an_object n is_register) = to_object n ∷ []
