@@ -363,17 +363,17 @@ in_body (it ∷ rest) h = both (ids_in_item it) (in_item it (λ ts. items_in ts 
 in_member : {types : List CType} (it : Member) → Same types (λ ts. member_of ts it) → Below types (ids_in_member it)
 in_member it h = first it.ty (part (λ m. m.type) h) none
 
-in_struct : {types : List CType} (it : StructType) → Same types (λ ts. struct_of ts it) → Below types (ids_in_struct it)
+pub in_struct : {types : List CType} (it : StructType) → Same types (λ ts. struct_of ts it) → Below types (ids_in_struct it)
 in_struct it h =
     in_option (λ ts members. map (member_of ts) members.items) (λ members. flat_map ids_in_member members.items) (λ members i. in_list member_of ids_in_member in_member members.items i) it.members (part (λ s. s.members) h)
 
-in_object : {types : List CType} (it : Object) → Same types (λ ts. object_of ts it) → Below types (ids_in_object it)
+pub in_object : {types : List CType} (it : Object) → Same types (λ ts. object_of ts it) → Below types (ids_in_object it)
 in_object it h = first it.ty (part (λ o. o.type) h) (in_option start_of ids_in_start in_start it.start (part (λ o. o.start) h))
 
-in_declared : {types : List CType} (it : Declared) → Same types (λ ts. declared_of ts it) → Below types (ids_in_declared it)
+pub in_declared : {types : List CType} (it : Declared) → Same types (λ ts. declared_of ts it) → Below types (ids_in_declared it)
 in_declared it h = first it.ty (part (λ d. d.type) h) none
 
-in_function : {types : List CType} (it : Function) → Same types (λ ts. function_of ts it) → Below types (ids_in_function it)
+pub in_function : {types : List CType} (it : Function) → Same types (λ ts. function_of ts it) → Below types (ids_in_function it)
 in_function it h = first it.ty (part (λ f. f.type) h) (in_body it.body.items (part (λ f. f.body) h))
 
 abbrev typedef_type : k.Entity → CType
@@ -386,10 +386,10 @@ in_entity stands.Function h = none
 in_entity (stands.Typedef ty) h = first ty (part typedef_type h) none
 in_entity (stands.Enumerator z) h = none
 
-in_bound : {types : List CType} (it : Bound) → Same types (λ ts. bound_of ts it) → Below types (ids_in_bound it)
+pub in_bound : {types : List CType} (it : Bound) → Same types (λ ts. bound_of ts it) → Below types (ids_in_bound it)
 in_bound it h = in_entity it.entity (part (λ b. b.entity) h)
 
-in_fact : {types : List CType} (it : Fact) → Same types (λ ts. fact_of ts it) → Below types (ids_in_fact it)
+pub in_fact : {types : List CType} (it : Fact) → Same types (λ ts. fact_of ts it) → Below types (ids_in_fact it)
 in_fact it h = first it.ty (part (λ f. f.type) h) none
 
 in_types : {types : List CType} (ids : List TypeId) → Same types (λ ts. map (type_in ts) ids) → Below types ids
@@ -398,7 +398,7 @@ in_types (id ∷ ids) h = first id (part (head_or Void) h) (in_types ids (part t
 
 -- ---- programs
 
-in_program : {types : List CType} (p : Program) → Same types (λ ts. program_with ts p) → Below types (ids_in_program p)
+pub in_program : {types : List CType} (p : Program) → Same types (λ ts. program_with ts p) → Below types (ids_in_program p)
 in_program p h =
     let structs = in_list struct_of ids_in_struct in_struct p.structs.items (part (λ q. q.structs) h) in
     let objects = in_list object_of ids_in_object in_object p.objects.items (part (λ q. q.objects) h) in

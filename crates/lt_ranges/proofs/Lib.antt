@@ -12,5 +12,6 @@ mod RangedExpressions
 mod FillingsInRange
 mod RangedDeclarations
 mod RangedUnits
-mod LastingIds
-mod IdsHaveRows
+pub mod LastingIds
+pub mod IdsHaveRows
+mod Samples

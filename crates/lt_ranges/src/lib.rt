@@ -3,4 +3,4 @@
 
 mod laws;
 
-pub use laws::{lasting_ids_have_rows, programs_are_in_range};
+pub use laws::{lasting_ids_have_rows, programs_are_in_range, samples_are_judged};
