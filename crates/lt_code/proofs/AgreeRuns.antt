@@ -150,12 +150,13 @@ module _ (graph : Graph) (program : Program) (low : HasProgram program graph) wh
           let shapes = shapes_of program fun.parameters in
           let statics = initials program program.objects in
           let begin : Answer (Unit {0}) → g.Next = λ a. elim (a) as (λ q. g.Next) [ Gives u at ↦ Goes (conf f code.start (blanks code.registers) [] at) | Ends end at ↦ Stops end at ] in
-          let here : launch graph (code_at graph f) f input ticks ≡ begin (started statics names shapes input at0) = ap (λ q. launch graph q f input ticks) is
-          ∙ ap (λ l. begin (started l (names_in code.params) (shapes_in code.params) input at0)) low.statics
-          ∙ ap (λ ps. begin (started statics (names_in ps) (shapes_in ps) input at0)) l.params
-          ∙ ap (λ l. begin (started statics l (shapes_in (parameters_of program fun.parameters)) input at0)) (names_same program fun.parameters)
-          ∙ ap (λ l. begin (started statics names l input at0)) (shapes_same program fun.parameters) in
-          let h = started_run f fun code ticks is l (started statics names shapes input at0) (slow_started statics names shapes input at0) in
+          let here : launch graph (code_at graph f) f input ticks ≡ begin (started program.model statics names shapes input at0) = ap (λ q. launch graph q f input ticks) is
+          ∙ ap (λ m. begin (started m graph.statics (names_in code.params) (shapes_in code.params) input at0)) low.model
+          ∙ ap (λ l. begin (started program.model l (names_in code.params) (shapes_in code.params) input at0)) low.statics
+          ∙ ap (λ ps. begin (started program.model statics (names_in ps) (shapes_in ps) input at0)) l.params
+          ∙ ap (λ l. begin (started program.model statics l (shapes_in (parameters_of program fun.parameters)) input at0)) (names_same program fun.parameters)
+          ∙ ap (λ l. begin (started program.model statics names l input at0)) (shapes_same program fun.parameters) in
+          let h = started_run f fun code ticks is l (started program.model statics names shapes input at0) (slow_started program.model statics names shapes input at0) in
           record { count = h.0; is = ap (λ m. next_of m (steps graph h.0)) here ∙ h.1 }
 
 -- a run of the graph is the program's

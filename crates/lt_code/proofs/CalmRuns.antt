@@ -129,10 +129,10 @@ slow_placed block at = by_room (nat_le (cells_alive at.memory + length block.cel
 slow_bound : (v : Variable) (b : ℕ) → Slow (bound_to v b)
 slow_bound v b at = omega arith
 
-slow_statics : (k : ℕ) (its : List Static) → Slow (start_statics k its)
-slow_statics k [] at = omega arith
-slow_statics k (it ∷ its) at =
-    slow_bind (placed (block_of_static it) >>= bound_to (StaticObject k)) (λ u. start_statics (suc k) its) (slow_bind (placed (block_of_static it)) (bound_to (StaticObject k)) (slow_placed (block_of_static it)) (slow_bound (StaticObject k))) (λ u. slow_statics (suc k) its) at
+slow_statics : (model : DataModel) (k : ℕ) (its : List Static) → Slow (start_statics model k its)
+slow_statics model k [] at = omega arith
+slow_statics model k (it ∷ its) at =
+    slow_bind (placed (block_of_static model it) >>= bound_to (StaticObject k)) (λ u. start_statics model (suc k) its) (slow_bind (placed (block_of_static model it)) (bound_to (StaticObject k)) (slow_placed (block_of_static model it)) (slow_bound (StaticObject k))) (λ u. slow_statics model (suc k) its) at
 
 slow_blocks : (its : List BlockIn) → Slow (start_blocks its)
 slow_blocks [] at = omega arith
@@ -150,9 +150,9 @@ slow_parameters : (k : ℕ) (shapes : List Shape) → Slow (start_parameters k s
 slow_parameters k [] at = omega arith
 slow_parameters k (sh ∷ shs) at = slow_bind (begins (Parameter k) sh true) (λ u. start_parameters (suc k) shs) (slow_begins (Parameter k) sh true) (λ u. slow_parameters (suc k) shs) at
 
-pub slow_started : (statics : List Static) (names : List (List ℕ)) (shapes : List Shape) (input : Input) → Slow (started statics names shapes input)
-slow_started statics names shapes input =
-    let last : List Root → Step (Unit {0}) = λ roots at. sets (parameter_roots at.scope 0 names (roots ++ static_roots 0 statics)) input.cells at in
-    slow_bind (start_statics 0 statics) (λ u. start_blocks input.blocks >>= (λ roots. start_parameters 0 shapes >> last roots)) (slow_statics 0 statics) (λ u.
+pub slow_started : (model : DataModel) (statics : List Static) (names : List (List ℕ)) (shapes : List Shape) (input : Input) → Slow (started model statics names shapes input)
+slow_started model statics names shapes input =
+    let last : List Root → Step (Unit {0}) = λ roots at. sets model (parameter_roots at.scope 0 names (roots ++ static_roots 0 statics)) input.cells at in
+    slow_bind (start_statics model 0 statics) (λ u. start_blocks input.blocks >>= (λ roots. start_parameters 0 shapes >> last roots)) (slow_statics model 0 statics) (λ u.
     slow_bind (start_blocks input.blocks) (λ roots. start_parameters 0 shapes >> last roots) (slow_blocks input.blocks) (λ roots.
     slow_bind (start_parameters 0 shapes) (λ u. last roots) (slow_parameters 0 shapes) (λ u at. omega arith)))

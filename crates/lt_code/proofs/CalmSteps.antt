@@ -1,4 +1,5 @@
 -- Each primitive gives no ticks back, and begins and ends nothing.
+use Rattle.std.specs.Prelude.{◌&&◌}
 use Rattle.std.proofs.Common.{ℕ, zero, suc, ◌≤◌, ℤ, pos, List, Option, Some, None, Result, Ok, Err, Bool, true, false, if◌then◌else◌, refl, arith}
 use Rattle.lt_model.specs.declared.cell.Address.{Address}
 use Rattle.lt_model.specs.declared.cell.CellType.{CellType}
@@ -13,7 +14,7 @@ use Rattle.lt_model.specs.declared.operator.Ub.{Ub}
 use Rattle.lt_model.specs.declared.operator.Ub.TheVariants.{Unsequenced}
 use Rattle.lt_model.specs.declared.run.End.{End}
 use Rattle.lt_model.specs.declared.run.End.TheVariants.{Undefined}
-use Rattle.lt_model.specs.Operators.{value_of}
+use Rattle.lt_model.specs.Operators.{value_of, is_value}
 use Rattle.lt_model.specs.Memory.{Memory, load, store, copy_struct, checked_address, then_result, move_by, compare, subtract, not_null}
 use Rattle.lt_model.specs.State.{Footprint, Valued, clash, joined, meets, Left, Gives, Ends}
 use Rattle.lt_ir.specs.declared.variable.Variable.{Variable}
@@ -23,7 +24,7 @@ use Rattle.lt_ir.specs.declared.node.Movement.{Movement}
 use Rattle.lt_ir.specs.declared.node.Movement.TheVariants.{Elements, Member}
 use Rattle.lt_ir.specs.Pure.{convert_as}
 use Rattle.lt_ir.specs.Running.{At, Answer, Step, gives, over, defined, absurdity, asked, changed, ◌>>=◌, ◌>>◌, spent, tick, living_block, with_block, place, took, next_value, stub_value}
-use Rattle.lt_ir.specs.Evaluation.{number_in, address_in, used, is_some_address, truth_in, apart, cells_met, aimed, loaded, stored, copied, with_reads, signed_count, moved, member_at, applied, counted, compared}
+use Rattle.lt_ir.specs.Evaluation.{number_in, address_in, used, is_some_address, truth_in, apart, cells_met, aimed, loaded, stored, is_content_of, is_integer, is_right_operand, copied, with_reads, signed_count, moved, member_at, applied, counted, compared}
 use Rattle.lt_ir.specs.Graph.{Register, register_at, had, content_at, moves}
 use Rattle.lt_code.proofs.Finishing.{Later, Keeps, Calm, later_same, later_still}
 
@@ -142,11 +143,17 @@ calm-aimed true cells place operands at = keeps-refused at (meets (cells_met cel
 pub calm-loaded : (tracks : Bool) (model : DataModel) (ty : CellType) (p : Valued (Option Address)) → Calm (loaded tracks model ty p)
 calm-loaded tracks model ty p at = calm-bind (asked (λ memory. load model memory p.value ty)) _ (calm-asked (λ memory. load model memory p.value ty)) (λ c at1. later_same at1) at
 
+-- where what is needed is there
+calm-fitting : {A : Type 0} (b : Bool) (m : Step A) → Calm m → Calm (if b then m else absurdity)
+calm-fitting true m h at = h at
+calm-fitting false m h at = tt
+
 calm-written : (change : Memory → Result Memory Ub) (p : Footprint) → Calm (changed change >> gives p)
 calm-written change p = calm-then (changed change) (gives p) (calm-changed change) (calm-gives p)
 
 pub calm-stored : (tracks : Bool) (model : DataModel) (ty : CellType) (place : Option Address) (c : Content) (operands : Footprint) → Calm (stored tracks model ty place c operands)
-calm-stored tracks model ty place c operands at = calm-written (λ memory. store model memory place ty c) _ at
+calm-stored tracks model ty place c operands =
+    calm-fitting (is_content_of model ty c) _ (λ at. calm-written (λ memory. store model memory place ty c) _ at)
 
 pub calm-copied : (tracks : Bool) (model : DataModel) (shape : Shape) (place from : Option Address) (operands : Footprint) → Calm (copied tracks model shape place from operands)
 calm-copied tracks model shape place from operands at = calm-written (λ memory. copy_struct model memory place from shape) _ at
@@ -158,14 +165,14 @@ calm-with_reads tracks cells x at = later_same at
 
 pub calm-moved : (op : Op) (size : ℕ) (p q : Content) → Calm (moved op size p q)
 calm-moved op size p q at =
-    calm-bind (address_in p) _ (calm-address_in p) (λ a. calm-bind (number_in q) _ (calm-number_in q) (λ z. calm-asked (λ memory. move_by memory a (signed_count op z) size))) at
+    calm-bind (address_in p) _ (calm-address_in p) (λ a. calm-bind (number_in q) _ (calm-number_in q) (λ z. calm-fitting (is_integer z) _ (calm-asked (λ memory. move_by memory a (signed_count op z) size)))) at
 
 pub calm-member_at : (offset : ℕ) (place : Option Address) → Calm (member_at offset place)
 calm-member_at offset place at = calm-asked (λ memory. then_result (not_null place) (λ _. move_by memory place (pos 1) offset)) at
 
 pub calm-applied : (model : DataModel) (op : Op) (s : Scalar) (p q : Content) → Calm (applied model op s p q)
 calm-applied model op s p q at =
-    calm-bind (number_in p) _ (calm-number_in p) (λ a. calm-bind (number_in q) _ (calm-number_in q) (λ b. calm-defined (value_of model op s a b))) at
+    calm-bind (number_in p) _ (calm-number_in p) (λ a. calm-bind (number_in q) _ (calm-number_in q) (λ b. calm-fitting (is_value model s a && is_right_operand model op s b) _ (calm-defined (value_of model op s a b)))) at
 
 pub calm-counted : (size : ℕ) (p q : Content) → Calm (counted size p q)
 calm-counted size p q at =

@@ -1,10 +1,8 @@
 -- Two answers that say the same: where nothing changes but reads are recorded. Over answers alone, for the lemmas on pure expressions.
-use Rattle.std.proofs.Common.{◌≡◌, List, [], Bool, true, false, refl, sym, ap, ◌∙◌, subst}
-use Rattle.std.specs.Prelude.{◌++◌, if◌then◌else◌, Err}
+use Rattle.std.proofs.Common.{◌≡◌, Bool, true, false, refl, sym, ap, ◌∙◌, subst}
 use Rattle.lt_model.specs.declared.cell.Content.{Content}
-use Rattle.lt_model.specs.declared.operator.Ub.TheVariants as U
-use Rattle.lt_model.specs.State.{CellName, Footprint, Valued, clash, joined, settle, untouched, Gives, Ends}
-use Rattle.lt_ir.specs.Running.{At, Answer, Step, ◌>>=◌, gives, defined, quietly}
+use Rattle.lt_model.specs.State.{Footprint, Valued, Gives, Ends}
+use Rattle.lt_ir.specs.Running.{At, Answer, Step, ◌>>=◌, quietly}
 use Rattle.lt_ir.specs.Evaluation.{grown, settled_in, apart}
 use Rattle.lt_meaning.proofs.SameBut.{Quiet, quiet_joined, quiet_settled, apart_quiet}
 

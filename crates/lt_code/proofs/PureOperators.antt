@@ -1,6 +1,6 @@
 -- What asks and computes leaves the state as it is; and two parts that leave it give the same in either order.
 use Rattle.std.proofs.Common.{◌≡◌, ℕ, Option, Some, None, Bool, true, false, refl, sym, ap, ◌∙◌, subst}
-use Rattle.std.specs.Prelude.{◌&&◌, Result, Ok, Err}
+use Rattle.std.specs.Prelude.{◌&&◌, if◌then◌else◌, Result, Ok, Err}
 use Rattle.lt_model.specs.declared.cell.Address.{Address}
 use Rattle.lt_model.specs.declared.cell.CellType.{CellType}
 use Rattle.lt_model.specs.declared.cell.Content.{Content}
@@ -10,13 +10,14 @@ use Rattle.lt_model.specs.declared.scalar.Scalar.{Scalar}
 use Rattle.lt_model.specs.declared.operator.Op.{Op}
 use Rattle.lt_model.specs.declared.operator.Ub.{Ub}
 use Rattle.lt_model.specs.State.{Footprint, Valued, Gives, Ends}
+use Rattle.lt_model.specs.Operators.{is_value}
 use Rattle.lt_model.specs.Memory.{Memory, load, checked_address}
 use Rattle.lt_ir.specs.declared.variable.Variable.{Variable}
 use Rattle.lt_ir.specs.declared.pure.How.{How}
 use Rattle.lt_ir.specs.declared.pure.How.TheVariants as how
 use Rattle.lt_ir.specs.Pure.{convert_as}
 use Rattle.lt_ir.specs.Running.{At, Answer, Step, ◌>>=◌, gives, defined, asked, absurdity, place, living_block}
-use Rattle.lt_ir.specs.Evaluation.{valued, number_in, address_in, truth_in, grown, loaded, moved, member_at, applied, counted, compared, reads, cell_at, is_some_address, used}
+use Rattle.lt_ir.specs.Evaluation.{valued, number_in, address_in, truth_in, grown, loaded, moved, member_at, applied, counted, compared, reads, cell_at, is_some_address, is_integer, is_right_operand, used}
 use Rattle.lt_meaning.proofs.SameBut.{Quiet}
 use Rattle.lt_code.proofs.PureAnswers.{quiet_grown, Stays, Same}
 
@@ -51,14 +52,18 @@ stays_truth_in content.Unset at = tt
 stays_truth_in (content.Number z) at = refl
 stays_truth_in (content.Address a) at = stays_bind at (asked (λ memory. checked_address memory a) at) (λ _. gives (is_some_address a)) (stays_asked (λ memory. checked_address memory a) at) (λ _. refl)
 
+stays_fitting : {A : Type 0} (b : Bool) (m : Step A) (at : At) → Stays at (m at) → Stays at ((if b then m else absurdity) at)
+stays_fitting true m at h = h
+stays_fitting false m at h = tt
+
 pub stays_moved : (op : Op) (size : ℕ) (a b : Content) (at : At) → Stays at (moved op size a b at)
-stays_moved op size a b at = stays_bind at _ _ (stays_address_in a at) (λ p. stays_bind at _ _ (stays_number_in b at) (λ n. stays_defined _ at))
+stays_moved op size a b at = stays_bind at _ _ (stays_address_in a at) (λ p. stays_bind at _ _ (stays_number_in b at) (λ n. stays_fitting (is_integer n) _ at (stays_defined _ at)))
 
 pub stays_member_at : (offset : ℕ) (a : Option Address) (at : At) → Stays at (member_at offset a at)
 stays_member_at offset a at = stays_defined _ at
 
 pub stays_applied : (model : DataModel) (op : Op) (s : Scalar) (a b : Content) (at : At) → Stays at (applied model op s a b at)
-stays_applied model op s a b at = stays_bind at _ _ (stays_number_in a at) (λ p. stays_bind at _ _ (stays_number_in b at) (λ n. stays_defined _ at))
+stays_applied model op s a b at = stays_bind at _ _ (stays_number_in a at) (λ p. stays_bind at _ _ (stays_number_in b at) (λ n. stays_fitting (is_value model s p && is_right_operand model op s n) _ at (stays_defined _ at)))
 
 pub stays_counted : (size : ℕ) (a b : Content) (at : At) → Stays at (counted size a b at)
 stays_counted size a b at = stays_bind at _ _ (stays_address_in a at) (λ p. stays_bind at _ _ (stays_address_in b at) (λ n. stays_defined _ at))

@@ -1,11 +1,12 @@
 -- Values and footprints, C11 5.1.2.3 and 6.5: what the evaluation of an expression may meet. A number and an address
 -- are a content; a struct is said by the address where it lies, and its cells are read where they are copied; where
 -- there is no value, the content is unset.
-use Rattle.std.specs.Prelude.{ℕ, suc, ℤ, pos, negsuc, ◌+◌, ◌*ℤ◌, List, [], ◌∷◌, ◌++◌, Bool, true, false, not, Option}
+use Rattle.std.specs.Prelude.{ℕ, suc, ℤ, pos, negsuc, ◌+◌, ◌*ℤ◌, List, [], ◌∷◌, ◌++◌, Bool, true, false, not, ◌&&◌, int_le, ◌^◌, ◌-◌, Option}
 use Rattle.std.specs.Prelude.{Some, None, Result, Ok, Err, if◌then◌else◌}
 use Rattle.std.specs.Ordering.{int_eq}
 use Rattle.lt_model.specs.declared.cell.Address.{Address}
 use Rattle.lt_model.specs.declared.cell.CellType.{CellType}
+use Rattle.lt_model.specs.declared.cell.CellType.TheVariants as celltype
 use Rattle.lt_model.specs.declared.cell.Content.{Content}
 use Rattle.lt_model.specs.declared.cell.Content.TheVariants as content
 use Rattle.lt_model.specs.declared.cell.Shape.{Shape}
@@ -16,7 +17,7 @@ use Rattle.lt_model.specs.declared.operator.Op.{Op}
 use Rattle.lt_model.specs.declared.operator.Op.TheVariants as O
 use Rattle.lt_model.specs.declared.operator.Ub.{Ub}
 use Rattle.lt_model.specs.declared.operator.Ub.TheVariants as U
-use Rattle.lt_model.specs.Operators.{truth, value_of}
+use Rattle.lt_model.specs.Operators.{truth, value_of, is_value}
 use Rattle.lt_model.specs.Memory.{Memory, object_at, held_at, offset_of, load, store, copy_struct, checked_address}
 use Rattle.lt_model.specs.Memory.{then_result, move_by, compare, subtract, not_null}
 use Rattle.lt_model.specs.State.{CellName, Footprint, Valued, clash, joined, settle, meets, untouched}
@@ -137,10 +138,17 @@ abbrev pub written : (tracks : Bool) → (Memory → Result Memory Ub) → List 
 written tracks change cells place operands at =
     (changed change >> gives (grown tracks operands (writes (cells_met cells place at.memory)))) at
 
--- a scalar is stored
+-- whether a content is one of a type: a number that the type has, or an address for a pointer
+abbrev pub is_content_of : DataModel → CellType → Content → Bool
+is_content_of model (celltype.Num s) (content.Number z) = is_value model s z
+is_content_of model (celltype.Pointer p) (content.Address a) = true
+is_content_of model ty c = false
+
+-- a scalar is stored, a content of its type
 abbrev pub stored : (tracks : Bool) → DataModel → CellType → Option Address → Content → Footprint → Step Footprint
-stored tracks model ty place c operands at =
-    written tracks (λ memory. store model memory place ty c) (one_cell ty) place operands at
+stored tracks model ty place c operands =
+    if is_content_of model ty c then written tracks (λ memory. store model memory place ty c) (one_cell ty) place operands
+    else absurdity
 
 -- a struct is copied
 abbrev pub copied : (tracks : Bool) → DataModel → Shape → Option Address → Option Address → Footprint → Step Footprint
@@ -153,22 +161,33 @@ abbrev pub signed_count : Op → ℤ → ℤ
 signed_count O.Sub z = negsuc 0 *ℤ z
 signed_count op z = z
 
+-- whether some integer type has a number
+abbrev pub is_integer : ℤ → Bool
+is_integer z = int_le (negsuc (2 ^ 63 - 1)) z && int_le z (pos (2 ^ 64 - 1))
+
 -- a pointer moved by a number of elements, C11 6.5.6
 abbrev pub moved : Op → ℕ → Content → Content → Step (Option Address)
 moved op size pointer count = do
   p ← address_in pointer
   n ← number_in count
-  asked (λ memory. move_by memory p (signed_count op n) size)
+  if is_integer n then asked (λ memory. move_by memory p (signed_count op n) size) else absurdity
 
 -- the address of a member: null has none
 abbrev pub member_at : ℕ → Option Address → Step (Option Address)
 member_at offset place = asked (λ memory. then_result (not_null place) (λ _. move_by memory place (pos 1) offset))
 
+-- The right operand has a value of the operation's type; that of a shift may have one of any type.
+abbrev pub is_right_operand : DataModel → Op → Scalar → ℤ → Bool
+is_right_operand model O.Shl s z = is_integer z
+is_right_operand model O.Shr s z = is_integer z
+is_right_operand model op s z = is_value model s z
+
+-- an operator on two numbers that may be its operands
 abbrev pub applied : DataModel → Op → Scalar → Content → Content → Step ℤ
 applied model op s left right = do
   a ← number_in left
   b ← number_in right
-  defined (value_of model op s a b)
+  if is_value model s a && is_right_operand model op s b then defined (value_of model op s a b) else absurdity
 
 abbrev pub counted : ℕ → Content → Content → Step ℤ
 counted size left right = do

@@ -336,7 +336,7 @@ steps g (suc n) s = next_of (step g s) (steps g n)
 abbrev pub launch : Graph → Option Code → ℕ → Input → ℕ → Next
 launch g None f input ticks = Stops Stopped (nowhere input ticks)
 launch g (Some code) f input ticks =
-    going (started g.statics (names_in code.params) (shapes_in code.params) input) (nowhere input ticks)
+    going (started g.model g.statics (names_in code.params) (shapes_in code.params) input) (nowhere input ticks)
     (λ _ at. begun f code [] at)
 
 -- The run of a function on an input with so many ticks is over so.

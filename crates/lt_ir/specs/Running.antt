@@ -17,7 +17,8 @@ use Rattle.lt_ir.specs.declared.variable.Variable.TheVariants.{Parameter, Local,
 use Rattle.lt_ir.specs.declared.code.Static.{Static}
 use Rattle.lt_model.specs.State.{Binding, Made, Left, Gives, Ends}
 use Rattle.lt_model.specs.State as state
-use Rattle.lt_model.specs.Memory.{Memory, Block, create_shaped, end_block, seal_block, cells_alive, most_cells}
+use Rattle.lt_model.specs.declared.scalar.DataModel.{DataModel}
+use Rattle.lt_model.specs.Memory.{Memory, Block, as_type, create_shaped, end_block, seal_block, cells_alive, most_cells}
 
 -- a variable that is in scope, and its block
 abbrev pub Bound : Type 0
@@ -212,17 +213,18 @@ end_parameters k (shape ∷ shapes) = end_parameters (suc k) shapes >> ends (Par
 
 -- ---- objects that are there from the start, C11 5.1.2 and 6.7.9
 
--- the cells of an object, with what they hold
-abbrev pub holding : List ShapeCell → List Content → List StoredCell
-holding (cell ∷ cells) (c ∷ cs) = record { offset = cell.offset; ty = cell.ty; holds = c } ∷ holding cells cs
-holding cells cs = []
+-- the cells of an object, with what they hold, as their types have it
+abbrev pub holding : DataModel → List ShapeCell → List Content → List StoredCell
+holding model (cell ∷ cells) (c ∷ cs) =
+    record { offset = cell.offset; ty = cell.ty; holds = as_type model cell.ty c } ∷ holding model cells cs
+holding model cells cs = []
 
-abbrev pub block_of_static : Static → Block
-block_of_static it = record {
+abbrev pub block_of_static : DataModel → Static → Block
+block_of_static model it = record {
   alive = true;
   writable = it.writable;
   size = it.block.shape.size;
-  cells = holding it.block.shape.cells it.cells;
+  cells = holding model it.block.shape.cells it.cells;
 }
 
 abbrev pub with_new : Block → At → At
@@ -234,9 +236,10 @@ placed block at =
     if nat_le (cells_alive at.memory + length block.cells) most_cells then Gives (length at.memory) (with_new block at)
     else Ends Cells at
 
-abbrev pub start_statics : ℕ → List Static → Step (Unit {0})
-start_statics k [] = gives tt
-start_statics k (it ∷ its) = placed (block_of_static it) >>= bound_to (StaticObject k) >> start_statics (suc k) its
+abbrev pub start_statics : DataModel → ℕ → List Static → Step (Unit {0})
+start_statics model k [] = gives tt
+start_statics model k (it ∷ its) =
+    placed (block_of_static model it) >>= bound_to (StaticObject k) >> start_statics model (suc k) its
 
 -- how a run is over: its end, and where it stood
 pub record Over : Type 0 where

@@ -14,7 +14,8 @@ use Rattle.lt_model.specs.declared.input.CellSet.TheVariants as cellset
 use Rattle.lt_model.specs.declared.input.StubSet.{StubSet}
 use Rattle.lt_model.specs.declared.input.BlockIn.{BlockIn}
 use Rattle.lt_model.specs.declared.input.Input.{Input}
-use Rattle.lt_model.specs.Memory.{Memory, Block, new_block}
+use Rattle.lt_model.specs.declared.scalar.DataModel.{DataModel}
+use Rattle.lt_model.specs.Memory.{Memory, Block, as_type, new_block}
 use Rattle.lt_model.specs.State.{Left, Gives}
 use Rattle.lt_ir.specs.declared.variable.Variable.TheVariants.{Parameter}
 use Rattle.lt_ir.specs.declared.code.Static.{Static}
@@ -40,31 +41,33 @@ point_named roots (Some p) = address_named roots p
 
 -- ---- cells that are set
 
-abbrev pub set_in : ℕ → Content → List StoredCell → List StoredCell
-set_in offset c [] = []
-set_in offset c (it ∷ cells) =
-    if it.offset == offset then record it { holds = c } ∷ cells else it ∷ set_in offset c cells
+-- the cell at an offset gets a content, as its type has it
+abbrev pub set_in : DataModel → ℕ → Content → List StoredCell → List StoredCell
+set_in model offset c [] = []
+set_in model offset c (it ∷ cells) =
+    if it.offset == offset then record it { holds = as_type model it.ty c } ∷ cells else it ∷ set_in model offset c cells
 
-abbrev pub set_block : Memory → ℕ → ℕ → Content → Option Block → Memory
-set_block memory block offset c None = memory
-set_block memory block offset c (Some it) = slice_set memory block (record it { cells = set_in offset c it.cells })
+abbrev pub set_block : DataModel → Memory → ℕ → ℕ → Content → Option Block → Memory
+set_block model memory block offset c None = memory
+set_block model memory block offset c (Some it) =
+    slice_set memory block (record it { cells = set_in model offset c it.cells })
 
 -- the cell at an address, which may be one that the program can't write
-abbrev pub set_at : Option Address → Content → Memory → Memory
-set_at None c memory = memory
-set_at (Some a) c memory = set_block memory a.block a.offset c (slice_get memory a.block)
+abbrev pub set_at : DataModel → Option Address → Content → Memory → Memory
+set_at model None c memory = memory
+set_at model (Some a) c memory = set_block model memory a.block a.offset c (slice_get memory a.block)
 
-abbrev pub set_one : List Root → CellSet → Memory → Memory
-set_one roots (cellset.Number p z) memory = set_at (address_named roots p) (content.Number z) memory
-set_one roots (cellset.Point p target) memory =
-    set_at (address_named roots p) (content.Address (point_named roots target)) memory
+abbrev pub set_one : DataModel → List Root → CellSet → Memory → Memory
+set_one model roots (cellset.Number p z) memory = set_at model (address_named roots p) (content.Number z) memory
+set_one model roots (cellset.Point p target) memory =
+    set_at model (address_named roots p) (content.Address (point_named roots target)) memory
 
-abbrev pub set_all : List Root → List CellSet → Memory → Memory
-set_all roots [] memory = memory
-set_all roots (it ∷ its) memory = set_all roots its (set_one roots it memory)
+abbrev pub set_all : DataModel → List Root → List CellSet → Memory → Memory
+set_all model roots [] memory = memory
+set_all model roots (it ∷ its) memory = set_all model roots its (set_one model roots it memory)
 
-abbrev pub sets : List Root → List CellSet → Step (Unit {0})
-sets roots its at = Gives tt (record at { memory = set_all roots its at.memory })
+abbrev pub sets : DataModel → List Root → List CellSet → Step (Unit {0})
+sets model roots its at = Gives tt (record at { memory = set_all model roots its at.memory })
 
 -- ---- named objects and parameters
 
@@ -105,9 +108,9 @@ nowhere input ticks =
     record { scope = []; memory = []; ticks = ticks; depth = 1; stubs = lefts_of input.stubs; marks = [] }
 
 -- all that is there when the entry's body begins
-abbrev pub started : List Static → List (List ℕ) → List Shape → Input → Step (Unit {0})
-started statics names shapes input = do
-  start_statics 0 statics
+abbrev pub started : DataModel → List Static → List (List ℕ) → List Shape → Input → Step (Unit {0})
+started model statics names shapes input = do
+  start_statics model 0 statics
   roots ← start_blocks input.blocks
   start_parameters 0 shapes
-  λ at. sets (parameter_roots at.scope 0 names (roots ++ static_roots 0 statics)) input.cells at
+  λ at. sets model (parameter_roots at.scope 0 names (roots ++ static_roots 0 statics)) input.cells at

@@ -14,8 +14,8 @@ use Rattle.lt_model.specs.State.{Footprint, Valued, joined, settle, untouched, G
 use Rattle.lt_tree.specs.Typing.Types.{CType, is_struct}
 use Rattle.lt_tree.specs.Typing.TypedTree as e
 use Rattle.lt_tree.specs.Typing.TypedTree.{Value, Values, Place, Marks, Mark, Bindings, Conversion, When, type_of, no_values, a_value}
-use Rattle.lt_ir.specs.Running.{At, Answer, Step, ◌>>=◌, gives, asked, changed, place, one_more, marked_with, quietly}
-use Rattle.lt_ir.specs.Evaluation.{valued, number_in, address_in, used, truth_in, of_truth, apart, aimed, one_cell, cells_met, lies_at, reads, cell_at, loaded, with_reads, moved, member_at, applied, counted, compared}
+use Rattle.lt_ir.specs.Running.{At, Answer, Step, ◌>>=◌, gives, asked, absurdity, changed, place, one_more, marked_with, quietly}
+use Rattle.lt_ir.specs.Evaluation.{valued, number_in, address_in, used, truth_in, of_truth, apart, aimed, one_cell, cells_met, lies_at, reads, cell_at, written, is_content_of, loaded, with_reads, moved, member_at, applied, counted, compared}
 use Rattle.lt_meaning.specs.Expressions.{is_pure, pure_only, Around, Fate, wanted, unconverted, untaken, takes, inside, of_branch, of_last, fate_of_part, tracking, converted_here, late, passed, taken, assigned, updated, kept, cells_of, cell_type, shape, scalar_in, pointer_of, count_of, decides, second_truth, comma_from, eval, place_of, arguments_of, parts_of, bound_at, marked, marked_all}
 use Rattle.lt_meaning.specs.Clashes.{Grade, writes_nothing, cannot_clash, is_of, is_place_of, are_of, FootprintsAreNeededForClashesAlone}
 use Rattle.lt_meaning.proofs.SameBut.{Quiet, quiet_untouched, quiet_joined, quiet_settled, apart_quiet, aimed_quiet, Holds, weaken, holds_joined, holds_settled, SameBut, same_value, same_then, same_step, same_known, and_left, and_right}
@@ -86,12 +86,16 @@ module _ (here : Around) where
   changed_same (Gives u at1) p q x = (refl, refl, tt)
   changed_same (Ends end at1) p q x = (refl, refl)
 
+  stored_same : (b : Bool) (t : CType) (a : Option Address) (c x : Content) (p q : Footprint) (at : At) → SameBut (Holds cannot_clash) (((if b then written true (λ memory. store here.program.model memory a (cell_type here.program t) c) (one_cell (cell_type here.program t)) a p else absurdity) >>= (λ r. gives (valued x r))) at) (((if b then written false (λ memory. store here.program.model memory a (cell_type here.program t) c) (one_cell (cell_type here.program t)) a q else absurdity) >>= (λ r. gives (valued x r))) at)
+  stored_same true t a c x p q at = changed_same (changed (λ memory. store here.program.model memory a (cell_type here.program t) c) at) _ _ x
+  stored_same false t a c x p q at = (refl, refl)
+
   updated_same : (t : CType) (a : Option Address) (c x : Content) (p q : Footprint) (at : At) → SameBut (Holds cannot_clash) (updated T t a c x p at) (updated F t a c x q at)
-  updated_same t a c x p q at = changed_same (changed (λ memory. store here.program.model memory a (cell_type here.program t) c) at) _ _ x
+  updated_same t a c x p q at = stored_same (is_content_of here.program.model (cell_type here.program t) c) t a c x p q at
 
   assigned_same : (b : Bool) (t : CType) (a : Option Address) (c : Content) (p q : Footprint) (at : At) → SameBut (Holds cannot_clash) (assigned T t a c p b at) (assigned F t a c q b at)
   assigned_same true t a c p q at = same_step (Holds cannot_clash) (address_in c at) _ _ (λ from at1. changed_same (changed (λ memory. copy_struct here.program.model memory a from (shape here.program t)) at1) _ _ (content.Address a))
-  assigned_same false t a c p q at = same_step (Holds cannot_clash) (used c at) _ _ (λ it at1. changed_same (changed (λ memory. store here.program.model memory a (cell_type here.program t) it) at1) _ _ it)
+  assigned_same false t a c p q at = same_step (Holds cannot_clash) (used c at) _ _ (λ it at1. stored_same (is_content_of here.program.model (cell_type here.program t) it) t a it it p q at1)
 
   -- a conversion that keeps the footprint, or what else is done with a value
   kept_same : {A B : Type 0} (Q : Footprint → Type 0) (m : Step A) (x : A → B) (p q : Footprint) (at : At) → Q p → SameBut Q ((m >>= (λ a. gives (valued (x a) p))) at) ((m >>= (λ a. gives (valued (x a) q))) at)

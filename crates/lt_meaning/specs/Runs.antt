@@ -236,7 +236,7 @@ over_by (Ends end at) = record { end = end; at = at }
 -- all that is there when the body begins of the function with which a run begins
 abbrev pub begun : Program → Function → Input → Step (Unit {0})
 begun program f input =
-    started (initials program program.objects) (map (name_of_object program) f.parameters)
+    started program.model (initials program program.objects) (map (name_of_object program) f.parameters)
     (shapes_of program f.parameters) input
 
 -- The run of a function with so many ticks; its own call spends none and is the first active one.
