@@ -1,29 +1,34 @@
 -- What entering a function and starting a run leave as it is: the scope behind the parameters, and no more ticks.
-use Rattle.std.proofs.Common.{◌≡◌, ℕ, suc, ◌+◌, ◌≤◌, List, [], ◌∷◌, length, Bool, true, false, refl, ap, ◌∙◌, arith}
-use Rattle.std.specs.Prelude.{if◌then◌else◌, nat_eq, nat_le, ◌++◌}
+use Rattle.std.proofs.Common.{◌≡◌, ℕ, suc, ◌+◌, ◌≤◌, List, [], ◌∷◌, length, Option, Some, None, Bool, true, false, refl, ap, ◌∙◌, arith}
+use Rattle.std.specs.Prelude.{if◌then◌else◌, nat_eq}
+use Rattle.lt_model.specs.declared.cell.Address.{Address}
+use Rattle.lt_model.specs.declared.cell.CellType.{CellType}
 use Rattle.lt_model.specs.declared.cell.Content.{Content}
+use Rattle.lt_model.specs.declared.cell.Content.TheVariants as content
+use Rattle.lt_model.specs.declared.input.CellSet.{CellSet}
+use Rattle.lt_model.specs.declared.input.CellSet.TheVariants as cellset
 use Rattle.lt_model.specs.declared.cell.Shape.{Shape}
 use Rattle.lt_model.specs.declared.cell.ShapeCell.{ShapeCell}
 use Rattle.lt_model.specs.declared.scalar.DataModel.{DataModel}
 use Rattle.lt_model.specs.declared.input.BlockIn.{BlockIn}
 use Rattle.lt_model.specs.declared.input.Input.{Input}
 use Rattle.lt_model.specs.declared.run.End.{End as RunEnd}
-use Rattle.lt_model.specs.Memory.{Block, new_block, cells_alive, most_cells}
+use Rattle.lt_model.specs.Memory.{Memory, create_shaped}
 use Rattle.lt_model.specs.State.{untouched, Gives, Ends}
 use Rattle.lt_tree.specs.Typing.Programs.{Program}
 use Rattle.lt_ir.specs.declared.variable.Variable.{Variable}
 use Rattle.lt_ir.specs.declared.variable.Variable.TheVariants.{Parameter, Static as StaticObject}
 use Rattle.lt_ir.specs.declared.code.Static.{Static}
-use Rattle.lt_ir.specs.Running.{Bound, At, Answer, Step, ◌>>=◌, ◌>>◌, gives, place, begins, without, statics_of, is_static, begin_parameters, bound_to, placed, block_of_static, start_statics}
+use Rattle.lt_ir.specs.Running.{Bound, At, Answer, Step, ◌>>=◌, ◌>>◌, gives, place, begins, without, statics_of, is_static, begin_parameters, bound_to, created, seals}
 use Rattle.lt_ir.specs.Evaluation.{used, stored, store_one, store_parameters}
-use Rattle.lt_ir.specs.Starting.{Root, started, start_blocks, start_parameters, parameter_roots, static_roots, sets}
+use Rattle.lt_ir.specs.Starting.{Root, put, fill, start_static, start_statics, seal_statics, started, start_blocks, start_parameters, root_among, point_named, type_at, put_if_there, put_in, set_one, set_all, sets}
 use Rattle.lt_meaning.specs.Expressions.{shape}
 use Rattle.lt_meaning.specs.Statements.{type_of_object}
 use Rattle.lt_meaning.specs.Runs.{shapes_of}
 use Rattle.lt_ir.specs.Graph.{are_static}
-use Rattle.lt_code.proofs.Finishing.{Calm, later_same}
+use Rattle.lt_code.proofs.Finishing.{Keeps, Calm, later_same}
 use Rattle.lt_code.proofs.CalmSteps.{calm-bind, calm-used, calm-place, calm-stored}
-use Rattle.lt_code.proofs.CalmObjects.{Holds, begins_holds, Began}
+use Rattle.lt_code.proofs.CalmObjects.{Holds, begins_holds, Began, calm-seals}
 
 -- ---- steps one behind the other
 
@@ -119,25 +124,77 @@ slow_bind {A} {B} m f hm hf at = holds_bind (λ a at1. at1.ticks ≤ at.ticks) (
     fewer at1 le (Gives b at2) h = omega arith
     fewer at1 le (Ends end at2) h = tt
 
-slow_placed : (block : Block) → Slow (placed block)
-slow_placed block at = by_room (nat_le (cells_alive at.memory + length block.cells) most_cells)
+slow_calm : {A : Type 0} (m : Step A) → Calm m → Slow m
+slow_calm {A} m h at = kept (m at) (h at)
   where
-    by_room : (b : Bool) → Holds (λ a at1. at1.ticks ≤ at.ticks) (if b then Gives (length at.memory) (record at { memory = at.memory ++ block ∷ [] }) else Ends RunEnd.Cells at)
-    by_room true = omega arith
-    by_room false = tt
+    kept : (a : Answer A) → Keeps at a → Holds (λ a at1. at1.ticks ≤ at.ticks) a
+    kept (Gives a at1) l = l.ticks
+    kept (Ends end at1) l = tt
+
+slow_done : Slow {A = Unit {0}} (gives tt)
+slow_done at = omega arith
+
+slow_created : (sh : Shape) (z : Bool) → Slow (created sh z)
+slow_created sh z at = by_memory (create_shaped at.memory sh z true)
+  where
+    by_memory : (o : Option Memory) → Holds (λ a at1. at1.ticks ≤ at.ticks) (elim (o) as (λ q. Answer ℕ) [ None ↦ Ends RunEnd.Cells at | Some memory ↦ Gives (length at.memory) (record at { memory = memory }) ])
+    by_memory None = tt
+    by_memory (Some memory) = omega arith
 
 slow_bound : (v : Variable) (b : ℕ) → Slow (bound_to v b)
 slow_bound v b at = omega arith
 
+slow_put : (model : DataModel) (block offset : ℕ) (ty : CellType) (c : Content) → Slow (put model block offset ty c)
+slow_put model block offset ty c =
+    let where_it_lies : Option Address = Some (record { block = block; offset = offset }) in
+    slow_bind (stored false model ty where_it_lies c untouched) (λ p. gives (tt {0})) (slow_calm (stored false model ty where_it_lies c untouched) (calm-stored false model ty where_it_lies c untouched)) (λ p. slow_done)
+
+slow_fill : (model : DataModel) (block : ℕ) (cells : List ShapeCell) (cs : List Content) → Slow (fill model block cells cs)
+slow_fill model block [] cs = slow_done
+slow_fill model block (cell ∷ cells) [] = slow_done
+slow_fill model block (cell ∷ cells) (c ∷ cs) =
+    slow_bind (put model block cell.offset cell.ty c) (λ u. fill model block cells cs) (slow_put model block cell.offset cell.ty c) (λ u. slow_fill model block cells cs)
+
+slow_static : (model : DataModel) (k : ℕ) (it : Static) → Slow (start_static model k it)
+slow_static model k it =
+    slow_bind (created it.block.shape true) (λ block. fill model block it.block.shape.cells it.cells >> bound_to (StaticObject k) block) (slow_created it.block.shape true) (λ block.
+    slow_bind (fill model block it.block.shape.cells it.cells) (λ u. bound_to (StaticObject k) block) (slow_fill model block it.block.shape.cells it.cells) (λ u. slow_bound (StaticObject k) block))
+
 slow_statics : (model : DataModel) (k : ℕ) (its : List Static) → Slow (start_statics model k its)
-slow_statics model k [] at = omega arith
-slow_statics model k (it ∷ its) at =
-    slow_bind (placed (block_of_static model it) >>= bound_to (StaticObject k)) (λ u. start_statics model (suc k) its) (slow_bind (placed (block_of_static model it)) (bound_to (StaticObject k)) (slow_placed (block_of_static model it)) (slow_bound (StaticObject k))) (λ u. slow_statics model (suc k) its) at
+slow_statics model k [] = slow_done
+slow_statics model k (it ∷ its) =
+    slow_bind (start_static model k it) (λ u. start_statics model (suc k) its) (slow_static model k it) (λ u. slow_statics model (suc k) its)
+
+slow_sealed : (k : ℕ) (its : List Static) → Slow (seal_statics k its)
+slow_sealed k [] = slow_done
+slow_sealed k (it ∷ its) =
+    slow_bind {A = Unit {0}} (if it.writable then gives tt else seals (StaticObject k)) (λ u. seal_statics (suc k) its) (by_writable it.writable) (λ u. slow_sealed (suc k) its)
+  where
+    by_writable : (b : Bool) → Slow {A = Unit {0}} (if b then gives tt else seals (StaticObject k))
+    by_writable true = slow_done
+    by_writable false = slow_calm (seals (StaticObject k)) (calm-seals (StaticObject k))
 
 slow_blocks : (its : List BlockIn) → Slow (start_blocks its)
 slow_blocks [] at = omega arith
 slow_blocks (it ∷ its) at =
-    slow_bind (placed (new_block it.shape true true)) (λ b. start_blocks its >>= (λ roots. gives (record { name = it.name; block = b } ∷ roots))) (slow_placed (new_block it.shape true true)) (λ b. slow_bind (start_blocks its) (λ roots. gives (record { name = it.name; block = b } ∷ roots)) (slow_blocks its) (λ roots at. omega arith)) at
+    slow_bind (created it.shape true) (λ b. start_blocks its >>= (λ roots. gives (record { name = it.name; block = b; cells = it.shape.cells } ∷ roots))) (slow_created it.shape true) (λ b. slow_bind (start_blocks its) (λ roots. gives (record { name = it.name; block = b; cells = it.shape.cells } ∷ roots)) (slow_blocks its) (λ roots at1. omega arith)) at
+
+slow_put_in : (model : DataModel) (root : Option Root) (offset : ℕ) (c : Content) → Slow (put_in model root offset c)
+slow_put_in model None offset c = slow_done
+slow_put_in model (Some root) offset c = by_type (type_at offset root.cells)
+  where
+    by_type : (ty : Option CellType) → Slow (put_if_there model root.block offset ty c)
+    by_type None = slow_done
+    by_type (Some ty) = slow_put model root.block offset ty c
+
+slow_set : (model : DataModel) (roots : List Root) (it : CellSet) → Slow (set_one model roots it)
+slow_set model roots (cellset.Number p z) = slow_put_in model (root_among roots p.root) p.offset (content.Number z)
+slow_set model roots (cellset.Point p target) = slow_put_in model (root_among roots p.root) p.offset (content.Address (point_named roots target))
+
+slow_set_all : (model : DataModel) (roots : List Root) (its : List CellSet) → Slow (set_all model roots its)
+slow_set_all model roots [] = slow_done
+slow_set_all model roots (it ∷ its) =
+    slow_bind (set_one model roots it) (λ u. set_all model roots its) (slow_set model roots it) (λ u. slow_set_all model roots its)
 
 slow_begins : (v : Variable) (sh : Shape) (z : Bool) → Slow (begins v sh z)
 slow_begins v sh z at = only (begins v sh z at) (begins_holds v sh z at)
@@ -152,7 +209,8 @@ slow_parameters k (sh ∷ shs) at = slow_bind (begins (Parameter k) sh true) (λ
 
 pub slow_started : (model : DataModel) (statics : List Static) (names : List (List ℕ)) (shapes : List Shape) (input : Input) → Slow (started model statics names shapes input)
 slow_started model statics names shapes input =
-    let last : List Root → Step (Unit {0}) = λ roots at. sets model (parameter_roots at.scope 0 names (roots ++ static_roots 0 statics)) input.cells at in
+    let last : List Root → Step (Unit {0}) = λ roots. sets model statics names shapes input.cells roots >> seal_statics 0 statics in
     slow_bind (start_statics model 0 statics) (λ u. start_blocks input.blocks >>= (λ roots. start_parameters 0 shapes >> last roots)) (slow_statics model 0 statics) (λ u.
     slow_bind (start_blocks input.blocks) (λ roots. start_parameters 0 shapes >> last roots) (slow_blocks input.blocks) (λ roots.
-    slow_bind (start_parameters 0 shapes) (λ u. last roots) (slow_parameters 0 shapes) (λ u at. omega arith)))
+    slow_bind (start_parameters 0 shapes) (λ u. last roots) (slow_parameters 0 shapes) (λ u.
+    slow_bind (sets model statics names shapes input.cells roots) (λ u. seal_statics 0 statics) (λ at. slow_set_all model _ input.cells at) (λ u. slow_sealed 0 statics))))

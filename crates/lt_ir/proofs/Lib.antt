@@ -1,3 +1,3 @@
 pub mod OneWay
 pub mod Membership
-mod Prepared
+pub mod Prepared

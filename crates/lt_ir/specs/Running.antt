@@ -1,24 +1,20 @@
 -- The state of a run, C11 5.1.2.3, and what an evaluation gives: a value and the state that follows, or the end of the
 -- run.
 use Rattle.std.specs.Prelude.{ℕ, zero, suc, ℤ, ◌+◌, ◌∷◌, [], ◌++◌, List, length, Bool, true, false, nat_eq, nat_lt}
-use Rattle.std.specs.Prelude.{nat_le, Option, Some, None, Result, Ok, Err, if◌then◌else◌, slice_get}
+use Rattle.std.specs.Prelude.{Option, Some, None, Result, Ok, Err, if◌then◌else◌, slice_get}
 use Rattle.std.specs.Str.{bytes_eq}
 use Rattle.lt_model.specs.declared.cell.Address.{Address}
 use Rattle.lt_model.specs.declared.cell.Content.{Content}
 use Rattle.lt_model.specs.declared.cell.Content.TheVariants as content
 use Rattle.lt_model.specs.declared.cell.Shape.{Shape}
-use Rattle.lt_model.specs.declared.cell.ShapeCell.{ShapeCell}
-use Rattle.lt_model.specs.declared.cell.StoredCell.{StoredCell}
 use Rattle.lt_model.specs.declared.operator.Ub.{Ub}
 use Rattle.lt_model.specs.declared.run.End.{End}
 use Rattle.lt_model.specs.declared.run.End.TheVariants.{Stopped, Undefined, NoInput, Steps, Deep, Cells}
 use Rattle.lt_ir.specs.declared.variable.Variable.{Variable}
 use Rattle.lt_ir.specs.declared.variable.Variable.TheVariants.{Parameter, Local, Static as StaticObject}
-use Rattle.lt_ir.specs.declared.code.Static.{Static}
 use Rattle.lt_model.specs.State.{Binding, Made, Left, Gives, Ends}
 use Rattle.lt_model.specs.State as state
-use Rattle.lt_model.specs.declared.scalar.DataModel.{DataModel}
-use Rattle.lt_model.specs.Memory.{Memory, Block, as_type, create_shaped, end_block, seal_block, cells_alive, most_cells}
+use Rattle.lt_model.specs.Memory.{Memory, create_shaped, end_block, seal_block}
 
 -- a variable that is in scope, and its block
 abbrev pub Bound : Type 0
@@ -210,36 +206,6 @@ begin_parameters k (shape ∷ shapes) = begins (Parameter k) shape false >> begi
 abbrev pub end_parameters : ℕ → List Shape → Step (Unit {0})
 end_parameters k [] = gives tt
 end_parameters k (shape ∷ shapes) = end_parameters (suc k) shapes >> ends (Parameter k)
-
--- ---- objects that are there from the start, C11 5.1.2 and 6.7.9
-
--- the cells of an object, with what they hold, as their types have it
-abbrev pub holding : DataModel → List ShapeCell → List Content → List StoredCell
-holding model (cell ∷ cells) (c ∷ cs) =
-    record { offset = cell.offset; ty = cell.ty; holds = as_type model cell.ty c } ∷ holding model cells cs
-holding model cells cs = []
-
-abbrev pub block_of_static : DataModel → Static → Block
-block_of_static model it = record {
-  alive = true;
-  writable = it.writable;
-  size = it.block.shape.size;
-  cells = holding model it.block.shape.cells it.cells;
-}
-
-abbrev pub with_new : Block → At → At
-with_new block at = record at { memory = at.memory ++ block ∷ [] }
-
--- one more block, unless too many cells would be alive
-abbrev pub placed : Block → Step ℕ
-placed block at =
-    if nat_le (cells_alive at.memory + length block.cells) most_cells then Gives (length at.memory) (with_new block at)
-    else Ends Cells at
-
-abbrev pub start_statics : DataModel → ℕ → List Static → Step (Unit {0})
-start_statics model k [] = gives tt
-start_statics model k (it ∷ its) =
-    placed (block_of_static model it) >>= bound_to (StaticObject k) >> start_statics model (suc k) its
 
 -- how a run is over: its end, and where it stood
 pub record Over : Type 0 where
