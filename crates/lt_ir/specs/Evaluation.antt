@@ -1,7 +1,8 @@
 -- Values and footprints, C11 5.1.2.3 and 6.5: what the evaluation of an expression may meet. A number and an address
 -- are a content; a struct is said by the address where it lies, and its cells are read where they are copied; where
 -- there is no value, the content is unset.
-use Rattle.std.specs.Prelude.{ℕ, suc, ℤ, pos, negsuc, ◌+◌, ◌*ℤ◌, List, [], ◌∷◌, ◌++◌, Bool, true, false, not, ◌&&◌, int_le, ◌^◌, ◌-◌, Option}
+use Rattle.std.specs.Prelude.{ℕ, suc, ℤ, pos, negsuc, ◌+◌, ◌-◌, ◌*ℤ◌, ◌^◌, List, [], ◌∷◌, ◌++◌, Bool, true, false, not}
+use Rattle.std.specs.Prelude.{◌&&◌, int_le, Option}
 use Rattle.std.specs.Prelude.{Some, None, Result, Ok, Err, if◌then◌else◌}
 use Rattle.std.specs.Ordering.{int_eq}
 use Rattle.lt_model.specs.declared.cell.Address.{Address}
@@ -147,7 +148,8 @@ is_content_of model ty c = false
 -- a scalar is stored, a content of its type
 abbrev pub stored : (tracks : Bool) → DataModel → CellType → Option Address → Content → Footprint → Step Footprint
 stored tracks model ty place c operands =
-    if is_content_of model ty c then written tracks (λ memory. store model memory place ty c) (one_cell ty) place operands
+    if is_content_of model ty c
+    then written tracks (λ memory. store model memory place ty c) (one_cell ty) place operands
     else absurdity
 
 -- a struct is copied
