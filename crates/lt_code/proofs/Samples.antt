@@ -83,7 +83,7 @@ no_call i f call = none_is (callee call.node) f (at_each (λ i n. callee n ≡ N
 
 -- ---- the code
 
-bounded : IsBounded (size_of s.program.functions s.counting) s.code
+bounded : IsBounded (size_of s.program.functions s.counting_definition s.counting) s.code
 bounded = record {
   nodes = omega arith;
   registers = omega arith;
@@ -145,7 +145,7 @@ leads_on from to edge =
 short_calls_nothing : (i f : ℕ) → HasCall s.short i f → ⊥
 short_calls_nothing i f call = none_is (callee call.node) f (at_each (λ i n. callee n ≡ None) s.short_nodes (refl ⨾ refl ⨾ tt) i call.node call.stands) call.calls
 
-short_bounded : IsBounded (size_of s.program.functions s.empty) s.short
+short_bounded : IsBounded (size_of s.program.functions s.empty_definition s.empty) s.short
 short_bounded = record {
   nodes = omega arith;
   registers = omega arith;

@@ -2,13 +2,15 @@
 -- is to keep, beside that its graph has the program's code.
 use Rattle.std.specs.Prelude.{◌≡◌, ℕ, ◌+◌, ◌*◌, ◌≤◌, ◌<◌, List, [], ◌∷◌, ◌++◌, map, length, Option, Some, None}
 use Rattle.std.specs.Prelude.{slice_get}
+use Rattle.lt_tree.specs.Tree.{External}
 use Rattle.lt_tree.specs.Typing.Entities.{Function}
 use Rattle.lt_tree.specs.Typing.Programs.{Program}
+use Rattle.lt_tree.specs.Typing.UnitTyping.{IsProgramOf}
 use Rattle.lt_ir.specs.declared.code.Code.{Code}
 use Rattle.lt_ir.specs.declared.graph.Graph.{Graph}
 use Rattle.lt_ir.specs.declared.node.Node.{Node}
 use Rattle.lt_ir.specs.declared.node.Node.TheVariants as node
-use Rattle.lt_code.specs.Sizes.{Size, size_of}
+use Rattle.lt_code.specs.Sizes.{Size, definitions, size_of}
 
 -- the nodes that may follow a node: a branch's true side first; the cases of a switch in their order, then its default
 abbrev pub successors : Node → List ℕ
@@ -77,8 +79,11 @@ pub record IsBounded (size : Size) (code : Code) : Type 0 where
   pub entered_once : (from to : ℕ) → HasEdge code from to → code.start < to
   pub heads : HasLoopHeads code size.loops
 
--- each code of a graph is bounded by its function's tree
+-- Each code of a graph is bounded by its function's definition in the unit, of which the program is the typed program.
 abbrev pub IsBoundedBy : Program → Graph → Type 0
 IsBoundedBy program graph =
-    (f : ℕ) (fun : Function) (code : Code) → slice_get program.functions f ≡ Some fun
-    → slice_get graph.codes f ≡ Some code → IsBounded (size_of program.functions fun) code
+    IsProgramOf program.model program.unit program
+    → (k : ℕ) (definition : External) (f : Function) (code : Code)
+    → slice_get (definitions program.unit) k ≡ Some definition
+    → slice_get program.functions k ≡ Some f
+    → slice_get graph.codes k ≡ Some code → IsBounded (size_of program.functions definition f) code

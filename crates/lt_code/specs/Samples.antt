@@ -6,6 +6,9 @@ use Rattle.lt_model.specs.declared.cell.Content.TheVariants as content
 use Rattle.lt_model.specs.declared.operator.Op.TheVariants as op
 use Rattle.lt_model.specs.declared.scalar.DataModel.TheVariants.{Lp64}
 use Rattle.lt_model.specs.declared.scalar.Scalar.TheVariants as scalar
+use Rattle.lt_tree.specs.declared.specifier.BasicType.TheVariants as basic
+use Rattle.lt_tree.specs.Tree as c
+use Rattle.lt_tree.specs.Grammar.{no_words}
 use Rattle.lt_tree.specs.Typing.Types as t
 use Rattle.lt_tree.specs.Typing.Types.{CType}
 use Rattle.lt_tree.specs.Typing.Entities.{Function, parameter, no_names}
@@ -24,7 +27,60 @@ use Rattle.lt_code.specs.Sizes.{size_of}
 use Rattle.lt_code.specs.Bodies.{HasCode, parameters_of}
 use Rattle.lt_code.specs.Bounds.{IsBounded}
 
--- ---- functions
+-- ---- definitions of functions
+
+abbrev int_specifiers : c.Specifiers
+int_specifiers = c.specifiers no_words (c.a_type (c.Basic basic.Int) c.no_types)
+
+abbrev named_x : c.Expression
+named_x = c.Name (codes "x")
+
+-- `int NAME(int x) { .. }`
+abbrev definition : List ℕ → c.Items → c.External
+definition name body = c.Defines int_specifiers (c.declarator (Some name) (c.Function (c.Listed parameters) c.no_parts)) body
+  where
+    parameters : c.ParameterList
+    parameters = c.a_parameter int_specifiers (c.declarator (Some (codes "x")) c.no_parts) c.no_parameters
+
+-- `return e;` at the end of a block
+abbrev return_at_end : c.Expression → c.Items
+return_at_end e = c.a_statement (c.Return (Some e)) c.no_items
+
+-- `int g(int x) { }`
+abbrev pub empty_definition : c.External
+empty_definition = definition (codes "g") c.no_items
+
+-- `int h(int x) { char a[2] = "ab"; return pc_label(x < 1, 1, "c"), g(x) + g(1); }`
+abbrev pub calling_definition : c.External
+calling_definition = definition (codes "h") (c.a_declaration array (return_at_end (c.Marked marks sum)))
+  where
+    one : c.Expression
+    one = c.Constant (codes "1")
+
+    array : c.Declaration
+    array = record {
+      specifiers = c.specifiers no_words (c.a_type (c.Basic basic.Char) c.no_types);
+      declarators = record {
+        declarator = c.declarator (Some (codes "a")) (c.Array (c.present (c.Constant (codes "2"))) c.no_parts);
+        initialiser = Some (c.Value (c.Text (codes "ab")));
+      } ∷ [];
+    }
+
+    marks : c.Marks
+    marks = c.a_mark (c.mark (c.Binary op.Lt named_x one) (codes "1") (codes "c") c.no_bindings) c.no_marks
+
+    call : c.Expression → c.Expression
+    call e = c.Call (c.Name (codes "g")) (c.an_expression e c.no_expressions)
+
+    sum : c.Expression
+    sum = c.Binary op.Add (call named_x) (call one)
+
+-- `int f(int x) { while (x) x--; return x; }`
+abbrev pub counting_definition : c.External
+counting_definition =
+    definition (codes "f") (c.a_statement (c.While named_x (c.Evaluates (c.PostDec named_x))) (return_at_end named_x))
+
+-- ---- the same functions typed
 
 abbrev int : CType
 int = t.Num scalar.Int
@@ -49,25 +105,27 @@ value_of_x = e.Load int x
 abbrev returned : Value → Items
 returned v = e.a_statement (e.Return (Some v)) e.no_items
 
--- `int g(int x) { }`
 abbrev pub empty : Function
 empty = function (codes "g") e.no_items
 
--- `int h(int x) { char a[2] = "ab"; return g(x) + g(1); }`
 abbrev pub calling : Function
-calling =
-    function (codes "h") (e.a_local (record { object = 1; start = Some text }) (returned sum))
+calling = function (codes "h") (e.a_local (record { object = 1; start = Some text }) (returned (e.Marked int marks sum)))
   where
     text : e.Start
-    text = record { zeroed = false; parts = e.letters 0 scalar.Char (codes "ab") ∷ [] }
+    text = record { zeroed = true; parts = e.letters 0 scalar.Char (codes "ab") ∷ [] }
+
+    one : Value
+    one = e.Constant int (pos 1)
+
+    marks : e.Marks
+    marks = e.a_mark (e.mark (e.Arithmetic int op.Lt scalar.Int value_of_x one) 1 e.no_bindings) e.no_marks
 
     call : Value → Value
     call v = e.Call int (codes "g") (a_value v no_values)
 
     sum : Value
-    sum = e.Arithmetic int op.Add scalar.Int (call value_of_x) (call (e.Constant int (pos 1)))
+    sum = e.Arithmetic int op.Add scalar.Int (call value_of_x) (call one)
 
--- `int f(int x) { while (x) x--; return x; }`
 abbrev pub counting : Function
 counting =
     function (codes "f") (e.a_statement (e.While value_of_x (e.Evaluates decrement)) (returned value_of_x))
@@ -75,18 +133,22 @@ counting =
     decrement : Value
     decrement = e.Step int e.before op.Sub scalar.Int x
 
+-- ---- their sizes; the predicate of the mark in `h` has three nodes, none of which counts
+
 abbrev pub SizesAreWorkedOut : Type 0
 SizesAreWorkedOut =
-    (size_of (empty ∷ []) empty ≡ record { nodes = 1; letters = 0; largest = 0; loops = 0; calls = [] })
-    × (size_of (empty ∷ calling ∷ []) calling
-    ≡ record { nodes = 10; letters = 2; largest = 6; loops = 0; calls = 0 ∷ 0 ∷ [] })
-    × (size_of (counting ∷ []) counting ≡ record { nodes = 10; letters = 0; largest = 2; loops = 1; calls = [] })
+    (size_of (empty ∷ []) empty_definition empty
+    ≡ record { nodes = 3; letters = 0; largest = 0; loops = 0; calls = [] })
+    × (size_of (empty ∷ calling ∷ []) calling_definition calling
+    ≡ record { nodes = 19; letters = 2; largest = 9; loops = 0; calls = 0 ∷ 0 ∷ [] })
+    × (size_of (counting ∷ []) counting_definition counting
+    ≡ record { nodes = 12; letters = 0; largest = 2; loops = 1; calls = [] })
 
 -- ---- a code
 
 abbrev pub program : Program
 program = record {
-  unit = [];
+  unit = counting_definition ∷ [];
   model = Lp64;
   structs = [];
   objects = record { node = 0; name = codes "x"; type = int; life = parameter; start = None } ∷ [];
@@ -146,10 +208,10 @@ short = record {
 }
 
 -- a code of a function is within its bounds, and its numbers are in range
-pub record IsWorkedOut (f : Function) (it : Code) : Type 0 where
+pub record IsWorkedOut (definition : c.External) (f : Function) (it : Code) : Type 0 where
   pub stands : HasCode program [] [] f it
-  pub bounded : IsBounded (size_of program.functions f) it
+  pub bounded : IsBounded (size_of program.functions definition f) it
   pub in_range : is_code (counts_in 1 0 0 0 it) it ≡ true
 
 abbrev pub CodesAreWorkedOut : Type 0
-CodesAreWorkedOut = IsWorkedOut counting code × IsWorkedOut empty short
+CodesAreWorkedOut = IsWorkedOut counting_definition counting code × IsWorkedOut empty_definition empty short
