@@ -1,0 +1,4 @@
+pub use Rattle.lt_objectives.specs.Criteria
+pub use Rattle.lt_objectives.specs.Marked
+pub mod MarkedTexts
+pub mod MarkedRuns

@@ -1,0 +1,279 @@
+-- Examples: small units with the marks of criteria, as they are written.
+use Rattle.std.specs.Prelude.{◌≡◌, ℕ, ◌+◌, List, [], ◌∷◌, codes, Option, Some, None}
+use Rattle.lt_model.specs.declared.operator.Op.{Op}
+use Rattle.lt_model.specs.declared.operator.Op.TheVariants as op
+use Rattle.lt_model.specs.declared.scalar.DataModel.{DataModel}
+use Rattle.lt_model.specs.declared.scalar.DataModel.TheVariants.{Lp64, Lp64U}
+use Rattle.lt_tree.specs.declared.expression.UnaryOp.TheVariants as unary
+use Rattle.lt_tree.specs.declared.expression.LogicalOp.{LogicalOp}
+use Rattle.lt_tree.specs.declared.expression.LogicalOp.TheVariants as logical
+use Rattle.lt_tree.specs.declared.specifier.BasicType.TheVariants as basic
+use Rattle.lt_tree.specs.declared.specifier.Storage.TheVariants as storage
+use Rattle.lt_tree.specs.Grammar.{no_words, with_storage}
+use Rattle.lt_tree.specs.Tree as c
+use Rattle.lt_tree.specs.CanonUnits.{canon}
+use Rattle.lt_tree_laws.specs.Examples.{just, of_type, int, char, x, one, zero_constant, pointer, declares, a, b, missing}
+use Rattle.lt_tree_laws.specs.WrittenStatements.{in_lines}
+use Rattle.lt_tree_laws.specs.Typing.ExampleTexts.{name, number, object, declaration_of, takes_int, basic_specifiers}
+use Rattle.lt_tree.specs.Typing.Programs.{typed, broken}
+use Rattle.lt_tree.specs.Typing.UnitTyping.{typing}
+use Rattle.lt_objectives.specs.declared.criteria.Criterion.{Criterion}
+use Rattle.lt_objectives.specs.declared.criteria.Criterion.TheVariants as C
+use Rattle.lt_objectives.specs.Criteria.{bit_of}
+use Rattle.lt_objectives.specs.Marked.{marked}
+
+-- the unit with the marks of a set of criteria, numbered from 1; nothing where a rule is broken
+abbrev pub marked_in : DataModel → c.Unit → ℕ → c.Unit
+marked_in model unit set = elim (typing model unit) [ typed program ↦ marked unit program set 1 | broken rule node ↦ [] ]
+
+abbrev pub IsMarkedAs : c.Unit → ℕ → List (List ℕ) → Type 0
+IsMarkedAs unit set ls = canon (marked_in Lp64 unit set) ≡ in_lines ls
+
+-- ---- texts
+
+-- a function `f` of these parameters that gives an `int`
+abbrev pub function_of : c.ParameterList → c.Items → c.External
+function_of list body = c.Defines int (declares (codes "f") (c.Function (c.Listed list) c.no_parts)) body
+
+abbrev pub parameter : c.Specifiers → List ℕ → c.Parts → c.ParameterList → c.ParameterList
+parameter s w parts rest = c.a_parameter s (declares w parts) rest
+
+abbrev pub takes_x : c.Specifiers → c.ParameterList
+takes_x s = parameter s (codes "x") c.no_parts c.no_parameters
+
+abbrev pub takes_a_and_b : c.ParameterList
+takes_a_and_b = parameter int (codes "a") c.no_parts (parameter int (codes "b") c.no_parts c.no_parameters)
+
+abbrev pub returns : c.Expression → c.Items
+returns e = c.a_statement (c.Return (Some e)) c.no_items
+
+-- `if (test) return 1; return 0;`
+abbrev pub decides_by : c.Expression → c.Items
+decides_by test = c.a_statement (c.If test (c.Return (Some one))) (returns zero_constant)
+
+abbrev pub is_positive : c.Expression → c.Expression
+is_positive e = c.Binary op.Gt e zero_constant
+
+abbrev pub both_or_either : LogicalOp → c.Unit
+both_or_either op = function_of takes_a_and_b (decides_by (c.Logical op a b)) ∷ []
+
+-- `int f(int x) { if (x > 0) return 1; return 0; }`
+abbrev pub tests_x : c.Unit
+tests_x = function_of (takes_x int) (decides_by (is_positive x)) ∷ []
+
+-- `int f(int n) { int i; i = 0; while (i < n) i++; return i; }`
+abbrev pub counts : c.Unit
+counts =
+    function_of (parameter int (codes "n") c.no_parts c.no_parameters)
+    (c.a_declaration (declaration_of int (codes "i") c.no_parts None)
+    (c.a_statement (c.Evaluates (c.Assign None i zero_constant))
+    (c.a_statement (c.While (c.Binary op.Lt i (name (codes "n"))) (c.Evaluates (c.PostInc i))) (returns i)))) ∷ []
+  where
+    i : c.Expression
+    i = name (codes "i")
+
+-- `int f(int *p) { if (p && *p > 3) return 1; return 0; }`
+abbrev pub follows_p : c.Unit
+follows_p =
+    function_of (parameter int (codes "p") (pointer c.no_parts) c.no_parameters)
+    (decides_by (c.Logical logical.And p (c.Binary op.Gt (c.Unary unary.Dereference p) (number (codes "3"))))) ∷ []
+  where
+    p : c.Expression
+    p = name (codes "p")
+
+-- `int f(int a, int b) { return a + b; }`
+abbrev pub adds : c.Unit
+adds = function_of takes_a_and_b (returns (c.Binary op.Add a b)) ∷ []
+
+-- `T f(T x) { return x; }`, but that it gives an `int`
+abbrev pub gives_x : c.Specifiers → c.Unit
+gives_x s = function_of (takes_x s) (returns x) ∷ []
+
+-- `int g(int); int f(int x) { if (g(x) > 0) return 1; return 0; }`
+abbrev pub asks_g : c.Unit
+asks_g =
+    object int (codes "g") (c.Function (c.Listed (c.a_parameter int missing c.no_parameters)) c.no_parts)
+    ∷ function_of (takes_x int) (decides_by (is_positive (c.Call (name (codes "g")) (just x)))) ∷ []
+
+-- ---- decisions
+
+abbrev pub DecisionsAreMarked : Type 0
+DecisionsAreMarked =
+    IsMarkedAs [] (bit_of C.Decision) []
+    × IsMarkedAs tests_x (bit_of C.Decision)
+    (codes "int f(int x) {"
+    ∷ codes "  if (pc_label(x > 0, 1, \"DC\"), pc_label(!(x > 0), 2, \"DC\"), x > 0)"
+    ∷ codes "    return 1;"
+    ∷ codes "  return 0;"
+    ∷ codes "}" ∷ [])
+    × IsMarkedAs counts (bit_of C.Decision)
+    (codes "int f(int n) {"
+    ∷ codes "  int i;"
+    ∷ codes "  i = 0;"
+    ∷ codes "  while (pc_label(i < n, 1, \"DC\"), pc_label(!(i < n), 2, \"DC\"), i < n)"
+    ∷ codes "    i++;"
+    ∷ codes "  return i;"
+    ∷ codes "}" ∷ [])
+    × IsMarkedAs asks_g (bit_of C.Decision)
+    (codes "int g(int);"
+    ∷ codes "int f(int x) {"
+    ∷ codes "  if (pc_decide(g(x) > 0, 1, 2, \"DC\"))"
+    ∷ codes "    return 1;"
+    ∷ codes "  return 0;"
+    ∷ codes "}" ∷ [])
+
+-- a decision and its one clause, which isn't pure: that of the clause stands inside
+abbrev pub ClausesAreMarked : Type 0
+ClausesAreMarked =
+    IsMarkedAs asks_g (bit_of C.Decision + bit_of C.Condition)
+    (codes "int g(int);"
+    ∷ codes "int f(int x) {"
+    ∷ codes "  if (pc_decide(pc_decide(g(x) > 0, 3, 4, \"CC\"), 1, 2, \"DC\"))"
+    ∷ codes "    return 1;"
+    ∷ codes "  return 0;"
+    ∷ codes "}" ∷ [])
+    × IsMarkedAs (both_or_either logical.And) (bit_of C.Condition)
+    (codes "int f(int a, int b) {"
+    ∷ codes "  if ((pc_label(a, 1, \"CC\"), pc_label(!a, 2, \"CC\"), a) && (pc_label(b, 3, \"CC\"), pc_label(!b, 4, \"CC\"), b))"
+    ∷ codes "    return 1;"
+    ∷ codes "  return 0;"
+    ∷ codes "}" ∷ [])
+
+-- ---- combinations of clauses
+
+abbrev pub CombinationsAreMarked : Type 0
+CombinationsAreMarked =
+    IsMarkedAs (both_or_either logical.And) (bit_of C.MultipleCondition)
+    (codes "int f(int a, int b) {"
+    ∷ codes "  if (pc_label(a && b, 1, \"MCC\"), pc_label(a && !b, 2, \"MCC\"), pc_label(!a && b, 3, \"MCC\"), pc_label(!a && !b, 4, \"MCC\"), a && b)"
+    ∷ codes "    return 1;"
+    ∷ codes "  return 0;"
+    ∷ codes "}" ∷ [])
+    × IsMarkedAs (both_or_either logical.Or) (bit_of C.GeneralActiveClause)
+    (codes "int f(int a, int b) {"
+    ∷ codes "  if (pc_label(a && (1 || b) != (0 || b), 1, \"GACC\"), pc_label(!a && (1 || b) != (0 || b), 2, \"GACC\"), pc_label(b && (a || 1) != (a || 0), 3, \"GACC\"), pc_label(!b && (a || 1) != (a || 0), 4, \"GACC\"), a || b)"
+    ∷ codes "    return 1;"
+    ∷ codes "  return 0;"
+    ∷ codes "}" ∷ [])
+
+-- ---- the start of functions
+
+abbrev pub StartsAreMarked : Type 0
+StartsAreMarked =
+    IsMarkedAs (function_of (parameter (basic_specifiers basic.Unsigned) (codes "u") c.no_parts c.no_parameters) (returns zero_constant) ∷ []) (bit_of C.InputDomain)
+    (codes "int f(unsigned u) {"
+    ∷ codes "  pc_label(u == 0, 1, \"IDC\");"
+    ∷ codes "  pc_label(u > 0, 2, \"IDC\");"
+    ∷ codes "  return 0;"
+    ∷ codes "}" ∷ [])
+    × IsMarkedAs (gives_x char) (bit_of C.Function + bit_of C.InputDomain)
+    (codes "int f(char x) {"
+    ∷ codes "  pc_label(1, 1, \"FC\");"
+    ∷ codes "  pc_label(x < 0, 2, \"IDC\");"
+    ∷ codes "  pc_label(x == 0, 3, \"IDC\");"
+    ∷ codes "  pc_label(x > 0, 4, \"IDC\");"
+    ∷ codes "  return x;"
+    ∷ codes "}" ∷ [])
+    -- where plain `char` is unsigned
+    × (canon (marked_in Lp64U (gives_x char) (bit_of C.InputDomain + bit_of C.AbsoluteValue))
+    ≡ in_lines (codes "int f(char x) {" ∷ codes "  pc_label(x == 0, 1, \"IDC\");" ∷ codes "  pc_label(x > 0, 2, \"IDC\");" ∷ codes "  return x;" ∷ codes "}" ∷ []))
+
+-- ---- mutants
+
+abbrev pub MutantsAreMarked : Type 0
+MutantsAreMarked =
+    IsMarkedAs follows_p (bit_of C.RelationalOperator)
+    (codes "int f(int *p) {"
+    ∷ codes "  if (p && (pc_label(*p > 3 != *p < 3, 1, \"ROR\"), pc_label(*p > 3 != *p <= 3, 2, \"ROR\"), pc_label(*p > 3 != *p >= 3, 3, \"ROR\"), pc_label(*p > 3 != (*p == 3), 4, \"ROR\"), pc_label(*p > 3 != (*p != 3), 5, \"ROR\"), *p > 3))"
+    ∷ codes "    return 1;"
+    ∷ codes "  return 0;"
+    ∷ codes "}" ∷ [])
+    × IsMarkedAs adds (bit_of C.ArithmeticOperator)
+    (codes "int f(int a, int b) {"
+    ∷ codes "  return pc_label(a + b != a - b, 1, \"AOR\"), pc_label(a + b != a * b, 2, \"AOR\"), pc_label(a + b != a / b, 3, \"AOR\"), pc_label(a + b != a % b, 4, \"AOR\"), a + b;"
+    ∷ codes "}" ∷ [])
+    × IsMarkedAs (gives_x int) (bit_of C.AbsoluteValue)
+    (codes "int f(int x) {"
+    ∷ codes "  return pc_label(x != (x < 0 ? -x : x), 1, \"ABS\"), pc_label(x != -(x < 0 ? -x : x), 2, \"ABS\"), x;"
+    ∷ codes "}" ∷ [])
+    × IsMarkedAs (both_or_either logical.And) (bit_of C.Decision + bit_of C.ConnectiveOperator)
+    (codes "int f(int a, int b) {"
+    ∷ codes "  if (pc_label(a && b, 1, \"DC\"), pc_label(!(a && b), 2, \"DC\"), pc_label((a && b) != (a || b), 3, \"COR\"), a && b)"
+    ∷ codes "    return 1;"
+    ∷ codes "  return 0;"
+    ∷ codes "}" ∷ [])
+
+-- pointers have one other relation, places and constants have no labels
+abbrev pub OthersAreLeft : Type 0
+OthersAreLeft =
+    IsMarkedAs (function_of (parameter int (codes "p") (pointer c.no_parts) c.no_parameters) (returns (c.Binary op.Eq (name (codes "p")) zero_constant)) ∷ []) (bit_of C.RelationalOperator)
+    (codes "int f(int *p) {" ∷ codes "  return pc_label(p == 0 != (p != 0), 1, \"ROR\"), p == 0;" ∷ codes "}" ∷ [])
+    × IsMarkedAs (function_of (takes_x int) (c.a_statement (c.While one (c.Evaluates (c.PostInc x))) (returns (c.Unary unary.Dereference (c.Unary unary.AddressOf x)))) ∷ []) (bit_of C.Decision + bit_of C.AbsoluteValue)
+    (codes "int f(int x) {"
+    ∷ codes "  while (1)"
+    ∷ codes "    x++;"
+    ∷ codes "  return pc_label(* &x != (* &x < 0 ? -* &x : * &x), 1, \"ABS\"), pc_label(* &x != -(* &x < 0 ? -* &x : * &x), 2, \"ABS\"), * &x;"
+    ∷ codes "}" ∷ [])
+
+-- ---- what stands there already, and the order of the walk
+
+abbrev pub old_label : c.Expression → List ℕ → c.Mark
+old_label predicate id = c.mark predicate id (codes "old") c.no_bindings
+
+-- New labels come behind the old ones; old predicates have none.
+abbrev pub OldMarksComeFirst : Type 0
+OldMarksComeFirst =
+    IsMarkedAs unit (bit_of C.Function + bit_of C.AbsoluteValue)
+    (codes "int f(int x) {"
+    ∷ codes "  pc_label(x, 5, \"old\");"
+    ∷ codes "  pc_label(1, 1, \"FC\");"
+    ∷ codes "  return pc_label(!x, 6, \"old\"), pc_label(-x + 1 != (-x + 1 < 0 ? -(-x + 1) : -x + 1), 2, \"ABS\"), pc_label(-x + 1 != -(-x + 1 < 0 ? -(-x + 1) : -x + 1), 3, \"ABS\"), -(pc_label(x != (x < 0 ? -x : x), 4, \"ABS\"), pc_label(x != -(x < 0 ? -x : x), 5, \"ABS\"), x) + 1;"
+    ∷ codes "}" ∷ [])
+  where
+    unit : c.Unit
+    unit =
+        function_of (takes_x int)
+        (c.a_label (old_label x (codes "5"))
+        (returns (c.Marked (c.a_mark (old_label (c.Unary unary.Not x) (codes "6")) c.no_marks) (c.Binary op.Add (c.Unary unary.Minus x) one)))) ∷ []
+
+-- The body of `do` comes before its test, and a decision before the decisions in it; the test of a `?:` is one.
+abbrev pub DecisionsComeInOrder : Type 0
+DecisionsComeInOrder =
+    IsMarkedAs unit (bit_of C.Decision)
+    (codes "int f(int x) {"
+    ∷ codes "  do"
+    ∷ codes "    if (pc_label(x, 1, \"DC\"), pc_label(!x, 2, \"DC\"), x)"
+    ∷ codes "      x--;"
+    ∷ codes "  while (pc_label(x ? x : 1, 3, \"DC\"), pc_label(!(x ? x : 1), 4, \"DC\"), (pc_label(x, 5, \"DC\"), pc_label(!x, 6, \"DC\"), x) ? x : 1);"
+    ∷ codes "  return x;"
+    ∷ codes "}" ∷ [])
+  where
+    unit : c.Unit
+    unit =
+        function_of (takes_x int)
+        (c.a_statement (c.Do (c.If x (c.Evaluates (c.PostDec x))) (c.Conditional x x one)) (returns x)) ∷ []
+
+-- Objects that are there from the start have constant initialisers; others have expressions like any.
+abbrev pub InitialisersAreMarked : Type 0
+InitialisersAreMarked =
+    IsMarkedAs unit (bit_of C.AbsoluteValue)
+    (codes "int g;"
+    ∷ codes "int f(int x) {"
+    ∷ codes "  static int *a = &g;"
+    ∷ codes "  int b = (pc_label(x != (x < 0 ? -x : x), 1, \"ABS\"), pc_label(x != -(x < 0 ? -x : x), 2, \"ABS\"), x);"
+    ∷ codes "  return sizeof x;"
+    ∷ codes "}" ∷ [])
+  where
+    unit : c.Unit
+    unit =
+        object int (codes "g") c.no_parts
+        ∷ function_of (takes_x int)
+        (c.a_declaration (declaration_of (c.specifiers (with_storage storage.Static no_words) (c.a_type (c.Basic basic.Int) c.no_types)) (codes "a") (pointer c.no_parts) (Some (c.Value (c.Unary unary.AddressOf (name (codes "g"))))))
+        (c.a_declaration (declaration_of int (codes "b") c.no_parts (Some (c.Value x)))
+        (returns (c.SizeofExpr x)))) ∷ []
+
+abbrev pub PlacesAreMarked : Type 0
+PlacesAreMarked = OldMarksComeFirst × DecisionsComeInOrder × InitialisersAreMarked
+
+abbrev pub ObjectivesAreMarked : Type 0
+ObjectivesAreMarked = DecisionsAreMarked × ClausesAreMarked × CombinationsAreMarked × StartsAreMarked × MutantsAreMarked × OthersAreLeft × PlacesAreMarked

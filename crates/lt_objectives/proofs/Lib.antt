@@ -1,0 +1,2 @@
+mod ErasedExpressions
+mod ErasedStatements

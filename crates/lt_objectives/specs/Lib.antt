@@ -1,0 +1,7 @@
+pub mod Criteria
+pub mod Places
+pub mod Decisions
+pub mod Mutants
+pub mod Objectives
+pub mod Marked
+pub mod Laws

@@ -1,0 +1,140 @@
+-- The objectives of each criterion, in the order of a walk from parent to child: where each stands, in which form, with which predicate and tag.
+use Rattle.std.specs.Prelude.{ℕ, suc, ◌+◌, ◌==◌, nat_le, Bool, true, false, not, ◌&&◌, if◌then◌else◌, List, [], ◌∷◌, ◌++◌, length, map, slice_get, Option, Some, None}
+use Rattle.std.specs.List.{flat_map, list_any}
+use Rattle.lt_model.specs.declared.operator.Op.TheVariants as O
+use Rattle.lt_model.specs.declared.scalar.DataModel.{DataModel}
+use Rattle.lt_tree.specs.Tree as c
+use Rattle.lt_tree.specs.Erasure.{erased}
+use Rattle.lt_tree.specs.Purity.{is_pure}
+use Rattle.lt_tree.specs.Nodes.{Node, an_external, an_expression, in_expression}
+use Rattle.lt_tree.specs.Typing.Types.{CType, own_qualifiers, is_integer, is_pointer}
+use Rattle.lt_tree.specs.Typing.Entities.{Object, Function}
+use Rattle.lt_tree.specs.Typing.Programs.{Program}
+use Rattle.lt_objectives.specs.declared.criteria.Criterion.{Criterion}
+use Rattle.lt_objectives.specs.declared.criteria.Criterion.TheVariants as C
+use Rattle.lt_objectives.specs.Criteria.{tag_of}
+use Rattle.lt_objectives.specs.Places.{Site, sites, Part, is_at, core, twin, type_at, is_open, is_value_position}
+use Rattle.lt_objectives.specs.Decisions.{decisions, clauses, one, zero_constant, negation, differ, clause_list, conjunctions, active_clauses, has_few_clauses}
+use Rattle.lt_objectives.specs.Mutants.{is_signed_integer, absolute_mutants, arithmetic_mutants, connective_mutants, relational_mutants}
+
+pub data Form : Type 0 where
+  -- a label as a statement, at the start of a function's body
+  at_start : Form
+  -- a label in front of an expression
+  in_front : Form
+  -- a `pc_decide` round an expression, whose truth is an objective and whose falsity is another
+  round : Form
+
+pub record Objective : Type 0 where
+  -- the number of the node
+  pub place : ℕ
+  pub form : Form
+  -- what has to be true; of a `pc_decide` its operand
+  pub predicate : c.Expression
+  pub tag : List ℕ
+
+abbrev pub objective : ℕ → Form → Criterion → c.Expression → Objective
+objective place form criterion predicate = record { place = place; form = form; predicate = predicate; tag = tag_of criterion }
+
+-- these predicates, each as an objective at one place
+abbrev pub all_at : ℕ → Form → Criterion → List c.Expression → List Objective
+all_at place form criterion predicates = map (objective place form criterion) predicates
+
+-- ---- at the start of functions
+
+abbrev pub function_among : List Function → ℕ → List ℕ
+function_among [] node = []
+function_among (f ∷ fs) node = if f.node == node then f.parameters else function_among fs node
+
+-- the objects of the parameters of the function that is defined at this number
+abbrev pub parameters_at : c.Unit → Program → ℕ → List ℕ
+parameters_at unit program k = elim (twin unit program k) [ None ↦ [] | Some n ↦ function_among program.functions n ]
+
+-- less than 0, 0, and more, as far as the type has it; null or not
+abbrev pub domains : DataModel → CType → c.Expression → List c.Expression
+domains m t e =
+    if (own_qualifiers t).volatile then []
+    else (if is_pointer t then c.Binary O.Eq e zero_constant ∷ c.Binary O.Ne e zero_constant ∷ []
+    else (if is_signed_integer m t then c.Binary O.Lt e zero_constant ∷ c.Binary O.Eq e zero_constant ∷ c.Binary O.Gt e zero_constant ∷ []
+    else (if is_integer t then c.Binary O.Eq e zero_constant ∷ c.Binary O.Gt e zero_constant ∷ [] else [])))
+
+abbrev pub domains_of_object : Program → ℕ → List c.Expression
+domains_of_object program n = elim (slice_get program.objects n) [ None ↦ [] | Some object ↦ domains program.model object.type (c.Name object.name) ]
+
+-- the predicates of a criterion at the start of the body of the function at this number
+abbrev pub at_body : c.Unit → Program → Criterion → ℕ → List c.Expression
+at_body unit program C.Function k = one ∷ []
+at_body unit program C.InputDomain k = flat_map (domains_of_object program) (parameters_at unit program k)
+at_body unit program _ k = []
+
+-- ---- at decisions and clauses
+
+abbrev pub is_among : List Part → ℕ → Bool
+is_among parts k = list_any (is_at k) parts
+
+-- both truths of an expression: two labels if it is pure, else a `pc_decide`
+abbrev pub both_truths : Criterion → ℕ → c.Expression → List Objective
+both_truths criterion k e =
+    if is_pure e then all_at k in_front criterion (e ∷ negation e ∷ []) else objective k round criterion e ∷ []
+
+-- the combinations of the clauses of a pure decision
+abbrev pub combinations : Criterion → ℕ → (c.Expression → List c.Expression) → c.Expression → List Objective
+combinations criterion k predicates d = if is_pure d && has_few_clauses d then all_at k in_front criterion (predicates d) else []
+
+-- the objectives of a criterion at an expression, without its marks, that is a decision or a clause
+abbrev pub at_test : Criterion → (is_decision is_clause : Bool) → ℕ → c.Expression → List Objective
+at_test C.Decision true is_clause k e = both_truths C.Decision k e
+at_test C.Condition is_decision true k e = both_truths C.Condition k e
+at_test C.MultipleCondition true is_clause k e = combinations C.MultipleCondition k (λ d. conjunctions (clause_list d)) e
+at_test C.GeneralActiveClause true is_clause k e = combinations C.GeneralActiveClause k active_clauses e
+at_test _ is_decision is_clause k e = []
+
+-- ---- at pure expressions in value positions
+
+-- the types of the operands of a binary operator at this number
+abbrev pub left_type : c.Unit → Program → ℕ → c.Expression → CType
+left_type unit program k (c.Binary op left right) = type_at unit program (core (k + 1) left).number
+left_type unit program k e = type_at unit program k
+
+abbrev pub right_type : c.Unit → Program → ℕ → c.Expression → CType
+right_type unit program k (c.Binary op left right) = type_at unit program (core (k + 1 + length (in_expression left)) right).number
+right_type unit program k e = type_at unit program k
+
+-- the mutants of a criterion of an expression at this number, which is also given without its marks
+abbrev pub mutants : c.Unit → Program → Criterion → ℕ → c.Expression → c.Expression → List c.Expression
+mutants unit program C.AbsoluteValue k e plain = absolute_mutants program.model (type_at unit program k) plain
+mutants unit program C.ArithmeticOperator k e plain = arithmetic_mutants (left_type unit program k e) (right_type unit program k e) plain
+mutants unit program C.ConnectiveOperator k e plain = connective_mutants plain
+mutants unit program C.RelationalOperator k e plain = relational_mutants (left_type unit program k e) (right_type unit program k e) plain
+mutants unit program _ k e plain = []
+
+-- that a pure expression and its mutant have different values
+abbrev pub differences : c.Unit → Program → Criterion → ℕ → c.Expression → List Objective
+differences unit program criterion k e =
+    if is_pure (erased e) && is_value_position unit k then all_at k in_front criterion (map (differ (erased e)) (mutants unit program criterion k e (erased e)))
+    else []
+
+-- ---- in the order of the walk
+
+abbrev pub is_core : c.Expression → Bool
+is_core (c.Marked marks e) = false
+is_core (c.Decide e when_true when_false tag) = false
+is_core (c.After e id tag) = false
+is_core e = true
+
+abbrev pub at_expression : c.Unit → Program → Criterion → ℕ → c.Expression → List Objective
+at_expression unit program criterion k e =
+    if is_core e && is_open unit program k
+    then at_test criterion (is_among (decisions unit) k) (is_among (clauses unit) k) k (erased e) ++ differences unit program criterion k e else []
+
+abbrev pub at_node : c.Unit → Program → Criterion → Site → List Objective
+at_node unit program criterion site =
+    elim (site.node) [
+      | an_external (c.Defines s d body) ↦ all_at site.number at_start criterion (at_body unit program criterion site.number)
+      | an_expression e ↦ at_expression unit program criterion site.number e
+      | _ ↦ []
+    ]
+
+-- The objectives of a criterion in a unit. The program is that of the unit, or of one that is the same without marks.
+abbrev pub objectives : c.Unit → Program → Criterion → List Objective
+objectives unit program criterion = flat_map (at_node unit program criterion) (sites unit)
