@@ -6,8 +6,8 @@ use Rattle.lt_tree.specs.Tree as t
 use Rattle.lt_tree.specs.Comma.{comma_of}
 use Rattle.lt_tree.specs.Nodes.{in_expression, in_marks, in_specifiers, in_declarator, in_initialiser, in_init_declarator}
 use Rattle.lt_tree.specs.Erasure.{erased, erased_comma, erased_expressions, erased_specifiers, erased_declarator, erased_initialiser, erased_initialisers, erased_init_declarator, erased_declaration, erased_start}
-use Rattle.lt_objectives.specs.Objectives.{round}
-use Rattle.lt_objectives.specs.Marked.{NewMark, is_there, decided, behind, placed, within, within_all, with_marks, optional_with_marks, initialiser_with_marks, initialisers_with_marks, start_with_marks, declarators_with_marks, declaration_with_marks, for_start_with_marks}
+use Rattle.lt_objectives.specs.Objectives.{around}
+use Rattle.lt_objectives.specs.Marked.{NewMark, is_there, decided, preceded_by, placed, within, within_all, with_marks, optional_with_marks, initialiser_with_marks, initialisers_with_marks, start_with_marks, declarators_with_marks, declaration_with_marks, for_start_with_marks}
 
 pub both : {A B C : Type 0} (f : A → B → C) {x y : A} {v w : B} → x ≡ y → v ≡ w → f x v ≡ f y w
 both f {x} {y} {v} {w} p q = ap (λ a. f a v) p ∙ ap (f y) q
@@ -20,19 +20,19 @@ four f {x} {y} {v} {w} {m} {n} {j} {k} p q r z = three (λ a b c. f a b c j) p q
 
 erased_decided : (new : List NewMark) (k : ℕ) (e : t.Expression) → erased (decided new k e) ≡ erased e
 erased_decided [] k e = refl
-erased_decided (it ∷ rest) k e = by (is_there round k it) (erased_decided rest k e)
+erased_decided (it ∷ rest) k e = by (is_there around k it) (erased_decided rest k e)
   where
     by : (b : Bool) → erased (decided rest k e) ≡ erased e → erased (if b then t.Decide (decided rest k e) (decimal it.id) (decimal (suc it.id)) it.objective.tag else decided rest k e) ≡ erased e
     by true h = h
     by false h = h
 
-erased_behind : (marks : t.Marks) (e : t.Expression) → erased (behind marks e) ≡ erased e
-erased_behind t.no_marks e = refl
-erased_behind (t.a_mark m ms) e = refl
+erased_preceded : (marks : t.Marks) (e : t.Expression) → erased (preceded_by marks e) ≡ erased e
+erased_preceded t.no_marks e = refl
+erased_preceded (t.a_mark m ms) e = refl
 
--- what is put round an expression goes again
+-- what is put around an expression goes again
 at : (new : List NewMark) (k : ℕ) (e d : t.Expression) → erased e ≡ erased d → erased (placed new k e) ≡ erased d
-at new k e d h = erased_behind _ (decided new k e) ∙ erased_decided new k e ∙ h
+at new k e d h = erased_preceded _ (decided new k e) ∙ erased_decided new k e ∙ h
 
 mutual
   in_it : (new : List NewMark) (k : ℕ) (e : t.Expression) → erased (within new k e) ≡ erased e

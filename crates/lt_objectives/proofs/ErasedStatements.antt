@@ -7,9 +7,9 @@ use Rattle.lt_tree.specs.Nodes.{in_expression, in_specifiers, in_declarator, in_
 use Rattle.lt_tree.specs.Erasure.{erased, erased_specifiers, erased_declarator, erased_declaration, erased_start, erased_label, erased_statement, erased_items, erased_cases, erased_external, erased_unit}
 use Rattle.lt_tree.specs.Typing.Programs.{Program}
 use Rattle.lt_objectives.specs.declared.criteria.Criterion.{Criterion}
-use Rattle.lt_objectives.specs.Criteria.{chosen}
+use Rattle.lt_objectives.specs.Criteria.{criteria_in}
 use Rattle.lt_objectives.specs.Objectives.{at_start, objectives}
-use Rattle.lt_objectives.specs.Marked.{NewMark, labels, numbered, next_id, statement_with_marks, items_with_marks, cases_with_marks, labels_before, behind_leading, external_with_marks, externals_with_marks, unit_with_marks, marked_by}
+use Rattle.lt_objectives.specs.Marked.{NewMark, labels, numbered, next_id, statement_with_marks, items_with_marks, cases_with_marks, labels_before, after_leading, external_with_marks, externals_with_marks, unit_with_marks, marked_by}
 use Rattle.lt_objectives.specs.Laws.{MarksAreErased}
 use Rattle.lt_objectives.proofs.ErasedExpressions.{both, three, four, expression, optional, declaration, for_start}
 
@@ -46,7 +46,7 @@ before : (marks : t.Marks) (is : t.Items) → erased_items (labels_before marks 
 before t.no_marks is = refl
 before (t.a_mark m ms) is = before ms is
 
-leading : (marks : t.Marks) (is : t.Items) → erased_items (behind_leading marks is) ≡ erased_items is
+leading : (marks : t.Marks) (is : t.Items) → erased_items (after_leading marks is) ≡ erased_items is
 leading marks t.no_items = before marks t.no_items
 leading marks (t.a_declaration d is) = before marks (t.a_declaration d is)
 leading marks (t.a_statement x is) = before marks (t.a_statement x is)
@@ -69,4 +69,4 @@ by_criteria (criterion ∷ list) unit program id =
     by_criteria list (unit_with_marks (numbered id them) unit) program (next_id id them) ∙ externals (numbered id them) 0 unit
 
 pub marks_go : MarksAreErased
-marks_go = (λ new unit. externals new 0 unit, λ unit program set id. by_criteria (chosen set) unit program id)
+marks_go = (λ new unit. externals new 0 unit, λ unit program set id. by_criteria (criteria_in set) unit program id)

@@ -14,11 +14,11 @@ bit_of C.MultipleCondition = 16
 bit_of C.GeneralActiveClause = 32
 bit_of C.CorrelatedActiveClause = 64
 bit_of C.RestrictedActiveClause = 128
-bit_of C.AbsoluteValue = 256
-bit_of C.ArithmeticOperator = 512
-bit_of C.ConnectiveOperator = 1024
-bit_of C.RelationalOperator = 2048
-bit_of C.AllUses = 4096
+bit_of C.AllUses = 256
+bit_of C.AbsoluteValue = 512
+bit_of C.ArithmeticOperator = 1024
+bit_of C.LogicalConnector = 2048
+bit_of C.RelationalOperator = 4096
 
 -- a criterion's name, which is the tag of its labels
 abbrev pub tag_of : Criterion → List ℕ
@@ -30,11 +30,11 @@ tag_of C.MultipleCondition = codes "MCC"
 tag_of C.GeneralActiveClause = codes "GACC"
 tag_of C.CorrelatedActiveClause = codes "CACC"
 tag_of C.RestrictedActiveClause = codes "RACC"
+tag_of C.AllUses = codes "AU"
 tag_of C.AbsoluteValue = codes "ABS"
 tag_of C.ArithmeticOperator = codes "AOR"
-tag_of C.ConnectiveOperator = codes "COR"
+tag_of C.LogicalConnector = codes "COR"
 tag_of C.RelationalOperator = codes "ROR"
-tag_of C.AllUses = codes "AU"
 
 abbrev pub is_in : ℕ → Criterion → Bool
 is_in set criterion = bit_and set (bit_of criterion) == bit_of criterion
@@ -43,8 +43,8 @@ is_in set criterion = bit_and set (bit_of criterion) == bit_of criterion
 abbrev pub criteria_of_labels : List Criterion
 criteria_of_labels =
     C.Function ∷ C.InputDomain ∷ C.Decision ∷ C.Condition ∷ C.MultipleCondition ∷ C.GeneralActiveClause ∷ C.AbsoluteValue ∷ C.ArithmeticOperator
-    ∷ C.ConnectiveOperator ∷ C.RelationalOperator ∷ []
+    ∷ C.LogicalConnector ∷ C.RelationalOperator ∷ []
 
 -- those of a set, in this order
-abbrev pub chosen : ℕ → List Criterion
-chosen set = filter (is_in set) criteria_of_labels
+abbrev pub criteria_in : ℕ → List Criterion
+criteria_in set = filter (is_in set) criteria_of_labels

@@ -42,8 +42,8 @@ negation e = c.Unary unary.Not e
 abbrev pub conjunction : c.Expression → c.Expression → c.Expression
 conjunction left right = c.Logical logical.And left right
 
-abbrev pub differ : c.Expression → c.Expression → c.Expression
-differ left right = c.Binary O.Ne left right
+abbrev pub inequality : c.Expression → c.Expression → c.Expression
+inequality left right = c.Binary O.Ne left right
 
 abbrev pub zero_constant : c.Expression
 zero_constant = c.Constant (codes "0")
@@ -75,14 +75,14 @@ with_clause n by (c.Logical op left right) =
 with_clause n by (c.Unary unary.Not e) = negation (with_clause n by e)
 with_clause n by e = by
 
--- that the clause of this number makes the difference
-abbrev pub is_decisive : ℕ → c.Expression → c.Expression
-is_decisive n d = differ (with_clause n one d) (with_clause n zero_constant d)
+-- that the clause of this number determines the decision
+abbrev pub determination : ℕ → c.Expression → c.Expression
+determination n d = inequality (with_clause n one d) (with_clause n zero_constant d)
 
--- for each clause of a decision, from this number on, that it is true and makes the difference, and that it is false and does
+-- for each clause of a decision, from this number on, that it is true and determines the decision, and that it is false and does
 abbrev pub active_from : c.Expression → ℕ → List c.Expression → List c.Expression
 active_from d n [] = []
-active_from d n (e ∷ es) = conjunction e (is_decisive n d) ∷ conjunction (negation e) (is_decisive n d) ∷ active_from d (suc n) es
+active_from d n (e ∷ es) = conjunction e (determination n d) ∷ conjunction (negation e) (determination n d) ∷ active_from d (suc n) es
 
 abbrev pub active_clauses : c.Expression → List c.Expression
 active_clauses d = active_from d 0 (clause_list d)

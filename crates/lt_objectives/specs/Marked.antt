@@ -6,8 +6,8 @@ use Rattle.lt_tree.specs.Nodes.{in_expression, in_expressions, in_marks, in_mark
 use Rattle.std.specs.List.{flat_map}
 use Rattle.lt_tree.specs.Typing.Programs.{Program}
 use Rattle.lt_objectives.specs.declared.criteria.Criterion.{Criterion}
-use Rattle.lt_objectives.specs.Criteria.{chosen}
-use Rattle.lt_objectives.specs.Objectives.{Form, at_start, in_front, round, Objective, objectives}
+use Rattle.lt_objectives.specs.Criteria.{criteria_in}
+use Rattle.lt_objectives.specs.Objectives.{Form, at_start, in_front, around, Objective, objectives}
 
 -- ---- numbers of marks
 
@@ -19,13 +19,13 @@ pub record NewMark : Type 0 where
 abbrev pub ids_of : Form → ℕ
 ids_of at_start = 1
 ids_of in_front = 1
-ids_of round = 2
+ids_of around = 2
 
 abbrev pub numbered : ℕ → List Objective → List NewMark
 numbered id [] = []
 numbered id (it ∷ rest) = record { objective = it; id = id } ∷ numbered (id + ids_of it.form) rest
 
--- the id behind those of these objectives
+-- the id that follows those of these objectives
 abbrev pub next_id : ℕ → List Objective → ℕ
 next_id id [] = id
 next_id id (it ∷ rest) = next_id (id + ids_of it.form) rest
@@ -38,7 +38,7 @@ label new = c.mark new.objective.predicate (decimal new.id) new.objective.tag c.
 abbrev pub same_form : Form → Form → Bool
 same_form at_start at_start = true
 same_form in_front in_front = true
-same_form round round = true
+same_form around around = true
 same_form _ _ = false
 
 -- whether a mark has this form and this place
@@ -50,28 +50,29 @@ abbrev pub labels : Form → List NewMark → ℕ → c.Marks
 labels form [] k = c.no_marks
 labels form (new ∷ rest) k = if is_there form k new then c.a_mark (label new) (labels form rest k) else labels form rest k
 
--- the expression at this number with the new `pc_decide` round it
+-- the expression at this number with the new `pc_decide` around it
 abbrev pub decided : List NewMark → ℕ → c.Expression → c.Expression
 decided [] k e = e
 decided (new ∷ rest) k e =
-    if is_there round k new then c.Decide (decided rest k e) (decimal new.id) (decimal (suc new.id)) new.objective.tag else decided rest k e
+    if is_there around k new then c.Decide (decided rest k e) (decimal new.id) (decimal (suc new.id)) new.objective.tag else decided rest k e
 
 abbrev pub joined : c.Marks → c.Marks → c.Marks
 joined c.no_marks others = others
 joined (c.a_mark first rest) others = c.a_mark first (joined rest others)
 
-abbrev pub behind : c.Marks → c.Expression → c.Expression
-behind c.no_marks e = e
-behind (c.a_mark first rest) e = c.Marked (c.a_mark first rest) e
+-- an expression with these marks in front of it
+abbrev pub preceded_by : c.Marks → c.Expression → c.Expression
+preceded_by c.no_marks e = e
+preceded_by (c.a_mark first rest) e = c.Marked (c.a_mark first rest) e
 
 -- an expression at this number whose parts have their marks already
 abbrev pub placed : List NewMark → ℕ → c.Expression → c.Expression
-placed new k e = behind (labels in_front new k) (decided new k e)
+placed new k e = preceded_by (labels in_front new k) (decided new k e)
 
 -- ---- trees with new marks
 
--- An expression that begins at this number, with the marks of its parts but not its own. Marks that stand directly round an expression come first,
--- and the new ones behind them. No mark stands in type names, in operands of `sizeof` and in predicates.
+-- An expression that begins at this number, with the marks of its parts but not its own. Marks that stand directly around an expression come first,
+-- and the new ones after them. No mark stands in type names, in operands of `sizeof` and in predicates.
 abbrev mutual
   pub within : List NewMark → ℕ → c.Expression → c.Expression
   within new k (c.Name w) = c.Name w
@@ -108,7 +109,7 @@ abbrev mutual
   within new k (c.Decide e when_true when_false tag) = c.Decide (placed new (k + 1) (within new (k + 1) e)) when_true when_false tag
   within new k (c.After e id tag) = c.After (placed new (k + 1) (within new (k + 1) e)) id tag
 
-  -- expressions that stand behind each other, the first of which begins at this number, with all their marks
+  -- expressions that follow each other, the first of which begins at this number, with all their marks
   pub within_all : List NewMark → ℕ → c.Expressions → c.Expressions
   within_all new k c.no_expressions = c.no_expressions
   within_all new k (c.an_expression e es) =
@@ -195,14 +196,14 @@ abbrev pub labels_before : c.Marks → c.Items → c.Items
 labels_before c.no_marks items = items
 labels_before (c.a_mark first rest) items = c.a_label first (labels_before rest items)
 
--- labels behind the marks with which a body begins
-abbrev pub behind_leading : c.Marks → c.Items → c.Items
-behind_leading marks (c.a_label m items) = c.a_label m (behind_leading marks items)
-behind_leading marks items = labels_before marks items
+-- labels after the marks with which a body begins
+abbrev pub after_leading : c.Marks → c.Items → c.Items
+after_leading marks (c.a_label m items) = c.a_label m (after_leading marks items)
+after_leading marks items = labels_before marks items
 
 abbrev pub external_with_marks : List NewMark → ℕ → c.External → c.External
 external_with_marks new k (c.Defines s d body) =
-    c.Defines s d (behind_leading (labels at_start new k) (items_with_marks new (k + 1 + length (in_specifiers s) + length (in_declarator d)) body))
+    c.Defines s d (after_leading (labels at_start new k) (items_with_marks new (k + 1 + length (in_specifiers s) + length (in_declarator d)) body))
 external_with_marks new k (c.Declared d) = c.Declared (declaration_with_marks new (k + 1) d)
 
 abbrev pub externals_with_marks : List NewMark → ℕ → c.Unit → c.Unit
@@ -222,4 +223,4 @@ marked_by (criterion ∷ rest) unit program id =
 
 -- the unit with the marks of a set of criteria
 abbrev pub marked : c.Unit → Program → (set : ℕ) → ℕ → c.Unit
-marked unit program set id = marked_by (chosen set) unit program id
+marked unit program set id = marked_by (criteria_in set) unit program id

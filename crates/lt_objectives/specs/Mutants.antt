@@ -17,8 +17,8 @@ use Rattle.lt_objectives.specs.Decisions.{zero_constant}
 abbrev pub same_op : Op → Op → Bool
 same_op = sameb the_type
 
-abbrev pub is_among : Op → List Op → Bool
-is_among op ops = list_any (same_op op) ops
+abbrev pub is_one_of : Op → List Op → Bool
+is_one_of op ops = list_any (same_op op) ops
 
 abbrev pub arithmetic : List Op
 arithmetic = O.Add ∷ O.Sub ∷ O.Mul ∷ O.Div ∷ O.Rem ∷ []
@@ -29,7 +29,7 @@ relations = O.Lt ∷ O.Le ∷ O.Gt ∷ O.Ge ∷ O.Eq ∷ O.Ne ∷ []
 -- the same operands with each other operator of these, if the operator is one of them
 abbrev pub with_others : List Op → Op → c.Expression → c.Expression → List c.Expression
 with_others ops op left right =
-    if is_among op ops then map (λ other. c.Binary other left right) (filter (λ other. not (same_op op other)) ops) else []
+    if is_one_of op ops then map (λ other. c.Binary other left right) (filter (λ other. not (same_op op other)) ops) else []
 
 -- ---- absolute values
 
@@ -43,7 +43,7 @@ is_fitting (c.Index whole index) = true
 is_fitting (c.Member whole name) = true
 is_fitting (c.Arrow pointer name) = true
 is_fitting (c.Unary unary.Dereference e) = true
-is_fitting (c.Binary op left right) = is_among op arithmetic
+is_fitting (c.Binary op left right) = is_one_of op arithmetic
 is_fitting e = false
 
 abbrev pub minus : c.Expression → c.Expression
@@ -63,13 +63,13 @@ abbrev pub arithmetic_mutants : (left right : CType) → c.Expression → List c
 arithmetic_mutants t u (c.Binary op left right) = if is_integer t && is_integer u then with_others arithmetic op left right else []
 arithmetic_mutants t u e = []
 
-abbrev pub other_connective : LogicalOp → LogicalOp
-other_connective logical.And = logical.Or
-other_connective logical.Or = logical.And
+abbrev pub other_connector : LogicalOp → LogicalOp
+other_connector logical.And = logical.Or
+other_connector logical.Or = logical.And
 
-abbrev pub connective_mutants : c.Expression → List c.Expression
-connective_mutants (c.Logical op left right) = c.Logical (other_connective op) left right ∷ []
-connective_mutants e = []
+abbrev pub connector_mutants : c.Expression → List c.Expression
+connector_mutants (c.Logical op left right) = c.Logical (other_connector op) left right ∷ []
+connector_mutants e = []
 
 -- of pointers `==` and `!=` are exchanged
 abbrev pub pointer_relations : List Op

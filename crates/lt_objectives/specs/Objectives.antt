@@ -13,17 +13,17 @@ use Rattle.lt_tree.specs.Typing.Programs.{Program}
 use Rattle.lt_objectives.specs.declared.criteria.Criterion.{Criterion}
 use Rattle.lt_objectives.specs.declared.criteria.Criterion.TheVariants as C
 use Rattle.lt_objectives.specs.Criteria.{tag_of}
-use Rattle.lt_objectives.specs.Places.{Site, sites, Part, is_at, core, twin, type_at, is_open, is_value_position}
-use Rattle.lt_objectives.specs.Decisions.{decisions, clauses, one, zero_constant, negation, differ, clause_list, conjunctions, active_clauses, has_few_clauses}
-use Rattle.lt_objectives.specs.Mutants.{is_signed_integer, absolute_mutants, arithmetic_mutants, connective_mutants, relational_mutants}
+use Rattle.lt_objectives.specs.Places.{Site, sites, Part, is_at, value_part, corresponding_node, type_at, is_open, is_value_position}
+use Rattle.lt_objectives.specs.Decisions.{decisions, clauses, one, zero_constant, negation, inequality, clause_list, conjunctions, active_clauses, has_few_clauses}
+use Rattle.lt_objectives.specs.Mutants.{is_signed_integer, absolute_mutants, arithmetic_mutants, connector_mutants, relational_mutants}
 
 pub data Form : Type 0 where
   -- a label as a statement, at the start of a function's body
   at_start : Form
   -- a label in front of an expression
   in_front : Form
-  -- a `pc_decide` round an expression, whose truth is an objective and whose falsity is another
-  round : Form
+  -- a `pc_decide` around an expression, whose truth is an objective and whose falsity is another
+  around : Form
 
 pub record Objective : Type 0 where
   -- the number of the node
@@ -42,13 +42,13 @@ all_at place form criterion predicates = map (objective place form criterion) pr
 
 -- ---- at the start of functions
 
-abbrev pub function_among : List Function → ℕ → List ℕ
-function_among [] node = []
-function_among (f ∷ fs) node = if f.node == node then f.parameters else function_among fs node
+abbrev pub parameters_among : List Function → ℕ → List ℕ
+parameters_among [] node = []
+parameters_among (f ∷ fs) node = if f.node == node then f.parameters else parameters_among fs node
 
 -- the objects of the parameters of the function that is defined at this number
 abbrev pub parameters_at : c.Unit → Program → ℕ → List ℕ
-parameters_at unit program k = elim (twin unit program k) [ None ↦ [] | Some n ↦ function_among program.functions n ]
+parameters_at unit program k = elim (corresponding_node unit program k) [ None ↦ [] | Some n ↦ parameters_among program.functions n ]
 
 -- less than 0, 0, and more, as far as the type has it; null or not
 abbrev pub domains : DataModel → CType → c.Expression → List c.Expression
@@ -69,13 +69,13 @@ at_body unit program _ k = []
 
 -- ---- at decisions and clauses
 
-abbrev pub is_among : List Part → ℕ → Bool
-is_among parts k = list_any (is_at k) parts
+abbrev pub has_part_at : List Part → ℕ → Bool
+has_part_at parts k = list_any (is_at k) parts
 
 -- both truths of an expression: two labels if it is pure, else a `pc_decide`
 abbrev pub both_truths : Criterion → ℕ → c.Expression → List Objective
 both_truths criterion k e =
-    if is_pure e then all_at k in_front criterion (e ∷ negation e ∷ []) else objective k round criterion e ∷ []
+    if is_pure e then all_at k in_front criterion (e ∷ negation e ∷ []) else objective k around criterion e ∷ []
 
 -- the combinations of the clauses of a pure decision
 abbrev pub combinations : Criterion → ℕ → (c.Expression → List c.Expression) → c.Expression → List Objective
@@ -93,25 +93,25 @@ at_test _ is_decision is_clause k e = []
 
 -- the types of the operands of a binary operator at this number
 abbrev pub left_type : c.Unit → Program → ℕ → c.Expression → CType
-left_type unit program k (c.Binary op left right) = type_at unit program (core (k + 1) left).number
+left_type unit program k (c.Binary op left right) = type_at unit program (value_part (k + 1) left).number
 left_type unit program k e = type_at unit program k
 
 abbrev pub right_type : c.Unit → Program → ℕ → c.Expression → CType
-right_type unit program k (c.Binary op left right) = type_at unit program (core (k + 1 + length (in_expression left)) right).number
+right_type unit program k (c.Binary op left right) = type_at unit program (value_part (k + 1 + length (in_expression left)) right).number
 right_type unit program k e = type_at unit program k
 
 -- the mutants of a criterion of an expression at this number, which is also given without its marks
 abbrev pub mutants : c.Unit → Program → Criterion → ℕ → c.Expression → c.Expression → List c.Expression
 mutants unit program C.AbsoluteValue k e plain = absolute_mutants program.model (type_at unit program k) plain
 mutants unit program C.ArithmeticOperator k e plain = arithmetic_mutants (left_type unit program k e) (right_type unit program k e) plain
-mutants unit program C.ConnectiveOperator k e plain = connective_mutants plain
+mutants unit program C.LogicalConnector k e plain = connector_mutants plain
 mutants unit program C.RelationalOperator k e plain = relational_mutants (left_type unit program k e) (right_type unit program k e) plain
 mutants unit program _ k e plain = []
 
 -- that a pure expression and its mutant have different values
 abbrev pub differences : c.Unit → Program → Criterion → ℕ → c.Expression → List Objective
 differences unit program criterion k e =
-    if is_pure (erased e) && is_value_position unit k then all_at k in_front criterion (map (differ (erased e)) (mutants unit program criterion k e (erased e)))
+    if is_pure (erased e) && is_value_position unit k then all_at k in_front criterion (map (inequality (erased e)) (mutants unit program criterion k e (erased e)))
     else []
 
 -- ---- in the order of the walk
@@ -125,7 +125,7 @@ is_core e = true
 abbrev pub at_expression : c.Unit → Program → Criterion → ℕ → c.Expression → List Objective
 at_expression unit program criterion k e =
     if is_core e && is_open unit program k
-    then at_test criterion (is_among (decisions unit) k) (is_among (clauses unit) k) k (erased e) ++ differences unit program criterion k e else []
+    then at_test criterion (has_part_at (decisions unit) k) (has_part_at (clauses unit) k) k (erased e) ++ differences unit program criterion k e else []
 
 abbrev pub at_node : c.Unit → Program → Criterion → Site → List Objective
 at_node unit program criterion site =

@@ -43,6 +43,22 @@ core k (c.Decide e when_true when_false tag) = core (k + 1) e
 core k (c.After e id tag) = core (k + 1) e
 core k e = part k e
 
+-- The part of an expression that begins at this number whose value is that of the whole: without the marks around it, and the last part of a comma
+-- expression, C11 6.5.17.
+abbrev mutual
+  pub value_part : ℕ → c.Expression → Part
+  value_part k (c.Comma parts) = last_value_part k (k + 1) parts
+  value_part k (c.Marked marks e) = value_part (k + 1 + length (in_marks marks)) e
+  value_part k (c.Decide e when_true when_false tag) = value_part (k + 1) e
+  value_part k (c.After e id tag) = value_part (k + 1) e
+  value_part k e = part k e
+
+  -- that of the last of these parts, the first of which begins at the second number, of the comma expression at the first
+  pub last_value_part : ℕ → ℕ → c.Expressions → Part
+  last_value_part k j c.no_expressions = part k (c.Comma c.no_expressions)
+  last_value_part k j (c.an_expression e c.no_expressions) = value_part j e
+  last_value_part k j (c.an_expression e (c.an_expression next rest)) = last_value_part k (j + length (in_expression e)) (c.an_expression next rest)
+
 -- ---- runs of nodes
 
 pub record Span : Type 0 where
@@ -62,38 +78,39 @@ mark_in site = elim (site.node) [ a_mark m ↦ span site.number (length (in_mark
 -- ---- what is known of a node
 
 -- A node that is there without the marks too; comma expressions aside, which may be joined then.
-abbrev pub is_unmarked : Node → Bool
-is_unmarked (a_marked_item m) = false
-is_unmarked (an_expression (c.Marked marks e)) = false
-is_unmarked (an_expression (c.Decide e when_true when_false tag)) = false
-is_unmarked (an_expression (c.After e id tag)) = false
-is_unmarked (an_expression (c.Comma parts)) = false
-is_unmarked node = true
+abbrev pub stays_without_marks : Node → Bool
+stays_without_marks (a_marked_item m) = false
+stays_without_marks (an_expression (c.Marked marks e)) = false
+stays_without_marks (an_expression (c.Decide e when_true when_false tag)) = false
+stays_without_marks (an_expression (c.After e id tag)) = false
+stays_without_marks (an_expression (c.Comma parts)) = false
+stays_without_marks node = true
 
 abbrev pub numbers_outside : List Span → List Site → List ℕ
 numbers_outside marks [] = []
 numbers_outside marks (site ∷ rest) =
-    if is_unmarked site.node && not (list_any (covers site.number) marks) then site.number ∷ numbers_outside marks rest else numbers_outside marks rest
+    if stays_without_marks site.node && not (list_any (covers site.number) marks) then site.number ∷ numbers_outside marks rest else numbers_outside marks rest
 
 -- the numbers of the nodes that are there without the marks too, in order
 abbrev pub unmarked_numbers : c.Unit → List ℕ
 unmarked_numbers unit = numbers_outside (flat_map mark_in (sites unit)) (sites unit)
 
-abbrev pub opposite : ℕ → List ℕ → List ℕ → Option ℕ
-opposite k [] others = None
-opposite k (m ∷ ms) [] = None
-opposite k (m ∷ ms) (n ∷ ns) = if m == k then Some n else opposite k ms ns
+-- the number in the second list at the index at which this one stands in the first
+abbrev pub corresponding : ℕ → List ℕ → List ℕ → Option ℕ
+corresponding k [] others = None
+corresponding k (m ∷ ms) [] = None
+corresponding k (m ∷ ms) (n ∷ ns) = if m == k then Some n else corresponding k ms ns
 
 -- A program is that of this unit, or of one that is the same without marks. The number of a node of the unit in the program's own unit.
-abbrev pub twin : c.Unit → Program → ℕ → Option ℕ
-twin unit program k = opposite k (unmarked_numbers unit) (unmarked_numbers program.unit)
+abbrev pub corresponding_node : c.Unit → Program → ℕ → Option ℕ
+corresponding_node unit program k = corresponding k (unmarked_numbers unit) (unmarked_numbers program.unit)
 
 abbrev pub fact_among : List Fact → ℕ → Option Fact
 fact_among [] n = None
 fact_among (fact ∷ facts) n = if fact.node == n then Some fact else fact_among facts n
 
 abbrev pub fact_at : c.Unit → Program → ℕ → Option Fact
-fact_at unit program k = elim (twin unit program k) [ None ↦ None | Some n ↦ fact_among program.facts n ]
+fact_at unit program k = elim (corresponding_node unit program k) [ None ↦ None | Some n ↦ fact_among program.facts n ]
 
 -- the type of an expression by its number
 abbrev pub type_at : c.Unit → Program → ℕ → CType

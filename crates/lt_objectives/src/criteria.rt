@@ -22,16 +22,16 @@ pub enum Criterion {
     CorrelatedActiveClause,
     /// Restricted active clause coverage.
     RestrictedActiveClause,
+    /// All uses.
+    AllUses,
     /// Mutants: absolute values.
     AbsoluteValue,
     /// Mutants: arithmetic operators.
     ArithmeticOperator,
-    /// Mutants: connectives.
-    ConnectiveOperator,
+    /// Mutants: logical connectors.
+    LogicalConnector,
     /// Mutants: relations.
     RelationalOperator,
-    /// All uses.
-    AllUses,
 }
 
 impl Criterion {
@@ -48,11 +48,11 @@ impl Criterion {
             Criterion::GeneralActiveClause => Criteria::GACC,
             Criterion::CorrelatedActiveClause => Criteria::CACC,
             Criterion::RestrictedActiveClause => Criteria::RACC,
+            Criterion::AllUses => Criteria::AU,
             Criterion::AbsoluteValue => Criteria::ABS,
             Criterion::ArithmeticOperator => Criteria::AOR,
-            Criterion::ConnectiveOperator => Criteria::COR,
+            Criterion::LogicalConnector => Criteria::COR,
             Criterion::RelationalOperator => Criteria::ROR,
-            Criterion::AllUses => Criteria::AU,
         }
     }
 
@@ -69,11 +69,11 @@ impl Criterion {
             Criterion::GeneralActiveClause => "GACC",
             Criterion::CorrelatedActiveClause => "CACC",
             Criterion::RestrictedActiveClause => "RACC",
+            Criterion::AllUses => "AU",
             Criterion::AbsoluteValue => "ABS",
             Criterion::ArithmeticOperator => "AOR",
-            Criterion::ConnectiveOperator => "COR",
+            Criterion::LogicalConnector => "COR",
             Criterion::RelationalOperator => "ROR",
-            Criterion::AllUses => "AU",
         }
     }
 }
@@ -92,11 +92,11 @@ bitflag_items! {
         const GACC = 32;
         const CACC = 64;
         const RACC = 128;
-        const ABS = 256;
-        const AOR = 512;
-        const COR = 1024;
-        const ROR = 2048;
-        const AU = 4096;
+        const AU = 256;
+        const ABS = 512;
+        const AOR = 1024;
+        const COR = 2048;
+        const ROR = 4096;
     }
 }
 
@@ -106,7 +106,7 @@ impl Flags for Criteria {
     ghost exact = { ⊤ };
 
     ghost table = { (codes "FC", 1) ∷ (codes "IDC", 2) ∷ (codes "DC", 4) ∷ (codes "CC", 8) ∷ (codes "MCC", 16) ∷ (codes "GACC", 32) ∷ (codes "CACC", 64)
-        ∷ (codes "RACC", 128) ∷ (codes "ABS", 256) ∷ (codes "AOR", 512) ∷ (codes "COR", 1024) ∷ (codes "ROR", 2048) ∷ (codes "AU", 4096) ∷ [] };
+        ∷ (codes "RACC", 128) ∷ (codes "AU", 256) ∷ (codes "ABS", 512) ∷ (codes "AOR", 1024) ∷ (codes "COR", 2048) ∷ (codes "ROR", 4096) ∷ [] };
 
     ghost set_of = { λ p. p.0 };
 
