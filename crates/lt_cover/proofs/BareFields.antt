@@ -27,7 +27,7 @@ bare_byte b h = grind (arith, nat_tests)
 bare_digit : (b : ℕ) → digit_value b < 10 → needs_byte default_writer b ≡ false
 bare_digit b h = let k = digit_from_value b h in grind (arith, nat_tests)
 
-bare_cons : (b : ℕ) (bytes : List ℕ) → needs_byte default_writer b ≡ false → IsBare bytes → IsBare (b ∷ bytes)
+pub bare_cons : (b : ℕ) (bytes : List ℕ) → needs_byte default_writer b ≡ false → IsBare bytes → IsBare (b ∷ bytes)
 bare_cons b bytes h k = ap (λ x. x || list_any (needs_byte default_writer) bytes) h ∙ k
 
 pub bare_plain : (name : List ℕ) → IsPlain name → IsBare name
@@ -71,7 +71,7 @@ bare_end Steps h = refl
 bare_end Deep h = refl
 bare_end Cells h = refl
 
-bare_field : (field : List ℕ) → IsBare field → field_text default_writer field ≡ field
+pub bare_field : (field : List ℕ) → IsBare field → field_text default_writer field ≡ field
 bare_field field h = ap (λ b. cond b (quoted default_writer field) field) h
 
 comma_first : (x y z : List ℕ) → (x ++ 44 ∷ y) ++ z ≡ x ++ 44 ∷ (y ++ z)

@@ -1,1 +1,10 @@
 pub mod BareFields
+pub mod Forms
+pub mod Ends
+pub mod Names
+pub mod RowFields
+pub mod Tables
+pub mod Texts
+pub mod Bare
+pub mod Written
+pub mod Merges

@@ -1,3 +1,4 @@
 pub mod Text
 pub mod Plain
 pub mod Writers
+pub mod Coverage

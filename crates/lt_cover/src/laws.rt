@@ -1,0 +1,25 @@
+// Laws of the definitions.
+ghost use Rattle.std.specs.Prelude.{◌≡◌, ℕ, List};
+ghost use Rattle.lt_cover.specs.Coverage.Table.{Table, IsTable};
+ghost use Rattle.lt_cover.specs.Coverage.Text.{IsCoverText, cover_text};
+ghost use Rattle.lt_cover.specs.Coverage.Merge.{IsMerge};
+
+/// A text stands for at most one table.
+pub fn a_text_stands_for_one_table()
+    ensures { (text : List ℕ) (a b : Table) → IsCoverText text a → IsCoverText text b → a ≡ b }
+{}
+
+/// What is written of a table stands for it.
+pub fn what_is_written_is_read()
+    ensures { (t : Table) → IsTable t → IsCoverText (cover_text t) t }
+{}
+
+/// A merge is the same in either order.
+pub fn merge_is_commutative()
+    ensures { (a b m : Table) → IsMerge a b m → IsMerge b a m }
+{}
+
+/// A table merged with itself is that table.
+pub fn merge_is_idempotent()
+    ensures { (a : Table) → IsTable a → IsMerge a a a }
+{}
