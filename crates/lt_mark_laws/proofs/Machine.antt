@@ -1,6 +1,6 @@
 -- The steps of a machine see no marks.
 use Rattle.std.proofs.Common.{◌≡◌, ℕ, ℤ, suc, zero, List, [], ◌∷◌, Option, Some, None, Bool, true, false, refl, sym, ap, ◌∙◌, subst}
-use Rattle.std.specs.Prelude.{◌++◌, ◌+◌, if◌then◌else◌, Result, Ok, Err, length, nat_lt, nat_le}
+use Rattle.std.specs.Prelude.{◌++◌, ◌+◌, ◌&&◌, if◌then◌else◌, Result, Ok, Err, length, nat_lt}
 use Rattle.lt_model.specs.declared.cell.Address.{Address}
 use Rattle.lt_model.specs.declared.cell.CellType.{CellType}
 use Rattle.lt_model.specs.declared.cell.Content.{Content}
@@ -13,23 +13,23 @@ use Rattle.lt_model.specs.declared.operator.Op.{Op}
 use Rattle.lt_model.specs.declared.operator.Ub.{Ub}
 use Rattle.lt_model.specs.declared.operator.Ub.TheVariants as U
 use Rattle.lt_model.specs.declared.run.End.TheVariants.{Stopped, Undefined, NoInput, Steps, Deep, Cells}
-use Rattle.lt_model.specs.declared.input.Input.{Input}
-use Rattle.lt_model.specs.declared.input.BlockIn.{BlockIn}
-use Rattle.lt_model.specs.declared.input.CellSet.{CellSet}
-use Rattle.lt_model.specs.Memory.{Memory, Block, store, copy_struct, create_shaped, new_block}
+use Rattle.lt_model.specs.Operators.{is_value}
+use Rattle.lt_model.specs.Memory.{Memory, store, copy_struct, create_shaped}
 use Rattle.lt_model.specs.State.{Made, Left, Footprint, Valued, clash, joined, meets, untouched, Gives, Ends}
 use Rattle.lt_ir.specs.declared.variable.Variable.{Variable}
-use Rattle.lt_ir.specs.declared.variable.Variable.TheVariants.{Parameter, Static as StaticObject}
-use Rattle.lt_ir.specs.declared.code.Static.{Static}
-use Rattle.lt_ir.specs.Running.{At, Answer, Step, ◌>>=◌, ◌>>◌, gives, over, defined, absurdity, asked, changed, tick, spent, one_deeper, most_calls, living_block, with_block, place, created, bound_to, begins, is_begun, ends, seals, stub_value, next_value, took, with_scope, begin_parameters, end_parameters, placed, start_statics, block_of_static}
-use Rattle.lt_ir.specs.Evaluation.{number_in, address_in, used, truth_in, apart, aimed, cells_met, with_reads, loaded, written, stored, copied, moved, member_at, applied, counted, compared, one_cell, grown, writes, store_one, store_parameters}
-use Rattle.lt_ir.specs.Starting.{Root, sets, start_blocks, start_parameters, started, parameter_roots, static_roots}
+use Rattle.lt_ir.specs.declared.variable.Variable.TheVariants.{Parameter}
+use Rattle.lt_ir.specs.Running.{At, Answer, Step, ◌>>=◌, ◌>>◌, gives, over, defined, absurdity, asked, changed, tick, spent, one_deeper, most_calls, living_block, with_block, place, created, bound_to, begins, is_begun, ends, seals, stub_value, next_value, took, with_scope, begin_parameters, end_parameters}
+use Rattle.lt_ir.specs.Evaluation.{number_in, address_in, used, truth_in, apart, aimed, cells_met, with_reads, loaded, written, is_content_of, stored, copied, is_integer, is_right_operand, moved, member_at, applied, counted, compared, one_cell, grown, writes, store_one, store_parameters}
 use Rattle.lt_mark_laws.specs.Laws.{without_new}
 use Rattle.lt_mark_laws.proofs.Alike.{remarked, AlikeAt, Alike, Same, then_same, gives_same, over_same, defined_same, if_same}
 
 module _ (new : ℕ → Bool) where
   abbrev S : {A : Type 0} → Step A → Step A → Type 0
   S s r = Same new s r
+
+  -- where what is needed is there
+  fitting_same : {A : Type 0} (b : Bool) (s : Step A) → S s s → S (if b then s else absurdity) (if b then s else absurdity)
+  fitting_same {A} b s h = if_same new b s absurdity s absurdity h (over_same new A Stopped)
 
   -- ---- what is asked of memory, and what changes it
 
@@ -83,19 +83,19 @@ module _ (new : ℕ → Bool) where
   written_same tracks change cells a p = record { alike = λ at ms e. (then_same new (changed change) (changed change) _ _ (changed_same change) (λ _. gives_same new (grown tracks p (writes (cells_met cells a at.memory))))).alike at ms e }
 
   pub stored_same : (tracks : Bool) (m : DataModel) (ty : CellType) (a : Option Address) (c : Content) (p : Footprint) → S (stored tracks m ty a c p) (stored tracks m ty a c p)
-  stored_same tracks m ty a c p = record { alike = λ at ms e. (written_same tracks (λ memory. store m memory a ty c) (one_cell ty) a p).alike at ms e }
+  stored_same tracks m ty a c p = fitting_same (is_content_of m ty c) _ (written_same tracks (λ memory. store m memory a ty c) (one_cell ty) a p)
 
   pub copied_same : (tracks : Bool) (m : DataModel) (shape : Shape) (a from : Option Address) (p : Footprint) → S (copied tracks m shape a from p) (copied tracks m shape a from p)
   copied_same tracks m shape a from p = record { alike = λ at ms e. (written_same tracks (λ memory. copy_struct m memory a from shape) shape.cells a p).alike at ms e }
 
   pub moved_same : (op : Op) (size : ℕ) (c d : Content) → S (moved op size c d) (moved op size c d)
-  moved_same op size c d = then_same new _ _ _ _ (address_same c) (λ p. then_same new _ _ _ _ (number_same d) (λ n. asked_same _))
+  moved_same op size c d = then_same new _ _ _ _ (address_same c) (λ p. then_same new _ _ _ _ (number_same d) (λ n. fitting_same (is_integer n) _ (asked_same _)))
 
   pub member_same : (offset : ℕ) (a : Option Address) → S (member_at offset a) (member_at offset a)
   member_same offset a = asked_same _
 
   pub applied_same : (m : DataModel) (op : Op) (s : Scalar) (c d : Content) → S (applied m op s c d) (applied m op s c d)
-  applied_same m op s c d = then_same new _ _ _ _ (number_same c) (λ a. then_same new _ _ _ _ (number_same d) (λ b. defined_same new _))
+  applied_same m op s c d = then_same new _ _ _ _ (number_same c) (λ a. then_same new _ _ _ _ (number_same d) (λ b. fitting_same (is_value m s a && is_right_operand m op s b) _ (defined_same new _)))
 
   pub counted_same : (size : ℕ) (c d : Content) → S (counted size c d) (counted size c d)
   counted_same size c d = then_same new _ _ _ _ (address_same c) (λ a. then_same new _ _ _ _ (address_same d) (λ b. asked_same _))

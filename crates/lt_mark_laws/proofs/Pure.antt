@@ -12,7 +12,7 @@ use Rattle.lt_model.specs.declared.run.End.{End}
 use Rattle.lt_model.specs.declared.run.End.TheVariants.{Stopped, Undefined}
 use Rattle.lt_model.specs.declared.scalar.Scalar.{Scalar}
 use Rattle.lt_model.specs.declared.scalar.DataModel.{DataModel}
-use Rattle.lt_model.specs.Operators.{value_of}
+use Rattle.lt_model.specs.Operators.{value_of, is_value}
 use Rattle.lt_model.specs.Memory.{Memory}
 use Rattle.lt_model.specs.State.{Footprint, Valued, untouched, Gives, Ends}
 use Rattle.lt_tree.specs.Typing.Types.{CType}
@@ -20,7 +20,7 @@ use Rattle.lt_tree.specs.Typing.TypedTree as e
 use Rattle.lt_tree.specs.Typing.TypedTree.{Value, Values, Place, Conversion}
 use Rattle.lt_ir.specs.declared.variable.Variable.{Variable}
 use Rattle.lt_ir.specs.Running.{At, Answer, Step, ◌>>=◌, gives, over, defined, absurdity, asked, place, with_block, living_block}
-use Rattle.lt_ir.specs.Evaluation.{valued, number_in, address_in, truth_in, of_truth, settled_in, grown, apart, loaded, moved, member_at, applied, counted, compared}
+use Rattle.lt_ir.specs.Evaluation.{valued, number_in, address_in, truth_in, of_truth, settled_in, grown, apart, loaded, is_integer, is_right_operand, moved, member_at, applied, counted, compared}
 use Rattle.lt_meaning.specs.Expressions.{is_pure, is_pure_place, are_pure, Around, Fate, wanted, unconverted, dropped, dropped_branch, untaken, inside, of_branch, of_last, fate_of_part, tracking, converted, converted_here, in_type, all_ones, cell_type, scalar_in, pointer_of, count_of, decides, second_truth, comma_from, eval, place_of, parts_of}
 use Rattle.lt_mark_laws.proofs.Values.{parts_behind}
 
@@ -65,6 +65,10 @@ if_still : {A : Type 0} (b : Bool) (s r : Step A) → Still s → Still r → St
 if_still true s r h k = h
 if_still false s r h k = k
 
+-- where what is needed is there
+fitting_still : {A : Type 0} (b : Bool) (s : Step A) → Still s → Still (if b then s else absurdity)
+fitting_still {A} b s h = if_still b s absurdity h (over_still A Stopped)
+
 number_still : (c : Content) → Still (number_in c)
 number_still content.Unset = over_still _ (Undefined U.NoValue)
 number_still (content.Number z) = gives_still z
@@ -88,10 +92,10 @@ place_still : (v : Variable) → Still (place v)
 place_still v = record { leaves = λ at. block_by _ (λ n. gives_still _) (living_block v at) at }
 
 moved_still : (op : Op) (size : ℕ) (c d : Content) → Still (moved op size c d)
-moved_still op size c d = then_still _ _ (address_still c) (λ p. then_still _ _ (number_still d) (λ n. asked_still _))
+moved_still op size c d = then_still _ _ (address_still c) (λ p. then_still _ _ (number_still d) (λ n. fitting_still (is_integer n) _ (asked_still _)))
 
 applied_still : (m : DataModel) (op : Op) (s : Scalar) (c d : Content) → Still (applied m op s c d)
-applied_still m op s c d = then_still _ _ (number_still c) (λ a. then_still _ _ (number_still d) (λ b. defined_still (value_of m op s a b)))
+applied_still m op s c d = then_still _ _ (number_still c) (λ a. then_still _ _ (number_still d) (λ b. fitting_still (is_value m s a && is_right_operand m op s b) _ (defined_still (value_of m op s a b))))
 
 counted_still : (size : ℕ) (c d : Content) → Still (counted size c d)
 counted_still size c d = then_still _ _ (address_still c) (λ a. then_still _ _ (address_still d) (λ b. asked_still _))

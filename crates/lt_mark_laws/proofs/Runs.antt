@@ -1,16 +1,21 @@
 -- Runs of a program with marks added are the same, new marks aside.
 use Rattle.std.proofs.Common.{◌≡◌, ℕ, ℤ, zero, suc, List, [], ◌∷◌, Option, Some, None, Bool, true, false, refl, sym, ap, ◌∙◌, subst}
-use Rattle.std.specs.Prelude.{◌++◌, ◌+◌, ◌&&◌, not, if◌then◌else◌, map, length, nat_le}
+use Rattle.std.specs.Prelude.{◌++◌, ◌+◌, ◌&&◌, not, if◌then◌else◌, map, length}
 use Rattle.std.specs.Str.{bytes_eq}
 use Rattle.lt_model.specs.declared.cell.Content.{Content}
 use Rattle.lt_model.specs.declared.cell.Content.TheVariants as content
+use Rattle.lt_model.specs.declared.cell.CellType.{CellType}
 use Rattle.lt_model.specs.declared.cell.Shape.{Shape}
+use Rattle.lt_model.specs.declared.cell.ShapeCell.{ShapeCell}
 use Rattle.lt_model.specs.declared.cell.StoredCell.{StoredCell}
 use Rattle.lt_model.specs.declared.input.Input.{Input}
 use Rattle.lt_model.specs.declared.input.BlockIn.{BlockIn}
-use Rattle.lt_model.specs.declared.run.End.TheVariants.{Returned, Stopped, Steps, Cells}
-use Rattle.lt_model.specs.Memory.{Memory, Block, most_cells, cells_alive, new_block, new_cell}
-use Rattle.lt_model.specs.State.{Made, Gives, Ends}
+use Rattle.lt_model.specs.declared.input.CellSet.{CellSet}
+use Rattle.lt_model.specs.declared.input.CellSet.TheVariants as cellset
+use Rattle.lt_model.specs.declared.scalar.DataModel.{DataModel}
+use Rattle.lt_model.specs.declared.run.End.TheVariants.{Returned, Stopped, Steps}
+use Rattle.lt_model.specs.Memory.{new_cell}
+use Rattle.lt_model.specs.State.{Made, untouched, Gives, Ends}
 use Rattle.lt_tree.specs.Tree.{Unit as SourceUnit}
 use Rattle.lt_tree.specs.Typing.Types.{CType, is_void}
 use Rattle.lt_tree.specs.Typing.Constants.{Constancy, number, address, varying, faulty, null_constant, null_address}
@@ -21,9 +26,9 @@ use Rattle.lt_tree.specs.Typing.Programs.{Program}
 use Rattle.lt_ir.specs.declared.variable.Variable.{Variable}
 use Rattle.lt_ir.specs.declared.variable.Variable.TheVariants.{Parameter, Local, Static as StaticObject}
 use Rattle.lt_ir.specs.declared.code.Static.{Static}
-use Rattle.lt_ir.specs.Running.{At, Answer, Step, Over, ◌>>=◌, ◌>>◌, gives, over, tick, one_deeper, seals, stub_value, with_scope, statics_of, begin_parameters, end_parameters, start_statics, placed, with_new, bound_to, block_of_static}
+use Rattle.lt_ir.specs.Running.{At, Answer, Step, Over, ◌>>=◌, ◌>>◌, gives, over, tick, one_deeper, seals, stub_value, with_scope, statics_of, begin_parameters, end_parameters}
 use Rattle.lt_ir.specs.Evaluation.{store_parameters}
-use Rattle.lt_ir.specs.Starting.{Root, sets, start_blocks, start_parameters, started, parameter_roots, static_roots, nowhere}
+use Rattle.lt_ir.specs.Starting.{Root, put, fill, start_static, start_statics, seal_statics, start_blocks, start_parameters, root_among, point_named, type_at, put_if_there, put_in, set_one, set_all, sets, started, parameter_roots, static_roots, nowhere}
 use Rattle.lt_meaning.specs.Expressions.{Around, Calls, shape}
 use Rattle.lt_meaning.specs.Statements.{Flow, Next, Breaks, Continues, Returns, exec_items, parts_in, is_sealed_object, type_of_object}
 use Rattle.lt_meaning.specs.Runs.{run, is_there_first, statics_before, place_among, other_variable, variable_of, begun_by, locals_in, locals_of, locals_among, fixed_content, fixed_in, part_in, all_parts_in, initial, initials, stops, without_body, shapes_of, seal_parameters, back, value_of_call, value_at_end, inside_of, body_of, with_body, function_among, call_of, invoke, name_of_object, over_by, begun}
@@ -31,7 +36,7 @@ use Rattle.lt_mark_laws.specs.Laws.{AreAlike, MarksChangeNothing, without_new}
 use Rattle.lt_mark_laws.specs.Added as a
 use Rattle.lt_mark_laws.specs.Added.{AddsLocal, AddsLocals, AddsForStart, AddsOptional, AddsStatement, AddsItems, AddsCases, AddsFunction, AddsFunctions, AddsProgram, AreSameObjects}
 use Rattle.lt_mark_laws.proofs.Alike.{remarked, AlikeAt, Alike, Same, same_at, then_same, gives_same, over_same, if_same}
-use Rattle.lt_mark_laws.proofs.Machine.{tick_same, deeper_same, scope_same, begin_parameters_same, end_parameters_same, store_parameters_same, seals_same, stub_same, begins_same, bound_same}
+use Rattle.lt_mark_laws.proofs.Machine.{tick_same, deeper_same, scope_same, begin_parameters_same, end_parameters_same, store_parameters_same, seals_same, stub_same, begins_same, bound_same, created_same, stored_same}
 use Rattle.lt_mark_laws.proofs.Objects as objects
 use Rattle.lt_mark_laws.proofs.Objects.{each}
 use Rattle.lt_mark_laws.proofs.Statements.{items_same}
@@ -136,7 +141,7 @@ module _ (new : ℕ → Bool) (P : Program) (u : SourceUnit) (ds : List Declared
   names_same (n ∷ ns) = ap (λ name. name ∷ map (name_of_object P) ns) (objects.name_same P.objects os objects_same n) ∙ ap (λ l. name_of_object Q n ∷ l) (names_same ns)
 
   abbrev one_variable : List ℕ → List ℕ → Bool → ℕ → ℕ → Variable
-  one_variable parameters locals is_there k n = elim (place_among 0 n parameters) [ None ↦ (if is_there then StaticObject k else elim (place_among 0 n locals) [ None ↦ Local n | Some j ↦ Local j ]) | Some j ↦ Parameter j ]
+  one_variable parameters locals is_there k n = elim (place_among 0 n parameters) [ None ↦ (if is_there then StaticObject k else elim (place_among 0 n locals) [ None ↦ Local (length locals) | Some j ↦ Local j ]) | Some j ↦ Parameter j ]
 
   variable_at : (f : Function) (body : Items) (node : ℕ) → AddsItems new f.body body → (n : ℕ) → variable_of P f n ≡ variable_of Q (record f { node = node; body = body }) n
   variable_at f body node d n = ap (λ locals. one_variable f.parameters locals (is_there_first P n) (statics_before n P.objects) n) (items_locals d) ∙ ap (λ b. one_variable f.parameters (locals_of body) b (statics_before n P.objects) n) (objects.static_same P.objects os objects_same n) ∙ ap (λ k. one_variable f.parameters (locals_of body) (is_there_first Q n) k n) (objects.statics_same n P.objects os objects_same)
@@ -207,33 +212,60 @@ module _ (new : ℕ → Bool) (P : Program) (u : SourceUnit) (ds : List Declared
 
   -- ---- how a run begins
 
-  placed_by : (b : Bool) (block : Block) (at : At) (ms : List Made) → without_new new at.marks ≡ without_new new ms → Alike new {A = ℕ} (if b then Gives (length at.memory) (with_new block at) else Ends Cells at) (if b then Gives (length at.memory) (with_new block (remarked ms at)) else Ends Cells (remarked ms at))
-  placed_by true block at ms same = (refl, (refl, same))
-  placed_by false block at ms same = (refl, (refl, same))
+  put_same : (m : DataModel) (block offset : ℕ) (ty : CellType) (c : Content) → S (put m block offset ty c) (put m block offset ty c)
+  put_same m block offset ty c = then_same new _ _ _ _ (stored_same new false m ty (Some (record { block = block; offset = offset })) c untouched) (λ _. gives_same new (tt {0}))
 
-  placed_same : (block : Block) → S (placed block) (placed block)
-  placed_same block = record { alike = λ at ms same. placed_by (nat_le (cells_alive at.memory + length block.cells) most_cells) block at ms same }
+  fill_same : (m : DataModel) (block : ℕ) (cells : List ShapeCell) (cs : List Content) → S (fill m block cells cs) (fill m block cells cs)
+  fill_same m block [] cs = gives_same new (tt {0})
+  fill_same m block (cell ∷ cells) [] = gives_same new (tt {0})
+  fill_same m block (cell ∷ cells) (c ∷ cs) = then_same new _ _ _ _ (put_same m block cell.offset cell.ty c) (λ _. fill_same m block cells cs)
 
-  statics_same : (k : ℕ) (its : List Static) → S (start_statics k its) (start_statics k its)
-  statics_same k [] = gives_same new (tt {0})
-  statics_same k (it ∷ its) = then_same new _ _ _ _ (then_same new _ _ _ _ (placed_same (block_of_static it)) (λ n. bound_same new (StaticObject k) n)) (λ _. statics_same (suc k) its)
+  static_same : (m : DataModel) (k : ℕ) (it : Static) → S (start_static m k it) (start_static m k it)
+  static_same m k it = then_same new _ _ _ _ (created_same new it.block.shape true) (λ block. then_same new _ _ _ _ (fill_same m block it.block.shape.cells it.cells) (λ _. bound_same new (StaticObject k) block))
+
+  statics_same : (m : DataModel) (k : ℕ) (its : List Static) → S (start_statics m k its) (start_statics m k its)
+  statics_same m k [] = gives_same new (tt {0})
+  statics_same m k (it ∷ its) = then_same new _ _ _ _ (static_same m k it) (λ _. statics_same m (suc k) its)
+
+  seal_statics_same : (k : ℕ) (its : List Static) → S (seal_statics k its) (seal_statics k its)
+  seal_statics_same k [] = gives_same new (tt {0})
+  seal_statics_same k (it ∷ its) = then_same new _ _ _ _ (if_same new it.writable (gives (tt {0})) (seals (StaticObject k)) (gives (tt {0})) (seals (StaticObject k)) (gives_same new (tt {0})) (seals_same new (StaticObject k))) (λ _. seal_statics_same (suc k) its)
 
   blocks_same : (its : List BlockIn) → S (start_blocks its) (start_blocks its)
   blocks_same [] = gives_same new []
-  blocks_same (it ∷ its) = then_same new _ _ _ _ (placed_same (new_block it.shape true true)) (λ block. then_same new _ _ _ _ (blocks_same its) (λ roots. gives_same new (record { name = it.name; block = block } ∷ roots)))
+  blocks_same (it ∷ its) = then_same new _ _ _ _ (created_same new it.shape true) (λ block. then_same new _ _ _ _ (blocks_same its) (λ roots. gives_same new (record { name = it.name; block = block; cells = it.shape.cells } ∷ roots)))
 
   start_parameters_same : (k : ℕ) (shapes : List Shape) → S (start_parameters k shapes) (start_parameters k shapes)
   start_parameters_same k [] = gives_same new (tt {0})
   start_parameters_same k (shape ∷ shapes) = then_same new _ _ _ _ (begins_same new (Parameter k) shape true) (λ _. start_parameters_same (suc k) shapes)
 
-  started_same : (statics : List Static) (names : List (List ℕ)) (shapes : List Shape) (input : Input) → S (started statics names shapes input) (started statics names shapes input)
-  started_same statics names shapes input = then_same new _ _ _ _ (statics_same 0 statics) (λ _. then_same new _ _ _ _ (blocks_same input.blocks) (λ roots. then_same new _ _ _ _ (start_parameters_same 0 shapes) (λ _. record { alike = λ at ms same. (refl, (refl, same)) })))
+  put_there_same : (m : DataModel) (block offset : ℕ) (ty : Option CellType) (c : Content) → S (put_if_there m block offset ty c) (put_if_there m block offset ty c)
+  put_there_same m block offset None c = gives_same new (tt {0})
+  put_there_same m block offset (Some ty) c = put_same m block offset ty c
+
+  put_in_same : (m : DataModel) (root : Option Root) (offset : ℕ) (c : Content) → S (put_in m root offset c) (put_in m root offset c)
+  put_in_same m None offset c = gives_same new (tt {0})
+  put_in_same m (Some root) offset c = put_there_same m root.block offset (type_at offset root.cells) c
+
+  set_one_same : (m : DataModel) (roots : List Root) (it : CellSet) → S (set_one m roots it) (set_one m roots it)
+  set_one_same m roots (cellset.Number p z) = put_in_same m (root_among roots p.root) p.offset (content.Number z)
+  set_one_same m roots (cellset.Point p target) = put_in_same m (root_among roots p.root) p.offset (content.Address (point_named roots target))
+
+  set_all_same : (m : DataModel) (roots : List Root) (its : List CellSet) → S (set_all m roots its) (set_all m roots its)
+  set_all_same m roots [] = gives_same new (tt {0})
+  set_all_same m roots (it ∷ its) = then_same new _ _ _ _ (set_one_same m roots it) (λ _. set_all_same m roots its)
+
+  sets_same : (m : DataModel) (statics : List Static) (names : List (List ℕ)) (shapes : List Shape) (its : List CellSet) (roots : List Root) → S (sets m statics names shapes its roots) (sets m statics names shapes its roots)
+  sets_same m statics names shapes its roots = record { alike = λ at ms same. (set_all_same m (parameter_roots at.scope 0 names shapes (roots ++ static_roots 0 statics)) its).alike at ms same }
+
+  started_same : (m : DataModel) (statics : List Static) (names : List (List ℕ)) (shapes : List Shape) (input : Input) → S (started m statics names shapes input) (started m statics names shapes input)
+  started_same m statics names shapes input = then_same new _ _ _ _ (statics_same m 0 statics) (λ _. then_same new _ _ _ _ (blocks_same input.blocks) (λ roots. then_same new _ _ _ _ (start_parameters_same 0 shapes) (λ _. then_same new _ _ _ _ (sets_same m statics names shapes input.cells roots) (λ _. seal_statics_same 0 statics))))
 
   begun_alike : (f : Function) (body : Items) (node : ℕ) (input : Input) → S (begun P f input) (begun Q (record f { node = node; body = body }) input)
   begun_alike f body node input =
-      subst (λ names. S (begun P f input) (started (initials Q os) names (shapes_of Q f.parameters) input)) (names_same f.parameters)
-      (subst (λ statics. S (begun P f input) (started statics (map (name_of_object P) f.parameters) (shapes_of Q f.parameters) input)) (initials_same P.objects os objects_same)
-      (subst (λ shapes. S (begun P f input) (started (initials P P.objects) (map (name_of_object P) f.parameters) shapes input)) (shapes_same f.parameters) (started_same (initials P P.objects) (map (name_of_object P) f.parameters) (shapes_of P f.parameters) input)))
+      subst (λ names. S (begun P f input) (started P.model (initials Q os) names (shapes_of Q f.parameters) input)) (names_same f.parameters)
+      (subst (λ statics. S (begun P f input) (started P.model statics (map (name_of_object P) f.parameters) (shapes_of Q f.parameters) input)) (initials_same P.objects os objects_same)
+      (subst (λ shapes. S (begun P f input) (started P.model (initials P P.objects) (map (name_of_object P) f.parameters) shapes input)) (shapes_same f.parameters) (started_same P.model (initials P P.objects) (map (name_of_object P) f.parameters) (shapes_of P f.parameters) input)))
 
   over_alike : (m n : Answer Flow) → Alike new m n → AreAlike new (over_by m) (over_by n)
   over_alike (Gives x at1) (Gives y at2) h = record { end = refl; memory = ap (λ at. at.memory) (sym h.1.0); ticks = ap (λ at. at.ticks) (sym h.1.0); stubs = ap (λ at. at.stubs) (sym h.1.0); marks = h.1.1 }

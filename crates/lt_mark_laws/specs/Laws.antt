@@ -1,8 +1,10 @@
 -- That marks change nothing.
-use Rattle.std.specs.Prelude.{◌≡◌, ℕ, ℤ, Bool, true, false, not, if◌then◌else◌, List, [], ◌∷◌, Option, Some, None}
+use Rattle.std.specs.Prelude.{◌≡◌, ℕ, ℤ, Bool, true, false, not, ◌&&◌, if◌then◌else◌, List, [], ◌∷◌, Option, Some, None}
 use Rattle.std.specs.Ordering.{int_eq}
 use Rattle.lt_model.specs.declared.operator.Op.TheVariants as O
+use Rattle.lt_model.specs.declared.scalar.DataModel.{DataModel}
 use Rattle.lt_model.specs.declared.scalar.Scalar.{Scalar}
+use Rattle.lt_model.specs.Operators.{is_value}
 use Rattle.lt_tree.specs.Typing.Types.{CType}
 use Rattle.lt_model.specs.declared.input.Input.{Input}
 use Rattle.lt_model.specs.State.{Made}
@@ -64,12 +66,14 @@ TruthsAreTheSame =
 abbrev pub number_at : Around → Value → At → Option ℤ
 number_at here v at = quietly (eval (tracking false here) wanted v >>= (λ x. number_in x.value)) at
 
-abbrev pub differ : Option ℤ → Option ℤ → Bool
-differ (Some m) (Some n) = not (int_eq m n)
-differ m n = false
+-- whether there are two numbers, both values of a type, that differ
+abbrev pub differ : DataModel → Scalar → Option ℤ → Option ℤ → Bool
+differ model s (Some m) (Some n) = (is_value model s m && is_value model s n) && not (int_eq m n)
+differ model s m n = false
 
--- A predicate that two pure integer expressions differ, as those of mutants, is true exactly where both have values and these differ.
+-- A predicate that two pure integer expressions differ, as those of mutants, is true exactly where both have values of
+-- the type in which they are compared and these differ. What isn't one of that type stops a comparison.
 abbrev pub DifferencesAreExact : Type 0
 DifferencesAreExact =
     (here : Around) (t : CType) (s : Scalar) (v w : Value) (at : At) → is_pure v ≡ true → is_pure w ≡ true
-    → is_quietly_true here (e.Arithmetic t O.Ne s v w) at ≡ differ (number_at here v at) (number_at here w at)
+    → is_quietly_true here (e.Arithmetic t O.Ne s v w) at ≡ differ here.program.model s (number_at here v at) (number_at here w at)

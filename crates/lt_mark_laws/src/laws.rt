@@ -22,7 +22,8 @@ pub fn programs_are_themselves()
     ensures { ProgramsAreThemselves }
 {}
 
-/// A predicate that two pure integer expressions differ is true exactly where both have values and these differ.
+/// A predicate that two pure integer expressions differ is true exactly where both have values of the type in which
+/// they are compared and these differ.
 pub fn differences_are_exact()
     ensures { DifferencesAreExact }
 {}
