@@ -1,7 +1,8 @@
 -- The worked examples of sizes and of a code compute.
-use Rattle.std.proofs.Common.{◌≡◌, ℕ, zero, suc, ◌+◌, ◌<◌, ◌≤◌, List, [], ◌∷◌, Option, Some, None, inr, refl, sym, ap, subst, arith}
+use Rattle.std.proofs.Common.{◌≡◌, ℕ, zero, suc, ◌+◌, ◌<◌, ◌≤◌, Bool, true, false, ◌||◌, List, [], ◌∷◌, Option, Some, None, inr, refl, sym, ap, subst, arith}
 use Rattle.std.specs.Prelude.{slice_get}
 use Rattle.lt_ir.specs.declared.node.Node.{Node}
+use Rattle.lt_ir.specs.Edges.{is_tick_at, TurnByTicks}
 use Rattle.lt_code.specs.Bodies.{HasCode}
 use Rattle.lt_code.specs.Bounds.{successors, callee, HasEdge, HasCall, IsBounded}
 use Rattle.lt_code.specs.Sizes.{size_of}
@@ -136,6 +137,23 @@ stands =
       gives_none = refl;
     }
 
+or_true : (b : Bool) → (b || true) ≡ true
+or_true true = refl
+or_true false = refl
+
+-- the one edge back leads to the tick of the loop's test
+turns_of : (from to : ℕ) → HasEdge s.code from to → to ≤ from → (is_tick_at s.code from || is_tick_at s.code to) ≡ true
+turns_of from to edge back =
+    subst (λ j. (is_tick_at s.code from || is_tick_at s.code j) ≡ true) (sym ((edge_is_good from to edge).1 back)) (or_true (is_tick_at s.code from))
+
+first_of : {A : Type 0} (a b : A) → slice_get (a ∷ []) 0 ≡ Some b → a ≡ b
+first_of a b is = cc
+
+turns : TurnByTicks (s.code ∷ [])
+turns zero from to code is edge back =
+    subst (λ it. (is_tick_at it from || is_tick_at it to) ≡ true) (first_of s.code code is) (turns_of from to (subst (λ it. HasEdge it from to) (sym (first_of s.code code is)) edge) back)
+turns (suc f) from to code is edge back = absurd (cc)
+
 -- ---- the code without registers
 
 leads_on : (from to : ℕ) → HasEdge s.short from to → from < to
@@ -163,6 +181,11 @@ short_bounded = record {
   };
 }
 
+short_turns : TurnByTicks (s.short ∷ [])
+short_turns zero from to code is edge back =
+    absurd (omega (arith, leads_on from to (subst (λ it. HasEdge it from to) (sym (first_of s.short code is)) edge), back))
+short_turns (suc f) from to code is edge back = absurd (cc)
+
 short_stands : HasCode s.program [] [] s.empty s.short
 short_stands = record {
   name = refl;
@@ -182,4 +205,4 @@ short_stands = record {
 
 pub worked_out : s.CodesAreWorkedOut
 worked_out =
-    (record { stands = stands; bounded = bounded; in_range = refl }, record { stands = short_stands; bounded = short_bounded; in_range = refl })
+    (record { stands = stands; bounded = bounded; in_range = refl; turns = turns }, record { stands = short_stands; bounded = short_bounded; in_range = refl; turns = short_turns })

@@ -1,6 +1,6 @@
 -- How large lowered code is, which program points its edges lead to, and which of its nodes are calls: what a lowering
 -- is to keep, beside that its graph has the program's code.
-use Rattle.std.specs.Prelude.{◌≡◌, ℕ, ◌+◌, ◌*◌, ◌≤◌, ◌<◌, List, [], ◌∷◌, ◌++◌, map, length, Option, Some, None}
+use Rattle.std.specs.Prelude.{◌≡◌, ℕ, ◌+◌, ◌*◌, ◌≤◌, ◌<◌, List, length, Option, Some, None}
 use Rattle.std.specs.Prelude.{slice_get}
 use Rattle.lt_tree.specs.Tree.{External}
 use Rattle.lt_tree.specs.Typing.Entities.{Function}
@@ -10,44 +10,13 @@ use Rattle.lt_ir.specs.declared.code.Code.{Code}
 use Rattle.lt_ir.specs.declared.graph.Graph.{Graph}
 use Rattle.lt_ir.specs.declared.node.Node.{Node}
 use Rattle.lt_ir.specs.declared.node.Node.TheVariants as node
+pub use Rattle.lt_ir.specs.Edges.{successors, HasEdge}
 use Rattle.lt_code.specs.Sizes.{Size, definitions, size_of}
-
--- the nodes that may follow a node: a branch's true side first; the cases of a switch in their order, then its default
-abbrev pub successors : Node → List ℕ
-successors (node.Constant to c is_kept next) = next ∷ []
-successors (node.Address to v next) = next ∷ []
-successors (node.Load to from ty tracks next) = next ∷ []
-successors (node.Store place value gives ty tracks next) = next ∷ []
-successors (node.Move to pointer by next) = next ∷ []
-successors (node.Subtract to left right size next) = next ∷ []
-successors (node.Apply to left right op ty next) = next ∷ []
-successors (node.Convert to from how next) = next ∷ []
-successors (node.Compare to left right op next) = next ∷ []
-successors (node.Copy place from shape tracks next) = next ∷ []
-successors (node.Create k is_zeroed next) = next ∷ []
-successors (node.Seal v next) = next ∷ []
-successors (node.End v next) = next ∷ []
-successors (node.Branch test on off) = on ∷ off ∷ []
-successors (node.Switch value arms table default) = map (λ arm. arm.next) arms ++ default ∷ []
-successors (node.Call function to first count next) = next ∷ []
-successors (node.Stub stub to next) = next ∷ []
-successors node.Stop = []
-successors (node.Return value) = []
-successors (node.Tick next) = next ∷ []
-successors (node.Mark label predicate bound next) = next ∷ []
-successors (node.Clash parts next) = next ∷ []
 
 -- the function that a node calls
 abbrev pub callee : Node → Option ℕ
 callee (node.Call function to first count next) = Some function
 callee n = None
-
--- an edge of a code
-pub record HasEdge (code : Code) (from to : ℕ) : Type 0 where
-  pub node : Node
-  pub stands : slice_get code.nodes from ≡ Some node
-  pub which : ℕ
-  pub leads : slice_get (successors node) which ≡ Some to
 
 -- a call of a function in a code
 pub record HasCall (code : Code) (at function : ℕ) : Type 0 where

@@ -22,6 +22,7 @@ use Rattle.lt_ir.specs.declared.node.Given.TheVariants as given
 use Rattle.lt_ir.specs.declared.node.Node.{Node}
 use Rattle.lt_ir.specs.declared.node.Node.TheVariants as node
 use Rattle.lt_ir.specs.declared.pure.How.TheVariants as how
+use Rattle.lt_ir.specs.Edges.{TurnByTicks}
 use Rattle.lt_ir.specs.Ranges.{is_code, counts_in}
 use Rattle.lt_code.specs.Sizes.{size_of}
 use Rattle.lt_code.specs.Bodies.{HasCode, parameters_of}
@@ -207,11 +208,12 @@ short = record {
   start = 0;
 }
 
--- a code of a function is within its bounds, and its numbers are in range
+-- a code of a function is within its bounds, its numbers are in range, and each turn of a loop spends a tick
 pub record IsWorkedOut (definition : c.External) (f : Function) (it : Code) : Type 0 where
   pub stands : HasCode program [] [] f it
   pub bounded : IsBounded (size_of program.functions definition f) it
   pub in_range : is_code (counts_in 1 0 0 0 it) it ≡ true
+  pub turns : TurnByTicks (it ∷ [])
 
 abbrev pub CodesAreWorkedOut : Type 0
 CodesAreWorkedOut = IsWorkedOut counting_definition counting code × IsWorkedOut empty_definition empty short

@@ -5,6 +5,7 @@ pub mod Pure
 pub mod PureView
 pub mod Ranges
 pub mod Tables
+pub mod Edges
 pub mod Graph
 pub mod Outcomes
 pub mod Membership
