@@ -1,6 +1,6 @@
 -- What bounds the code of a function: the nodes of its definition in the unit. What is below marks, as their predicates
 -- and bound expressions, is left out.
-use Rattle.std.specs.Prelude.{ℕ, zero, suc, ◌+◌, max, List, [], ◌∷◌, ◌++◌, length, map, Bool, true, false, Option}
+use Rattle.std.specs.Prelude.{ℕ, zero, suc, ◌+◌, max, List, [], ◌∷◌, ◌++◌, length, map, Bool, true, false}
 use Rattle.std.specs.List.{flat_map, filter, fold, sum_by}
 use Rattle.std.specs.Option.{option_to_list}
 use Rattle.lt_tree.specs.Tree as c
