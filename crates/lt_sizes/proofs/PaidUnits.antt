@@ -178,4 +178,4 @@ frugal_graphs_are_bounded program graph frugal is k definition f code h i j =
     (λ all. of_externals all program.unit [] (at_start program.model (filter_map defined_in program.unit)) refl) is in
     let paid = at_place k definition f aligned h i in
     let cost = frugal k f code i j in
-    record { nodes = omega arith; registers = omega arith; calls = among.among_more code paid.among cost.calls; start = cost.start; entered_once = cost.entered_once; heads = heads_within code cost.heads paid.loops }
+    record { nodes = omega arith; registers = omega arith; calls = among.no_more_calls code _ (λ g. le_trans (cost.calls g) (among.times_within g paid.among)); start = cost.start; entered_once = cost.entered_once; heads = heads_within code cost.heads paid.loops }

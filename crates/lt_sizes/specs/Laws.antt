@@ -1,17 +1,27 @@
 -- The bounds of lowered code hold where it costs no more than its typed tree allows.
-use Rattle.std.specs.Prelude.{◌≡◌, ℕ, ◌≤◌, ◌<◌, length, Some, slice_get}
+use Rattle.std.specs.Prelude.{◌≡◌, ℕ, ◌==◌, ◌≤◌, ◌<◌, List, length, Some, slice_get}
+use Rattle.std.specs.List.{flat_map, count_by}
+use Rattle.std.specs.Option.{option_to_list}
 use Rattle.lt_tree.specs.Typing.Entities.{Function}
 use Rattle.lt_tree.specs.Typing.Programs.{Program}
 use Rattle.lt_ir.specs.declared.code.Code.{Code}
 use Rattle.lt_ir.specs.declared.graph.Graph.{Graph}
-use Rattle.lt_code.specs.Bounds.{AreCallsAmong, HasEdge, HasLoopHeads, IsBoundedBy}
+use Rattle.lt_ir.specs.declared.node.Node.{Node}
+use Rattle.lt_code.specs.Bounds.{callee, HasEdge, HasLoopHeads, IsBoundedBy}
 use Rattle.lt_sizes.specs.Costs.{Cost, of_function}
 
--- The code of a function costs so much at most. Its start has the least number, and no edge leads to it.
+-- the functions that are called in a list of nodes, one for each call
+abbrev pub callees : List Node → List ℕ
+callees nodes = flat_map (λ n. option_to_list (callee n)) nodes
+
+abbrev pub times : ℕ → List ℕ → ℕ
+times f calls = count_by (λ g. g == f) calls
+
+-- The code of a function costs so much at most: no function is called more often. Its start has the least number, and no edge leads to it.
 pub record CostsAtMost (cost : Cost) (code : Code) : Type 0 where
   pub nodes : length code.nodes ≤ cost.nodes
   pub registers : code.registers ≤ cost.registers
-  pub calls : AreCallsAmong code cost.calls
+  pub calls : (f : ℕ) → times f (callees code.nodes) ≤ times f cost.calls
   pub start : code.start ≡ 0
   pub entered_once : (from to : ℕ) → HasEdge code from to → code.start < to
   pub heads : HasLoopHeads code cost.loops
