@@ -10,6 +10,7 @@ use Rattle.lt_tree.specs.Typing.Types.{CType}
 use Rattle.lt_tree.specs.Typing.TypedTree as e
 use Rattle.lt_tree.specs.Typing.TypedTree.{Value, Values, Place, Bindings, Side, on_left, on_right, Conversion}
 use Rattle.lt_tree.specs.Typing.TypedTree.{no_values, a_value}
+pub use Rattle.lt_tree.specs.Typing.TypedTree.{names_bound}
 use Rattle.lt_tree.specs.Typing.Programs.{Program}
 use Rattle.lt_ir.specs.declared.variable.Variable.{Variable}
 use Rattle.lt_ir.specs.declared.pure.How.TheVariants as how
@@ -93,11 +94,7 @@ abbrev mutual
 abbrev pub pure_in : Names → Value → Pure
 pure_in n v = if is_pure v then raw_of n wanted v else p.Never
 
--- of the names that a mark binds, and of their expressions
-abbrev pub names_bound : Bindings → List (List ℕ)
-names_bound e.no_bindings = []
-names_bound (e.a_binding name v rest) = name ∷ names_bound rest
-
+-- of the expressions that a mark binds to names
 abbrev pub pures_bound : Names → Bindings → List Pure
 pures_bound n e.no_bindings = []
 pures_bound n (e.a_binding name v rest) = pure_in n v ∷ pures_bound n rest

@@ -1,8 +1,7 @@
 -- The type ids of a program that is the same, whatever types are added later, have rows.
 use Rattle.std.proofs.Common.{◌≡◌, sym, subst, ◌∙◌, pos, List, [], ◌∷◌, length, map, Option, None, arith}
-use Rattle.std.specs.List.{All, flat_map}
+use Rattle.std.specs.List.{flat_map}
 use Rattle.std.specs.Global.{Box}
-use Rattle.std.proofs.lemmas.List.Elements.{All-from_recursion}
 use Rattle.lt_tree.specs.declared.typed.types.TypeId.{TypeId}
 use Rattle.lt_tree.specs.declared.typed.tree.Value.{Value}
 use Rattle.lt_tree.specs.declared.typed.tree.Place.{Place}
@@ -26,7 +25,6 @@ use Rattle.lt_tree.specs.declared.typed.entity.Entity.TheVariants as stands
 use Rattle.lt_tree.specs.declared.typed.entity.Bound.{Bound}
 use Rattle.lt_tree.specs.declared.typed.entity.Entity.{Entity}
 use Rattle.lt_tree.specs.declared.typed.entity.Fact.{Fact}
-use Rattle.lt_tree.specs.declared.typed.program.Program.{Program}
 use Rattle.lt_tree.specs.Typing.Types.{CType, Void}
 use Rattle.lt_tree.specs.Typing.TypedTree as e
 use Rattle.lt_tree.specs.Typing.TypedTree.{type_of, type_at}
@@ -35,9 +33,8 @@ use Rattle.lt_tree.specs.Typing.TypeRows.{type_in, types_of_rows}
 use Rattle.lt_tree.specs.Typing.ValueView.{value_of, values_of, place_of, marks_of, mark_of, bindings_of}
 use Rattle.lt_tree.specs.Typing.StatementView.{start_part_of, start_of, local_of, for_start_of, maybe_of, statement_of, items_of, item_before, cases_of, items_in}
 use Rattle.lt_tree.specs.Typing.EntityView.{member_of, struct_of, object_of, declared_of, function_of, entity_of, bound_of, fact_of}
-use Rattle.lt_tree.specs.Typing.ProgramView.{program_with}
-use Rattle.lt_tree.specs.Typing.TypeIds.{ids_in_value, ids_in_values, ids_in_place, ids_in_marks, ids_in_mark, ids_in_bindings, ids_in_part, ids_in_start, ids_in_local, ids_in_for_start, ids_in_maybe, ids_in_statement, ids_in_items, ids_in_item, ids_in_cases, ids_in_member, ids_in_struct, ids_in_object, ids_in_declared, ids_in_function, ids_in_entity, ids_in_bound, ids_in_fact, IsBelow}
-use Rattle.lt_tree.specs.Typing.ProgramRanges.{ids_in_program}
+use Rattle.lt_tree.specs.Typing.ProgramView.{program_at}
+use Rattle.lt_tree.specs.Typing.TypeIds.{ids_in_value, ids_in_values, ids_in_place, ids_in_marks, ids_in_mark, ids_in_bindings, ids_in_part, ids_in_start, ids_in_local, ids_in_for_start, ids_in_maybe, ids_in_statement, ids_in_items, ids_in_item, ids_in_cases, ids_in_member, ids_in_struct, ids_in_object, ids_in_declared, ids_in_function, ids_in_entity, ids_in_bound, ids_in_fact, ids_among, AreBelow}
 use Rattle.lt_ranges.specs.Laws.{LastingIdsHaveRows}
 use Rattle.lt_ranges.proofs.LastingIds.{Same, part, length_of_rows, Below, none, first, both, head_or, tail_of, in_list, in_option}
 
@@ -398,19 +395,16 @@ in_types (id ∷ ids) h = first id (part (head_or Void) h) (in_types ids (part t
 
 -- ---- programs
 
-pub in_program : {types : List CType} (p : Program) → Same types (λ ts. program_with ts p) → Below types (ids_in_program p)
-in_program p h =
-    let structs = in_list struct_of ids_in_struct in_struct p.structs.items (part (λ q. q.structs) h) in
-    let objects = in_list object_of ids_in_object in_object p.objects.items (part (λ q. q.objects) h) in
-    let declared = in_list declared_of ids_in_declared in_declared p.declared.items (part (λ q. q.declared) h) in
-    let functions = in_list function_of ids_in_function in_function p.functions.items (part (λ q. q.functions) h) in
-    let file = in_list bound_of ids_in_bound in_bound p.file.names.items (part (λ q. q.file.names) h) in
-    let types = in_types p.types.items (part (λ q. q.types) h) in
-    let facts = in_list fact_of ids_in_fact in_fact p.facts.items (part (λ q. q.facts) h) in
-    both _ (both _ (both _ (both _ (both _ (both _ structs objects) declared) functions) file) types) facts
-
 pub lasting_ids_have_rows : LastingIdsHaveRows
-lasting_ids_have_rows p lasts =
-    let below = in_program {types = types_of_rows p.table.items} p (record { is = λ t u c d. lasts t c ∙ sym (lasts u d) }) in
-    let as_many : length (types_of_rows p.table.items) ≡ length p.table.items = omega (arith, length_of_rows [] p.table.items) in
-    subst (λ n. All (IsBelow n) (ids_in_program p)) as_many (All-from_recursion (IsBelow (length (types_of_rows p.table.items))) (ids_in_program p) below.each)
+lasting_ids_have_rows unit model structs objects declared functions file types labels facts table lasts =
+    let same : Same (types_of_rows table) (λ at. program_at at unit model structs objects declared functions file types labels facts) = record { is = λ t u c d. lasts t c ∙ sym (lasts u d) } in
+    let in_structs = in_list struct_of ids_in_struct in_struct structs (part (λ q. q.structs) same) in
+    let in_objects = in_list object_of ids_in_object in_object objects (part (λ q. q.objects) same) in
+    let in_names = in_list declared_of ids_in_declared in_declared declared (part (λ q. q.declared) same) in
+    let in_bodies = in_list function_of ids_in_function in_function functions (part (λ q. q.functions) same) in
+    let in_file = in_list bound_of ids_in_bound in_bound file.names.items (part (λ q. q.file.names) same) in
+    let in_listed = in_types types (part (λ q. q.types) same) in
+    let in_facts = in_list fact_of ids_in_fact in_fact facts (part (λ q. q.facts) same) in
+    let below = both _ (both _ (both _ (both _ (both _ (both _ in_structs in_objects) in_names) in_bodies) in_file) in_listed) in_facts in
+    let as_many : length (types_of_rows table) ≡ length table = omega (arith, length_of_rows [] table) in
+    subst (λ n. AreBelow n (ids_among structs objects declared functions file types facts)) as_many below.each

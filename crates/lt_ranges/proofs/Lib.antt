@@ -6,12 +6,13 @@ mod Lookups
 mod OperationsInRange
 mod BinaryInRange
 mod Growth
+mod NewLabels
 mod Nodes
 mod Specified
 mod RangedExpressions
 mod FillingsInRange
 mod RangedDeclarations
-mod RangedUnits
+pub mod RangedUnits
 pub mod LastingIds
 pub mod IdsHaveRows
 mod Samples

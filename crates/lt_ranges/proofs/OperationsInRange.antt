@@ -20,9 +20,9 @@ use Rattle.lt_tree.specs.Typing.Expressions.{Form, a_value, a_place, a_designato
 use Rattle.lt_tree.specs.Typing.Operands.{points_to}
 use Rattle.lt_tree.specs.Typing.Operations.{lives_from_the_start, object_named, function_named, judge_name, judge_constant, promoted_value, judge_plus, judge_minus, judge_complement, judge_not, judge_address_of, target_in, constant_address, judge_dereference, stepped, judge_step, judge_size, part_of, judge_part, member_in, judge_member, judge_arrow, pointer_among, other_among, element_size, object_size, judge_index, promoted_argument, passed, is_right_number, all_fit, takes_or_gives, can_be_run, judge_function, judge_call, judge_cast}
 use Rattle.lt_tree.specs.Typing.NodeEnds.{judge_unary, text_at}
-use Rattle.lt_tree.specs.Typing.Ranges.{Counts, in_type, in_types, in_values, in_option, count_values, takes}
-use Rattle.lt_ranges.proofs.References.{Has, none, one, cons, head, both, front, back}
-use Rattle.lt_ranges.proofs.Steps.{Sound, counts_of}
+use Rattle.lt_tree.specs.Typing.Ranges.{Lists, to_object, to_call, in_type, in_types, in_values, in_option, count_values, takes}
+use Rattle.lt_ranges.proofs.References.{Has, none, one, cons, head, both, front, back, some, call_there}
+use Rattle.lt_ranges.proofs.Steps.{Sound, lists_of}
 use Rattle.lt_ranges.proofs.TypesInRange.{T, C, unqualified_in, qualified_in, converted_in, applied_in, negated_in, moved_by_in, constant_address_in, constancy_to_in}
 use Rattle.lt_ranges.proofs.TypesInRange as types
 use Rattle.lt_ranges.proofs.TypedInRange.{V, FormIn, TypedIn, own_type_in, value_in_range, place_in_range, valued_in, varies_in, placed_typed, constant_in, nothing_in, cast_in, converted_value_in}
@@ -30,61 +30,61 @@ use Rattle.lt_ranges.proofs.Lookups.{EntityIn, PlacedIn, object_type_in, declare
 
 -- ---- names and constants
 
-object_named_in : (known : Known) (n : ℕ) (is_register : Bool) → Sound known → n < length known.objects → TypedIn (counts_of known) (object_named known n is_register)
+object_named_in : (known : Known) (n : ℕ) (is_register : Bool) → Sound known → n < length known.objects → TypedIn (lists_of known) (object_named known n is_register)
 object_named_in known n is_register s h =
-    let c : C (counts_of known) (if lives_from_the_start known n then address n 0 else varying) =
-    elim (lives_from_the_start known n) as (λ v. C (counts_of known) (if v then address n 0 else varying)) [ true ↦ one h | false ↦ none ] in
+    let c : C (lists_of known) (if lives_from_the_start known n then address n 0 else varying) =
+    elim (lives_from_the_start known n) as (λ v. C (lists_of known) (if v then address n 0 else varying)) [ true ↦ one h | false ↦ none ] in
     record { form = both (object_type_in known n s) (one h); constancy = c; erased = c }
 
 -- the type with which a function is declared
-function_form : {b : Counts} (name : List ℕ) (found : Option CType) → declared_among name b.declared ≡ found → Has b (in_option in_type found) → (t : CType) → found ≡ Some t
+function_form : {b : Lists} (name : List ℕ) (found : Option CType) → declared_among name b.declared ≡ found → Has b (in_option in_type found) → (t : CType) → found ≡ Some t
     → FormIn b (a_designator name (unwrap_or found Void))
 function_form name None is h t some = absurd cc
 function_form name (Some u) is h t some = (is, h)
 
-function_named_in : (known : Known) (name : List ℕ) → Sound known → (t : CType) → declared_among name known.declared ≡ Some t → TypedIn (counts_of known) (function_named known name)
+function_named_in : (known : Known) (name : List ℕ) → Sound known → (t : CType) → declared_among name known.declared ≡ Some t → TypedIn (lists_of known) (function_named known name)
 function_named_in known name s t some = record {
   form = function_form name (declared_among name known.declared) refl (declared_among_in name known.declared s.declared) t some;
   constancy = none;
   erased = none;
 }
 
-pub name_in : (role : Use) (name : List ℕ) (found : Option Entity) (known : Known) → Sound known → EntityIn name (counts_of known) found → TypedIn (counts_of known) (judge_name role name found known).typed
+pub name_in : (role : Use) (name : List ℕ) (found : Option Entity) (known : Known) → Sound known → EntityIn name (lists_of known) found → TypedIn (lists_of known) (judge_name role name found known).typed
 unfolding judge_name
 name_in role name None known s h = nothing_in
 name_in role name (Some (a_typedef t)) known s h = nothing_in
 name_in role name (Some (an_object n is_register)) known s h = object_named_in known n is_register s (head h)
-name_in role name (Some a_function) known s h = function_named_in known name s (head h).0 (head h).1
+name_in role name (Some a_function) known s h = let it = some (declared_among name known.declared) (head h) in function_named_in known name s it.0 it.1
 name_in role name (Some (an_enumerator z)) known s h = constant_in S.Int z
 
-pub constant_in_range : {b : Counts} (c : Option TypedConstant) → TypedIn b (judge_constant c).typed
+pub constant_in_range : {b : Lists} (c : Option TypedConstant) → TypedIn b (judge_constant c).typed
 unfolding judge_constant
 constant_in_range None = nothing_in
 constant_in_range (Some c) = constant_in c.type c.value
 
-pub text_in_range : {b : Counts} (known : Known) (bytes : List ℕ) (n : ℕ) → n < b.objects → TypedIn b (text_at known bytes n).typed
+pub text_in_range : {b : Lists} (known : Known) (bytes : List ℕ) (n : ℕ) → n < length b.objects → TypedIn b (text_at known bytes n).typed
 unfolding text_at
-text_in_range known bytes n h = placed_typed (one h) (one h)
+text_in_range known bytes n h = placed_typed (one {r = to_object n} h) (one {r = to_object n} h)
 
 -- ---- operators on one operand
 
-promoted_in : {b : Counts} (m : DataModel) {x : Typed} → TypedIn b x → V b (promoted_value m x)
+promoted_in : {b : Lists} (m : DataModel) {x : Typed} → TypedIn b x → V b (promoted_value m x)
 promoted_in m {x} h = converted_value_in (Num (promoted m (scalar_in x))) (value_in x) none (value_in_range h)
 
-plus_in : {b : Counts} {x : Typed} (known : Known) → TypedIn b x → TypedIn b (judge_plus x known).typed
+plus_in : {b : Lists} {x : Typed} (known : Known) → TypedIn b x → TypedIn b (judge_plus x known).typed
 unfolding judge_plus
 plus_in {b} {x} known h =
     valued_in (cast_in (Num (promoted known.model (scalar_in x))) (value_in x) none (value_in_range h))
     (converted_in known.model (promoted known.model (scalar_in x)) x.constancy) (converted_in known.model (promoted known.model (scalar_in x)) x.erased)
 
-minus_in : {b : Counts} {x : Typed} (known : Known) → TypedIn b x → TypedIn b (judge_minus x known).typed
+minus_in : {b : Lists} {x : Typed} (known : Known) → TypedIn b x → TypedIn b (judge_minus x known).typed
 unfolding judge_minus
 minus_in {b} {x} known h =
     valued_in (promoted_in known.model h)
     (applied_in known.model O.Sub (promoted known.model (scalar_in x)) (number (pos 0)) (converted known.model (promoted known.model (scalar_in x)) x.constancy))
     (applied_in known.model O.Sub (promoted known.model (scalar_in x)) (number (pos 0)) (converted known.model (promoted known.model (scalar_in x)) x.erased))
 
-complement_in : {b : Counts} {x : Typed} (known : Known) → TypedIn b x → TypedIn b (judge_complement x known).typed
+complement_in : {b : Lists} {x : Typed} (known : Known) → TypedIn b x → TypedIn b (judge_complement x known).typed
 unfolding judge_complement
 complement_in {b} {x} known h =
     let s = promoted known.model (scalar_in x) in
@@ -92,27 +92,27 @@ complement_in {b} {x} known h =
     (applied_in known.model O.Xor s (converted known.model s (number (pos 0 -ℤ pos 1))) (converted known.model s x.constancy))
     (applied_in known.model O.Xor s (converted known.model s (number (pos 0 -ℤ pos 1))) (converted known.model s x.erased))
 
-not_in : {b : Counts} {x : Typed} → TypedIn b x → TypedIn b (judge_not x).typed
+not_in : {b : Lists} {x : Typed} → TypedIn b x → TypedIn b (judge_not x).typed
 unfolding judge_not
 not_in {b} {x} h = valued_in (value_in_range h) (negated_in x.constancy) (negated_in x.erased)
 
-address_of_in : {b : Counts} {x : Typed} → TypedIn b x → TypedIn b (judge_address_of x).typed
+address_of_in : {b : Lists} {x : Typed} → TypedIn b x → TypedIn b (judge_address_of x).typed
 unfolding judge_address_of
 address_of_in {b} {x} h = valued_in (both (own_type_in h) (place_in_range h)) h.constancy h.constancy
 
-pub target_type_in : {b : Counts} {x : Typed} → TypedIn b x → T b (target_in x)
+pub target_type_in : {b : Lists} {x : Typed} → TypedIn b x → T b (target_in x)
 target_type_in {b} {x} h = types.target_in (own_type x) (Num S.Int) (own_type_in h) none
 
-pointed_in : {b : Counts} {x : Typed} → TypedIn b x → TypedIn b (placed (e.Pointed (target_in x) (value_in x)) (constant_address x.constancy))
+pointed_in : {b : Lists} {x : Typed} → TypedIn b x → TypedIn b (placed (e.Pointed (target_in x) (value_in x)) (constant_address x.constancy))
 pointed_in {b} {x} h = placed_typed (both (target_type_in h) (value_in_range h)) (constant_address_in x.constancy h.constancy)
 
-dereference_in : {b : Counts} {x : Typed} (known : Known) → TypedIn b x → TypedIn b (judge_dereference x known).typed
+dereference_in : {b : Lists} {x : Typed} (known : Known) → TypedIn b x → TypedIn b (judge_dereference x known).typed
 unfolding judge_dereference
 dereference_in {b} {x} known h =
     elim (points_to (is_complete known.structs) (own_type x)) as (λ v. TypedIn b (if v then judgement [] (placed (e.Pointed (target_in x) (value_in x)) (constant_address x.constancy)) else judgement (bad_address ∷ []) nothing).typed)
     [ true ↦ pointed_in h | false ↦ nothing_in ]
 
-pub unary_in : {b : Counts} {x : Typed} (op : UnaryOp) (known : Known) → TypedIn b x → TypedIn b (judge_unary op x known).typed
+pub unary_in : {b : Lists} {x : Typed} (op : UnaryOp) (known : Known) → TypedIn b x → TypedIn b (judge_unary op x known).typed
 unary_in unary.AddressOf known h = address_of_in h
 unary_in unary.Dereference known h = dereference_in known h
 unary_in unary.Plus known h = plus_in known h
@@ -120,25 +120,25 @@ unary_in unary.Minus known h = minus_in known h
 unary_in unary.Complement known h = complement_in known h
 unary_in unary.Not known h = not_in h
 
-own_unqualified_in : {b : Counts} {x : Typed} → TypedIn b x → T b (unqualified (own_type x))
+own_unqualified_in : {b : Lists} {x : Typed} → TypedIn b x → T b (unqualified (own_type x))
 own_unqualified_in {b} {x} h = unqualified_in (own_type x) (own_type_in h)
 
-stepped_in : {b : Counts} {x : Typed} (known : Known) (gives : When) (op : Op) → TypedIn b x → V b (stepped known gives op x)
+stepped_in : {b : Lists} {x : Typed} (known : Known) (gives : When) (op : Op) → TypedIn b x → V b (stepped known gives op x)
 stepped_in {b} {x} known gives op h =
     elim (is_pointer (own_type x)) as (λ v. V b (if v then e.StepPointer (unqualified (own_type x)) gives op (size_of known.model known.structs (target_in x)) (place_in x) else e.Step (unqualified (own_type x)) gives op (promoted known.model (scalar_in x)) (place_in x)))
     [ true ↦ both (own_unqualified_in h) (place_in_range h) | false ↦ both (own_unqualified_in h) (place_in_range h) ]
 
-pub step_in : {b : Counts} {x : Typed} (gives : When) (op : Op) (known : Known) → TypedIn b x → TypedIn b (judge_step gives op x known).typed
+pub step_in : {b : Lists} {x : Typed} (gives : When) (op : Op) (known : Known) → TypedIn b x → TypedIn b (judge_step gives op x known).typed
 unfolding judge_step
 step_in gives op known h = varies_in (stepped_in known gives op h)
 
-pub size_in : {b : Counts} (t : CType) (known : Known) → TypedIn b (judge_size t known).typed
+pub size_in : {b : Lists} (t : CType) (known : Known) → TypedIn b (judge_size t known).typed
 unfolding judge_size
 size_in t known = constant_in (size_type known.model) (pos (size_of known.model known.structs t))
 
 -- ---- members and elements
 
-part_in : {b : Counts} {x : Typed} (member : Placed) → TypedIn b x → T b member.type → TypedIn b (part_of x member)
+part_in : {b : Lists} {x : Typed} (member : Placed) → TypedIn b x → T b member.type → TypedIn b (part_of x member)
 part_in {b} {x} member h i = record {
   form = both (qualified_in (qualifiers_of (own_type x)) member.type i) (place_in_range h);
   constancy = behind x.constancy h.constancy;
@@ -149,26 +149,26 @@ part_in {b} {x} member h i = record {
     behind (address object offset) h = h
     behind _ h = none
 
-judged_part_in : {b : Counts} {x : Typed} (found : Option Placed) → TypedIn b x → PlacedIn b found → TypedIn b (judge_part x found).typed
+judged_part_in : {b : Lists} {x : Typed} (found : Option Placed) → TypedIn b x → PlacedIn b found → TypedIn b (judge_part x found).typed
 judged_part_in None h i = nothing_in
 judged_part_in (Some member) h i = part_in member h i
 
-pub member_typed_in : {x : Typed} (name : List ℕ) (known : Known) → Sound known → TypedIn (counts_of known) x → TypedIn (counts_of known) (judge_member x name known).typed
+pub member_typed_in : {x : Typed} (name : List ℕ) (known : Known) → Sound known → TypedIn (lists_of known) x → TypedIn (lists_of known) (judge_member x name known).typed
 unfolding judge_member
 member_typed_in {x} name known s h = judged_part_in (member_in known (own_type x) name) h (member_in_range known (own_type x) name s)
 
-arrow_member_in : (target : Option CType) (name : List ℕ) (known : Known) → Sound known → PlacedIn (counts_of known) (option_and_then (λ t. member_in known t name) target)
+arrow_member_in : (target : Option CType) (name : List ℕ) (known : Known) → Sound known → PlacedIn (lists_of known) (option_and_then (λ t. member_in known t name) target)
 arrow_member_in None name known s = none
 arrow_member_in (Some t) name known s = member_in_range known t name s
 
-pub arrow_in : {x : Typed} (name : List ℕ) (known : Known) → Sound known → TypedIn (counts_of known) x → TypedIn (counts_of known) (judge_arrow x name known).typed
+pub arrow_in : {x : Typed} (name : List ℕ) (known : Known) → Sound known → TypedIn (lists_of known) x → TypedIn (lists_of known) (judge_arrow x name known).typed
 unfolding judge_arrow
 arrow_in {x} name known s h = judged_part_in (option_and_then (λ t. member_in known t name) (target_of (own_type x))) (pointed_in h) (arrow_member_in (target_of (own_type x)) name known s)
 
-pub pointer_among_in : {b : Counts} {x y : Typed} → TypedIn b x → TypedIn b y → TypedIn b (pointer_among x y)
+pub pointer_among_in : {b : Lists} {x y : Typed} → TypedIn b x → TypedIn b y → TypedIn b (pointer_among x y)
 pointer_among_in {b} {x} {y} h i = elim (is_pointer (own_type x)) as (λ v. TypedIn b (if v then x else y)) [ true ↦ h | false ↦ i ]
 
-pub index_in : {b : Counts} {x y : Typed} (known : Known) → TypedIn b x → TypedIn b y → TypedIn b (judge_index x y known).typed
+pub index_in : {b : Lists} {x y : Typed} (known : Known) → TypedIn b x → TypedIn b y → TypedIn b (judge_index x y known).typed
 unfolding judge_index
 index_in {b} {x} {y} known h i =
     let pointer : TypedIn b (pointer_among x y) = pointer_among_in h i in
@@ -178,14 +178,14 @@ index_in {b} {x} {y} known h i =
 
 -- ---- calls
 
-abbrev pub AllTyped : Counts → List Typed → Type 0
+abbrev pub AllTyped : Lists → List Typed → Type 0
 AllTyped b [] = Unit {0}
 AllTyped b (x ∷ xs) = TypedIn b x × AllTyped b xs
 
-argument_in : {b : Counts} {x : Typed} (m : DataModel) → TypedIn b x → V b (promoted_argument m x)
+argument_in : {b : Lists} {x : Typed} (m : DataModel) → TypedIn b x → V b (promoted_argument m x)
 argument_in {b} {x} m h = elim (is_integer (own_type x)) as (λ v. V b (if v then promoted_value m x else value_in x)) [ true ↦ promoted_in m h | false ↦ value_in_range h ]
 
-passed_in : {b : Counts} (m : DataModel) (xs : List Typed) (ts : CTypes) → AllTyped b xs → Has b (in_types ts) → Has b (in_values (passed m xs ts))
+passed_in : {b : Lists} (m : DataModel) (xs : List Typed) (ts : CTypes) → AllTyped b xs → Has b (in_types ts) → Has b (in_values (passed m xs ts))
 passed_in m [] ts h i = none
 passed_in m (x ∷ xs) no_types h i = both (argument_in m h.0) (passed_in m xs no_types h.1 none)
 passed_in m (x ∷ xs) (a_type t ts) h i =
@@ -205,7 +205,7 @@ back_empty : (xs ys : List Rule) → xs ++ ys ≡ [] → ys ≡ []
 back_empty [] ys h = h
 back_empty (x ∷ xs) ys h = absurd cc
 
-unless_empty : (test : Bool) (rule : Rule) → unless test rule ≡ [] → test ≡ true
+pub unless_empty : (test : Bool) (rule : Rule) → unless test rule ≡ [] → test ≡ true
 unless_empty true rule h = refl
 unless_empty false rule h = absurd cc
 
@@ -213,7 +213,7 @@ right_number : (floating functions fitting : List Rule) (test : Bool) (last : Li
 right_number floating functions fitting test last h =
     unless_empty test bad_call (back_empty (floating ++ functions ++ fitting) (unless test bad_call) (front_empty (floating ++ functions ++ fitting ++ unless test bad_call) last h))
 
-function_in : {b : Counts} (known : Known) (name : List ℕ) (t : CType) (xs : List Typed) → declared_among name b.declared ≡ Some t → T b t → AllTyped b xs
+function_in : {b : Lists} (known : Known) (name : List ℕ) (t : CType) (xs : List Typed) → declared_among name b.declared ≡ Some t → T b t → AllTyped b xs
     → (judge_function known name t xs).faults ≡ [] → TypedIn b (judge_function known name t xs).typed
 unfolding judge_function
 function_in {b} known name (Function result ts dots) xs is h i clean =
@@ -221,7 +221,7 @@ function_in {b} known name (Function result ts dots) xs is h i clean =
     right_number (broken_if floating_type (takes_or_gives has_floating result ts)) (broken_if function_as_value (takes_or_gives has_pointer_to_function result ts))
     (unless (all_fit xs ts) bad_assignment) (is_right_number (length xs) ts dots) (unless (can_be_run known name result) no_body) clean in
     let counted : takes (count_values (passed known.model xs ts)) (Function result ts dots) ≡ true = ap (λ n. is_right_number n ts dots) (as_many known.model xs ts) ∙ right in
-    varies_in (both (unqualified_in result (front {rs = in_type result} _ h)) (cons (Function result ts dots, is, counted) (passed_in known.model xs ts i (back (in_type result) h))))
+    varies_in (both (unqualified_in result (front {rs = in_type result} _ h)) (cons {r = to_call name (count_values (passed known.model xs ts))} (call_there b name (count_values (passed known.model xs ts)) is counted) (passed_in known.model xs ts i (back (in_type result) h))))
 function_in known name _ xs is h i clean = nothing_in
 
 -- a call of what is written so
@@ -230,18 +230,18 @@ call_of xs known (a_value v) = judgement (bad_call ∷ []) nothing
 call_of xs known (a_place place) = judgement (bad_call ∷ []) nothing
 call_of xs known (a_designator name t) = judge_function known name t xs
 
-call_form_in : {b : Counts} (form : Form) (xs : List Typed) (known : Known) → FormIn b form → AllTyped b xs → (call_of xs known form).faults ≡ [] → TypedIn b (call_of xs known form).typed
+call_form_in : {b : Lists} (form : Form) (xs : List Typed) (known : Known) → FormIn b form → AllTyped b xs → (call_of xs known form).faults ≡ [] → TypedIn b (call_of xs known form).typed
 call_form_in (a_value v) xs known h i clean = nothing_in
 call_form_in (a_place place) xs known h i clean = nothing_in
 call_form_in (a_designator name t) xs known h i clean = function_in known name t xs h.0 h.1 i clean
 
-pub call_in : {b : Counts} {f : Typed} (xs : List Typed) (known : Known) → TypedIn b f → AllTyped b xs → (judge_call f xs known).faults ≡ [] → TypedIn b (judge_call f xs known).typed
+pub call_in : {b : Lists} {f : Typed} (xs : List Typed) (known : Known) → TypedIn b f → AllTyped b xs → (judge_call f xs known).faults ≡ [] → TypedIn b (judge_call f xs known).typed
 unfolding judge_call
 call_in {b} {f} xs known h i clean = call_form_in f.form xs known h.form i clean
 
 -- ---- casts
 
-pub cast_typed_in : {b : Counts} {x : Typed} (t : CType) (known : Known) → T b t → TypedIn b x → TypedIn b (judge_cast t x known).typed
+pub cast_typed_in : {b : Lists} {x : Typed} (t : CType) (known : Known) → T b t → TypedIn b x → TypedIn b (judge_cast t x known).typed
 unfolding judge_cast
 cast_typed_in {b} {x} t known h i =
     valued_in (cast_in (unqualified t) (value_in x) (unqualified_in t h) (value_in_range i))

@@ -36,6 +36,6 @@ pub mod ConstancyView
 pub mod ValueView
 pub mod StatementView
 pub mod EntityView
-pub mod ProgramView
 pub mod TypeIds
-pub mod ProgramRanges
+pub mod MemoryRanges
+pub mod ProgramView

@@ -1,13 +1,15 @@
 -- That each number and each name by which a typed program refers to something is that of something that is there.
-use Rattle.std.specs.Prelude.{◌≡◌, ℕ, zero, suc, ◌<◌, Bool, true, false, List, [], ◌∷◌, ◌++◌, length, map, Option, Some, None}
-use Rattle.std.specs.List.{All, Contains, flat_map}
+use Rattle.std.specs.Prelude.{◌≡◌, ℕ, zero, suc, ◌<◌, ◌==◌, Bool, true, false, if◌then◌else◌, List, [], ◌∷◌, ◌++◌, length, map, slice_get, Option, Some, None, is_some}
+use Rattle.std.specs.List.{AllByRecursion, AllByRecursion-prop, flat_map}
+use Rattle.std.specs.Coded.{Coded-set, coded_bool, coded_ℕ, coded_list, coded_option, le_prop}
 use Rattle.lt_tree.specs.Typing.Types.{CType, CTypes, no_types, a_type, Void, Num, Pointer, Array, Struct, Function as FunctionType, Floating, Qualified}
-use Rattle.lt_tree.specs.Typing.Extents.{Member, StructType}
+use Rattle.lt_tree.specs.Typing.Extents.{Member, StructType, Structs}
 use Rattle.lt_tree.specs.Typing.Constants.{Constancy, address}
 use Rattle.lt_tree.specs.Typing.TypedTree as e
-use Rattle.lt_tree.specs.Typing.TypedTree.{Value, Values, Place, Marks, Mark, Bindings, StartPart, stored, fixed, letters, Start, Local, ForStart, Statement, Items, Cases}
+use Rattle.lt_tree.specs.Typing.TypedTree.{Value, Values, Place, Marks, Mark, Bindings, names_bound, StartPart, stored, fixed, letters, Start, Local, ForStart, Statement, Items, Cases}
+use Rattle.lt_tree.specs.Typing.Operands.{holds}
 use Rattle.lt_tree.specs.Typing.Operations.{is_right_number}
-use Rattle.lt_tree.specs.Typing.Entities.{Object, Declared, declared_among, Function, Entity, an_object, a_function, a_typedef, an_enumerator, Bound, Tagged, a_struct, an_enum, Tag, Frame, Fact}
+use Rattle.lt_tree.specs.Typing.Entities.{Life, automatic, parameter, Object, Declared, declared_among, Function, Entity, an_object, a_function, a_typedef, an_enumerator, Bound, Tagged, a_struct, an_enum, Tag, Frame, Label, Fact}
 use Rattle.lt_tree.specs.Typing.Programs.{Program}
 
 -- ---- what a program refers to
@@ -15,31 +17,59 @@ use Rattle.lt_tree.specs.Typing.Programs.{Program}
 -- a number or a name that stands in a program
 pub data Reference : Type 0 where
   to_object : (number : ℕ) → Reference
+  -- an object that is created where its declaration is reached
+  to_local : (number : ℕ) → Reference
+  -- an object that is a parameter of a function with a body
+  to_parameter : (number : ℕ) → Reference
   to_struct : (number : ℕ) → Reference
   to_function : (name : List ℕ) → Reference
   -- with so many arguments
   to_call : (name : List ℕ) (arguments : ℕ) → Reference
-  to_label : (id : ℕ) → Reference
+  -- a mark that binds these names
+  to_label : (id : ℕ) (bound : List (List ℕ)) → Reference
 
--- how many objects and structs there are, the functions that are declared, and the ids of labels
-pub record Counts : Type 0 where
-  pub objects : ℕ
-  pub structs : ℕ
+-- what there is: objects and structs by their places, functions that are declared by their names, and labels by their ids
+pub record Lists : Type 0 where
+  pub objects : List Object
+  pub structs : Structs
   pub declared : List Declared
-  pub ids : List ℕ
+  pub labels : List Label
+
+abbrev pub is_automatic : Life → Bool
+is_automatic automatic = true
+is_automatic _ = false
+
+abbrev pub is_parameter : Life → Bool
+is_parameter parameter = true
+is_parameter _ = false
+
+-- there is an object with this number, and it lives so
+abbrev pub lives : (Life → Bool) → List Object → ℕ → Bool
+lives so objects n = holds (λ object. so object.life) (slice_get objects n)
 
 -- a function of this type takes so many arguments
 abbrev pub takes : ℕ → CType → Bool
 takes n (FunctionType result ts dots) = is_right_number n ts dots
 takes n _ = false
 
+-- the names that the label of this id binds
+abbrev pub bound_by : ℕ → List Label → Option (List (List ℕ))
+bound_by id [] = None
+bound_by id (label ∷ labels) = if label.id == id then Some label.bound else bound_by id labels
+
 -- it refers to something that is there
-abbrev pub IsThere : Counts → Reference → Type 0
-IsThere counts (to_object n) = n < counts.objects
-IsThere counts (to_struct k) = k < counts.structs
-IsThere counts (to_function name) = (t : CType) × (declared_among name counts.declared ≡ Some t)
-IsThere counts (to_call name n) = (t : CType) × (declared_among name counts.declared ≡ Some t) × (takes n t ≡ true)
-IsThere counts (to_label id) = Contains counts.ids id
+abbrev pub IsThere : Lists → Reference → Type 0
+IsThere lists (to_object n) = n < length lists.objects
+IsThere lists (to_local n) = lives is_automatic lists.objects n ≡ true
+IsThere lists (to_parameter n) = lives is_parameter lists.objects n ≡ true
+IsThere lists (to_struct k) = k < length lists.structs
+IsThere lists (to_function name) = is_some (declared_among name lists.declared) ≡ true
+IsThere lists (to_call name n) = holds (takes n) (declared_among name lists.declared) ≡ true
+IsThere lists (to_label id names) = bound_by id lists.labels ≡ Some names
+
+-- all of these do
+abbrev pub AreThere : Lists → List Reference → Type 0
+AreThere lists references = AllByRecursion (IsThere lists) references
 
 -- ---- types and constants
 
@@ -93,8 +123,8 @@ abbrev mutual
   in_value (e.Call t name vs) = in_type t ++ (to_call name (count_values vs) ∷ in_values vs)
   in_value (e.Comma t vs) = in_type t ++ in_values vs
   in_value (e.Marked t ms v) = in_type t ++ (in_marks ms ++ in_value v)
-  in_value (e.Decide t v when_true when_false) = in_type t ++ (to_label when_true ∷ to_label when_false ∷ in_value v)
-  in_value (e.After t v id) = in_type t ++ (to_label id ∷ in_value v)
+  in_value (e.Decide t v when_true when_false) = in_type t ++ (to_label when_true [] ∷ to_label when_false [] ∷ in_value v)
+  in_value (e.After t v id) = in_type t ++ (to_label id [] ∷ in_value v)
 
   pub in_values : Values → List Reference
   in_values e.no_values = []
@@ -112,7 +142,7 @@ abbrev mutual
   in_marks (e.a_mark m ms) = in_mark m ++ in_marks ms
 
   pub in_mark : Mark → List Reference
-  in_mark (e.mark predicate id bound) = to_label id ∷ in_value predicate ++ in_bindings bound
+  in_mark (e.mark predicate id bound) = to_label id (names_bound bound) ∷ in_value predicate ++ in_bindings bound
 
   pub in_bindings : Bindings → List Reference
   in_bindings e.no_bindings = []
@@ -134,7 +164,7 @@ in_option of None = []
 in_option of (Some a) = of a
 
 abbrev pub in_local : Local → List Reference
-in_local local = to_object local.object ∷ in_option in_start local.start
+in_local local = to_local local.object ∷ in_option in_start local.start
 
 -- ---- statements
 
@@ -183,7 +213,7 @@ abbrev pub in_declared : Declared → List Reference
 in_declared f = in_type f.type
 
 abbrev pub in_function : Function → List Reference
-in_function f = to_function f.name ∷ in_type f.type ++ (map to_object f.parameters ++ in_items f.body)
+in_function f = to_function f.name ∷ in_type f.type ++ (map to_parameter f.parameters ++ in_items f.body)
 
 abbrev pub in_entity : List ℕ → Entity → List Reference
 in_entity name (an_object n is_register) = to_object n ∷ []
@@ -209,26 +239,41 @@ in_fact fact = in_type fact.type ++ (in_constancy fact.constancy ++ in_option (�
 
 -- ---- programs
 
-abbrev pub counts_in : Program → Counts
-counts_in program = record {
-  objects = length program.objects;
-  structs = length program.structs;
-  declared = program.declared;
-  ids = map (λ label. label.id) program.labels;
-}
+-- all that stands in these parts of a program
+abbrev pub references_among : Structs → List Object → List Declared → List Function → Frame → List CType → List Fact → List Reference
+references_among structs objects declared functions file types facts =
+    flat_map in_struct structs
+    ++ flat_map in_object objects
+    ++ flat_map in_declared declared
+    ++ flat_map in_function functions
+    ++ in_frame file
+    ++ flat_map in_type types
+    ++ flat_map in_fact facts
 
--- all that stands in a program
+abbrev pub lists_among : Structs → List Object → List Declared → List Label → Lists
+lists_among structs objects declared labels = record { objects = objects; structs = structs; declared = declared; labels = labels }
+
 abbrev pub references : Program → List Reference
-references program =
-    flat_map in_struct program.structs
-    ++ flat_map in_object program.objects
-    ++ flat_map in_declared program.declared
-    ++ flat_map in_function program.functions
-    ++ in_frame program.file
-    ++ flat_map in_type program.types
-    ++ flat_map in_fact program.facts
+references program = references_among program.structs program.objects program.declared program.functions program.file program.types program.facts
 
--- Each object, struct, function and label to which something in the program refers is there, and each call has as many arguments as the function
--- takes.
+abbrev pub lists_in : Program → Lists
+lists_in program = lists_among program.structs program.objects program.declared program.labels
+
+-- Each object, struct, function and label to which something in the program refers is there: a local object that is created is automatic,
+-- a parameter one of a function with a body, a call has as many arguments as the function takes, and a mark's label binds the mark's names.
 abbrev pub IsInRange : Program → Type 0
-IsInRange program = All (IsThere (counts_in program)) (references program)
+IsInRange program = AreThere (lists_in program) (references program)
+
+-- ---- these are facts
+
+IsThere-prop : (lists : Lists) (r : Reference) → IsProp (IsThere lists r)
+IsThere-prop lists (to_object n) = le_prop
+IsThere-prop lists (to_local n) = Coded-set coded_bool _ _
+IsThere-prop lists (to_parameter n) = Coded-set coded_bool _ _
+IsThere-prop lists (to_struct k) = le_prop
+IsThere-prop lists (to_function name) = Coded-set coded_bool _ _
+IsThere-prop lists (to_call name n) = Coded-set coded_bool _ _
+IsThere-prop lists (to_label id names) = Coded-set (coded_option (coded_list (coded_list coded_ℕ))) _ _
+
+pub AreThere-prop : (lists : Lists) (rs : List Reference) → IsProp (AreThere lists rs)
+AreThere-prop lists rs = AllByRecursion-prop (IsThere lists) (IsThere-prop lists) rs

@@ -1,6 +1,7 @@
 -- The types to which a typed program refers that lies in memory, by their ids, and that each has a row in the program's table.
-use Rattle.std.specs.Prelude.{◌≡◌, ℕ, ◌<◌, List, [], ◌∷◌, ◌++◌, length, Option, None, Some, slice_get}
-use Rattle.std.specs.List.{All, flat_map}
+use Rattle.std.specs.Prelude.{◌≡◌, ℕ, ◌<◌, List, [], ◌∷◌, ◌++◌, Option, None, Some, slice_get}
+use Rattle.std.specs.List.{AllByRecursion, AllByRecursion-prop, flat_map}
+use Rattle.std.specs.Coded.{Π_prop, le_prop}
 use Rattle.std.specs.Global.{Box}
 use Rattle.lt_tree.specs.declared.typed.types.TypeId.{TypeId}
 use Rattle.lt_tree.specs.declared.typed.types.TypeRow.{TypeRow}
@@ -195,7 +196,18 @@ ids_among structs objects declared functions file types facts =
 abbrev pub IsBelow : ℕ → TypeId → Type 0
 IsBelow n id = id.place < n
 
--- Each of these ids has a row, and what a row is made of has rows before it.
-pub record HaveRows (ids : List TypeId) (rows : List TypeRow) : Type 0 where
-  pub there : All (IsBelow (length rows)) ids
-  pub before : (k : ℕ) (r : TypeRow) → slice_get rows k ≡ Some r → All (IsBelow k) (ids_in_row r)
+-- of each of these ids
+abbrev pub AreBelow : ℕ → List TypeId → Type 0
+AreBelow n ids = AllByRecursion (IsBelow n) ids
+
+-- what a row is made of has rows before it
+abbrev pub AreMadeOfRowsBefore : List TypeRow → Type 0
+AreMadeOfRowsBefore rows = (k : ℕ) (r : TypeRow) → slice_get rows k ≡ Some r → AreBelow k (ids_in_row r)
+
+-- ---- these are facts
+
+pub AreBelow-prop : (n : ℕ) (ids : List TypeId) → IsProp (AreBelow n ids)
+AreBelow-prop n ids = AllByRecursion-prop (IsBelow n) (λ id. le_prop) ids
+
+pub AreMadeOfRowsBefore-prop : (rows : List TypeRow) → IsProp (AreMadeOfRowsBefore rows)
+AreMadeOfRowsBefore-prop rows = Π_prop (λ k. Π_prop (λ r. Π_prop (λ is. AreBelow-prop k (ids_in_row r))))

@@ -1,6 +1,6 @@
 -- Typed trees, over which the meaning of C recurses: each expression has its type, names are resolved, conversions are written out, and places
 -- (lvalues) are a type of their own. What an implementation may not choose stays as it was written: operands stand in the order of the text.
-use Rattle.std.specs.Prelude.{ℕ, ℤ, Bool, List, Option}
+use Rattle.std.specs.Prelude.{ℕ, ℤ, Bool, List, [], ◌∷◌, Option}
 use Rattle.lt_model.specs.declared.operator.Op.{Op}
 use Rattle.lt_model.specs.declared.scalar.Scalar.{Scalar}
 use Rattle.lt_tree.specs.declared.expression.LogicalOp.{LogicalOp}
@@ -207,3 +207,8 @@ type_at (Held t v) = t
 abbrev pub with_value : Values → Value → Values
 with_value no_values v = a_value v no_values
 with_value (a_value first rest) v = a_value first (with_value rest v)
+
+-- the names that a mark binds
+abbrev pub names_bound : Bindings → List (List ℕ)
+names_bound no_bindings = []
+names_bound (a_binding name value rest) = name ∷ names_bound rest
