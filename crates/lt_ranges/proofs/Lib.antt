@@ -15,4 +15,5 @@ mod RangedDeclarations
 pub mod RangedUnits
 pub mod LastingIds
 pub mod IdsHaveRows
+pub mod WhatIsThere
 mod Samples
