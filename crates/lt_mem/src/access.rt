@@ -1,12 +1,12 @@
 //! Loads and stores.
 
-ghost use Rattle.std.specs.Prelude.{◌≡◌, IfOk};
-ghost use Rattle.lt_model.specs.Memory.{load, store, usable, offset_of};
+ghost use Rattle.std.specs.Prelude.{◌≡◌, ◌+◌, IfOk, Some, is_ok};
+ghost use Rattle.lt_model.specs.Memory.{load, store, usable, offset_of, object_at, held_at, then_result};
 ghost use Rattle.lt_mem.specs.Cells.{IsFit};
 ghost use Rattle.lt_mem.specs.Calls.{IsOfType, Becomes, with_blocks};
 
 use crate::memory::Memory;
-use crate::object::as_type;
+use crate::object::{as_type, behind};
 use lt_model::{Address, CellType, Content, Ub};
 
 // The offset of an address; null has none.
@@ -62,5 +62,25 @@ impl Memory {
             return Err(Ub::Ended);
         };
         object.store(self.model, u128::from(at.offset), ty, value)
+    }
+
+    /// Whether an object is alive.
+    pub fn is_alive(&self, block: u32) -> bool
+        ensures { result ≡ is_ok (object_at self.now.blocks (Some (record { block = block; offset = 0 }))) }
+    {
+        self.object(Some(Address { block, offset: 0 })).is_ok()
+    }
+
+    /// Whether an access of a type meets a cell so many bytes behind an address.
+    pub fn meets(&self, at: Option<Address>, offset: u64, ty: CellType) -> bool
+        ensures { result ≡ is_ok (then_result (object_at self.now.blocks at) (λ block. held_at block.cells (offset_of at + offset) ty)) }
+    {
+        let Some(from) = at else {
+            return false;
+        };
+        match self.object(at) {
+            Ok(object) => object.held(behind(from.offset, offset), ty).is_ok(),
+            Err(_) => false,
+        }
     }
 }
