@@ -1,0 +1,11 @@
+// The parts of a machine for graphs: footprints, registers and the objects of variables. Contracts see of each what the meaning of graphs
+// has in its place, which stands in `lt_ir`.
+#![tactic(auto)]
+
+mod footprint;
+mod registers;
+mod scope;
+
+pub use footprint::{CellName, Footprint};
+pub use registers::Registers;
+pub use scope::{HeldBound, Scope};
