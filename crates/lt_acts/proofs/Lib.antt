@@ -1,0 +1,7 @@
+pub mod Answering
+pub mod ShiftCounts
+pub mod CopiedStructs
+pub mod Halving
+pub mod Loads
+pub mod Noted
+pub mod Stores

@@ -1,0 +1,22 @@
+// What single nodes of graphs do to the registers of a call and to memory; `specs/Acts.antt` says what each act promises.
+#![tactic(auto)]
+
+mod arms;
+mod branching;
+mod computing;
+mod copying;
+mod flow;
+mod loading;
+mod operands;
+mod results;
+mod storing;
+mod tracking;
+
+pub use arms::follow;
+pub use branching::{number, truth};
+pub use copying::copy;
+pub use flow::{Fault, Stop};
+pub use loading::load;
+pub use results::{apply_to, compare, constant, move_address, subtract};
+pub use storing::store;
+pub use tracking::part;
