@@ -1,0 +1,11 @@
+pub mod Lines
+pub mod Written
+pub mod TypeNames
+pub mod Naming
+pub mod SpecificationLines
+pub mod Conditions
+pub mod Meaning
+pub mod Specifications
+pub mod Suites
+pub mod Meeting
+pub mod Examples
