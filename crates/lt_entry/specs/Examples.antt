@@ -1,12 +1,16 @@
 -- Worked examples: programs, the files of their entries, and what these say.
-use Rattle.std.specs.Prelude.{◌≡◌, ℕ, pos, negsuc, Bool, true, false, List, [], ◌∷◌, ◌++◌, map, codes, replicate, Option, Some, None}
+use Rattle.std.specs.Prelude.{◌≡◌, ℕ, ℤ, pos, negsuc, Bool, true, false, List, [], ◌∷◌, ◌++◌, map, codes, replicate, Option, Some, None}
+use Rattle.std.specs.List.{list_all}
+use Rattle.lt_model.specs.declared.input.Spec.{Spec}
 use Rattle.lt_model.specs.declared.cell.CellType.TheVariants as cell
 use Rattle.lt_model.specs.declared.cell.Shape.{Shape}
+use Rattle.lt_model.specs.declared.input.CellSet.{CellSet}
 use Rattle.lt_model.specs.declared.input.CellSet.TheVariants as cellset
 use Rattle.lt_model.specs.declared.input.FreeCell.{FreeCell}
 use Rattle.lt_model.specs.declared.input.Input.{Input}
 use Rattle.lt_model.specs.declared.input.Place.{Place}
 use Rattle.lt_model.specs.declared.input.StartValue.TheVariants as start
+use Rattle.lt_model.specs.declared.input.StubSet.{StubSet}
 use Rattle.lt_model.specs.declared.input.Want.{Want}
 use Rattle.lt_model.specs.declared.input.Want.TheVariants as want
 use Rattle.lt_model.specs.declared.scalar.DataModel.TheVariants.{Lp64}
@@ -24,7 +28,7 @@ use Rattle.lt_entry.specs.SpecificationLines.{Line, line_words, entry_line, bloc
 use Rattle.lt_entry.specs.Conditions.{scope_behind, fits, needs_free}
 use Rattle.lt_entry.specs.Specifications.{Specification, specification_in, IsSpecification}
 use Rattle.lt_entry.specs.Suites.{SuiteLine, test_line, set_line, point_line, values_line, suite_scope, fits_suite, IsSuite}
-use Rattle.lt_entry.specs.Meeting.{Meets}
+use Rattle.lt_entry.specs.Meeting.{Meets, sets_free_cell, is_wanted, held, keeps_range, needs_hold}
 
 -- ---- how lines are written short
 
@@ -294,6 +298,47 @@ SuitesAreJudged =
     × (suite_verdicts (test_line (codes "a") ∷ []) (set_line (alone (codes "x")) (some 2147483648) ∷ set_line (alone (codes "x")) (minus 2147483648) ∷ set_line (alone (codes "x")) (some 1) ∷ []) ≡ false ∷ true ∷ false ∷ [])
     × (suite_verdicts (test_line (codes "a") ∷ []) (set_line (every (codes "a")) (some 1) ∷ set_line (element (codes "a") 2) (some 1) ∷ point_line (alone (codes "p")) (to_place (element default_block 1)) ∷ point_line (alone (codes "q")) (to_place (element (codes "a") 3)) ∷ []) ≡ false ∷ true ∷ true ∷ false ∷ [])
     × (suite_verdicts (test_line (codes "a") ∷ values_line (codes "g") [] ∷ test_line (codes "b") ∷ []) (values_line (codes "g") (some 1 ∷ minus 1 ∷ []) ∷ values_line (codes "g") [] ∷ values_line (codes "h") [] ∷ []) ≡ true ∷ false ∷ false ∷ [])
+
+-- ---- inputs
+
+-- `range x 1 5`, `points q null`, `stub g 0 1`, `require 2*x <= 10`
+abbrev pub narrow_lines : List Line
+narrow_lines =
+    begin ∷ range_line (alone (codes "x")) (some 1) (some 5) ∷ points_line (alone (codes "q")) (to_null ∷ []) ∷ stub_line (codes "g") (some 0) (some 1)
+    ∷ require_line (record { first = times (some 2) (alone (codes "x")); others = [] }) at_most (some 10) ∷ []
+
+abbrev pub narrow : Spec
+narrow = (specification_in (scope_behind small_program (map (λ it. record { number = 0; words = line_words it }) narrow_lines) 0 narrow_lines) 0 narrow_lines).spec
+
+abbrev pub input_of : List CellSet → List StubSet → Input
+input_of cells stubs = record { blocks = narrow.blocks; cells = cells; stubs = stubs }
+
+abbrev pub x_is : ℤ → CellSet
+x_is z = cellset.Number (at (codes "x") 0) z
+
+abbrev pub q_is : Option Place → CellSet
+q_is target = cellset.Point (at (codes "q") 0) target
+
+abbrev pub values_of_g : List ℤ → StubSet
+values_of_g values = record { name = codes "g"; values = values }
+
+-- whether it sets free cells alone, each cell holds what it may, values are in their ranges, and the requirements hold
+abbrev pub AreMet : Input → List Bool → Type 0
+AreMet input are =
+    list_all (sets_free_cell narrow) input.cells
+    ∷ list_all (λ it. is_wanted it.want (held input it)) narrow.cells
+    ∷ list_all (λ range. list_all (keeps_range range) input.stubs) narrow.stubs
+    ∷ list_all (needs_hold narrow input) narrow.needs
+    ∷ []
+    ≡ are
+
+abbrev pub InputsAreJudged : Type 0
+InputsAreJudged =
+    AreMet (input_of (x_is (pos 5) ∷ []) (values_of_g (pos 0 ∷ pos 1 ∷ []) ∷ [])) (true ∷ true ∷ true ∷ true ∷ [])
+    × AreMet (input_of [] []) (true ∷ false ∷ true ∷ true ∷ [])
+    × AreMet (input_of (x_is (pos 6) ∷ []) (values_of_g (pos 2 ∷ []) ∷ [])) (true ∷ false ∷ false ∷ false ∷ [])
+    × AreMet (input_of (x_is (pos 6) ∷ x_is (pos 1) ∷ q_is (Some (at (codes "a") 4)) ∷ []) []) (true ∷ false ∷ true ∷ true ∷ [])
+    × AreMet (input_of (x_is (pos 1) ∷ q_is None ∷ cellset.Number (at (codes "a") 0) (pos 0) ∷ []) []) (false ∷ true ∷ true ∷ true ∷ [])
 
 -- ---- lines and words
 

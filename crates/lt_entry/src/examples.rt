@@ -13,6 +13,7 @@ ghost use Rattle.lt_entry.specs.Examples.{
   RequirementsAreJudged,
   ObjectsAreFreed,
   SuitesAreJudged,
+  InputsAreJudged,
 };
 
 /// Lines and words of files, and type names.
@@ -41,4 +42,9 @@ pub fn lines_are_judged()
 /// What a cell of an object may hold that a line frees, and what it holds first.
 pub fn objects_are_freed()
     ensures { ObjectsAreFreed }
+{}
+
+/// Inputs that meet a specification, and some that break one thing of it.
+pub fn inputs_are_judged()
+    ensures { InputsAreJudged }
 {}

@@ -4,5 +4,7 @@
 mod examples;
 mod test;
 
-pub use examples::{lines_are_judged, linked_lists_are_built, objects_are_freed, words_are_read};
+pub use examples::{
+    inputs_are_judged, lines_are_judged, linked_lists_are_built, objects_are_freed, words_are_read,
+};
 pub use test::{Suite, Test};
