@@ -3,7 +3,7 @@ use Rattle.std.specs.Prelude.{ℕ, ◌&&◌, Bool, true, not, if◌then◌else�
 use Rattle.std.specs.List.{list_all}
 use Rattle.lt_model.specs.declared.operator.Op.{Op}
 use Rattle.lt_model.specs.declared.operator.Op.TheVariants as op
-use Rattle.lt_entry.specs.Written.{Numeral, numeral_word, is_name, PlaceWord, place_word, is_place, is_single, TargetWord, target_word, is_target}
+use Rattle.lt_entry.specs.Written.{Numeral, numeral_word, is_numeral, is_name, PlaceWord, place_word, is_place, is_single, TargetWord, target_word, is_target}
 
 -- ---- requirements
 
@@ -72,10 +72,19 @@ line_words (stub_line name low high) = codes "stub" ∷ name ∷ numeral_word lo
 line_words (require_line sum relation constant) =
     codes "require" ∷ sum_words sum ++ relation_word relation ∷ numeral_word constant ∷ []
 
--- Its names and places are of their forms. `[*]` doesn't stand in a requirement.
+abbrev pub is_factor : Option Numeral → Bool
+is_factor None = true
+is_factor (Some factor) = is_numeral factor
+
+-- `[*]` doesn't stand in a requirement
+abbrev pub is_addend : Addend → Bool
+is_addend addend = is_factor addend.term.factor && is_place addend.term.place && is_single addend.term.place
+
+-- Its names, places and numbers are of their forms.
 abbrev pub is_in_form : Line → Bool
-is_in_form (block_line name type count) = is_name name
-is_in_form (range_line place low high) = is_place place
+is_in_form (entry_line name) = true
+is_in_form (block_line name type count) = is_name name && is_numeral count
+is_in_form (range_line place low high) = is_place place && is_numeral low && is_numeral high
 is_in_form (points_line place targets) = is_place place && list_all is_target targets
-is_in_form (require_line sum relation constant) = list_all (λ addend. is_place addend.term.place && is_single addend.term.place) (addends sum)
-is_in_form _ = true
+is_in_form (stub_line name low high) = is_numeral low && is_numeral high
+is_in_form (require_line sum relation constant) = list_all is_addend (addends sum) && is_numeral constant

@@ -16,7 +16,7 @@ use Rattle.lt_tree.specs.Typing.Programs.{Program}
 use Rattle.lt_entry.specs.declared.test.Test.{Test}
 use Rattle.lt_entry.specs.declared.test.Suite.{Suite}
 use Rattle.lt_entry.specs.Lines.{Row, rows_of}
-use Rattle.lt_entry.specs.Written.{Numeral, value_of, numeral_word, is_name_byte, PlaceWord, place_word, is_place, is_single, TargetWord, target_word, is_target, is_single_target}
+use Rattle.lt_entry.specs.Written.{Numeral, value_of, numeral_word, is_numeral, is_name_byte, PlaceWord, place_word, is_place, is_single, TargetWord, target_word, is_target, is_single_target}
 use Rattle.lt_entry.specs.Naming.{Scope, parameters_of, Named, named_by, targets_of}
 use Rattle.lt_entry.specs.Conditions.{same_place, each_named, stub_among, stubs_of}
 use Rattle.lt_entry.specs.Specifications.{Specification, words_in}
@@ -39,12 +39,12 @@ suite_words (values_line stub values) = codes "stub" ∷ stub ∷ map numeral_wo
 abbrev pub is_test_name : List ℕ → Bool
 is_test_name name = nat_le 1 (length name) && nat_le (length name) 64 && list_all is_name_byte name
 
--- Its names and places are of their forms, and no place goes to every element.
+-- Its names, places and numbers are of their forms, and no place goes to every element.
 abbrev pub is_suite_form : SuiteLine → Bool
 is_suite_form (test_line name) = is_test_name name
-is_suite_form (set_line place value) = is_place place && is_single place
+is_suite_form (set_line place value) = is_place place && is_single place && is_numeral value
 is_suite_form (point_line place target) = is_place place && is_single place && is_target target && is_single_target target
-is_suite_form (values_line stub values) = true
+is_suite_form (values_line stub values) = list_all is_numeral values
 
 -- ---- conditions
 

@@ -1,5 +1,5 @@
 -- How numbers, names, places and targets are written in the files of an entry.
-use Rattle.std.specs.Prelude.{ℕ, ℤ, pos, neg_ℤ, ◌==◌, ◌&&◌, ◌||◌, Bool, true, false, not, if◌then◌else◌, List, [], ◌∷◌, ◌++◌, codes, decimal, flat_map}
+use Rattle.std.specs.Prelude.{ℕ, ℤ, pos, neg_ℤ, ◌^◌, ◌==◌, ◌&&◌, ◌||◌, nat_lt, Bool, true, false, not, if◌then◌else◌, List, [], ◌∷◌, ◌++◌, codes, decimal, flat_map}
 use Rattle.std.specs.List.{list_all}
 use Rattle.std.specs.Char.{is_ascii_alphanumeric, is_ascii_digit}
 use Rattle.std.specs.Str.{bytes_eq}
@@ -16,6 +16,10 @@ value_of n = if n.is_negative then neg_ℤ (pos n.size) else pos n.size
 
 abbrev pub numeral_word : Numeral → List ℕ
 numeral_word n = if n.is_negative then 45 ∷ decimal n.size else decimal n.size
+
+-- No number of a file is of the size 2 ^ 64 or more: no type has such a value, and nothing is so long.
+abbrev pub is_numeral : Numeral → Bool
+is_numeral n = nat_lt n.size (2 ^ 64)
 
 -- ---- names
 
@@ -60,10 +64,11 @@ abbrev pub place_word : PlaceWord → List ℕ
 place_word place = place.name ++ flat_map step_bytes place.steps
 
 abbrev pub is_step : Step → Bool
+is_step (at_index index) = is_numeral index
+is_step at_each = true
 is_step (at_member name) = is_name name
-is_step _ = true
 
--- its names are of the form of names
+-- its names are of the form of names, and its numbers of that of numbers
 abbrev pub is_place : PlaceWord → Bool
 is_place place = is_object_name place.name && list_all is_step place.steps
 
