@@ -1,2 +1,4 @@
 pub mod Views
 pub mod Reading
+pub mod LineViews
+pub mod ReadingLines

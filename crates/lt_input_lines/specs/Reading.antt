@@ -4,7 +4,7 @@ use Rattle.std.specs.List.{list_all, onto_first}
 use Rattle.std.specs.Str.{bytes_eq}
 use Rattle.std.specs.Str.Parse.{digits_value}
 use Rattle.std.specs.Char.{is_ascii_digit}
-use Rattle.lt_entry.specs.Written.{Numeral, is_name, is_object_name, Step, at_index, at_each, at_member, PlaceWord, TargetWord, to_null, to_place}
+use Rattle.lt_entry.specs.Written.{Numeral, is_name, is_object_name, Step, at_index, at_each, at_member, PlaceWord, is_single, TargetWord, to_null, to_place}
 
 -- ---- numbers
 
@@ -74,3 +74,15 @@ read_place word = place_from (pieces word)
 
 abbrev pub read_target : List ℕ → Option TargetWord
 read_target word = if bytes_eq word (codes "null") then Some to_null else option_map to_place (read_place word)
+
+-- ---- places with one part
+
+abbrev pub if_single : Option PlaceWord → Option PlaceWord
+if_single None = None
+if_single (Some place) = if is_single place then Some place else None
+
+abbrev pub read_single : List ℕ → Option PlaceWord
+read_single word = if_single (read_place word)
+
+abbrev pub read_single_target : List ℕ → Option TargetWord
+read_single_target word = if bytes_eq word (codes "null") then Some to_null else option_map to_place (read_single word)

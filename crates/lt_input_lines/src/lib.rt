@@ -3,6 +3,17 @@
 
 mod number;
 mod place;
+mod row;
+mod specification;
+mod suite;
+mod words;
 
 pub use number::{Numeral, numeral_of};
-pub use place::{PlaceWord, Step, TargetWord, place_of, target_of};
+pub use place::{
+    PlaceWord, Step, TargetWord, place_of, single_place_of, single_target_of, target_of,
+};
+pub use row::{Row, count_of_lines, rows_of};
+pub use specification::{
+    Addend, BlockLine, Line, PointsLine, RangeLine, Relation, RequireLine, StubLine, Term, line_of,
+};
+pub use suite::{PointLine, SetLine, SuiteLine, ValuesLine, suite_line_of};

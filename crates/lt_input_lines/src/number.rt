@@ -5,7 +5,7 @@ ghost use Rattle.lt_input_lines.specs.Views.{numeral_view};
 ghost use Rattle.lt_input_lines.specs.Reading.{starts_well, read_decimal, read_numeral};
 
 /// A number in decimal, with no leading zero and no plus, behind a minus or none. `-0` is 0.
-#[derive(Clone, Copy, PartialEq, Eq, Debug)]
+#[derive(Clone, Copy)]
 pub struct Numeral {
     pub is_negative: bool,
     pub size: u64,

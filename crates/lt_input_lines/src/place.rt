@@ -1,14 +1,14 @@
 ghost use Rattle.std.specs.Prelude.{◌≡◌, ◌||◌, ◌==◌, IfOk, option_map, map, codes};
 ghost use Rattle.std.specs.List.{list_all};
-ghost use Rattle.lt_entry.specs.Written.{is_name_byte, is_name, is_object_name};
+ghost use Rattle.lt_entry.specs.Written.{is_name_byte, is_name, is_object_name, is_one, is_single};
 ghost use Rattle.lt_input_lines.specs.Views.{step_view, place_view, target_view};
-ghost use Rattle.lt_input_lines.specs.Reading.{begins_step, pieces, read_step, read_closed, read_place, read_target};
+ghost use Rattle.lt_input_lines.specs.Reading.{begins_step, pieces, read_step, read_closed, read_place, read_single, read_target, read_single_target};
 
 use crate::number::{Numeral, numeral_of};
 use std::alloc::{AllocError, Global};
 
 /// What leads from an object to a part of it.
-#[derive(Clone, Copy, Debug)]
+#[derive(Clone, Copy)]
 pub enum Step<'a> {
     Index(Numeral),
     /// `[*]`, every element.
@@ -17,14 +17,14 @@ pub enum Step<'a> {
 }
 
 /// A name and steps.
-#[derive(Debug, Drop)]
+#[derive(Drop)]
 pub struct PlaceWord<'a> {
     pub name: &'a [u8],
     pub steps: Vec<Step<'a>>,
 }
 
 /// What a pointer may point to.
-#[derive(Debug, Drop)]
+#[derive(Drop)]
 pub enum TargetWord<'a> {
     Null,
     Place(PlaceWord<'a>),
@@ -133,6 +133,37 @@ pub fn place_of<'a>(alloc: Global, word: &'a [u8]) -> Result<Option<PlaceWord<'a
     Ok(Some(PlaceWord { name, steps }))
 }
 
+fn is_one(step: &Step<'_>) -> bool
+    ensures { result ≡ is_one (step_view step.now) }
+{
+    !matches!(step, Step::Each)
+}
+
+// Whether no step goes to every element.
+fn is_single(place: &PlaceWord) -> bool
+    ensures { result ≡ is_single (place_view place.now) }
+{
+    for step in place.steps.as_slice() {
+        if !is_one(step) {
+            return false;
+        }
+    }
+    true
+}
+
+/// The place that a word writes, if none of its steps goes to every element.
+pub fn single_place_of<'a>(
+    alloc: Global,
+    word: &'a [u8],
+) -> Result<Option<PlaceWord<'a>>, AllocError>
+    ensures { IfOk result (λ o. option_map place_view o ≡ read_single word.now) }
+{
+    match place_of(alloc, word)? {
+        Some(place) => Ok(if is_single(&place) { Some(place) } else { None }),
+        None => Ok(None),
+    }
+}
+
 /// The target that a word writes.
 pub fn target_of<'a>(alloc: Global, word: &'a [u8]) -> Result<Option<TargetWord<'a>>, AllocError>
     ensures { IfOk result (λ o. option_map target_view o ≡ read_target word.now) }
@@ -140,5 +171,18 @@ pub fn target_of<'a>(alloc: Global, word: &'a [u8]) -> Result<Option<TargetWord<
     if word == b"null".as_slice() {
         return Ok(Some(TargetWord::Null));
     }
-    Ok(place_of(alloc, word)?.map(|place| TargetWord::Place(place)))
+    Ok(place_of(alloc, word)?.map(TargetWord::Place))
+}
+
+/// The target that a word writes, if none of its steps goes to every element.
+pub fn single_target_of<'a>(
+    alloc: Global,
+    word: &'a [u8],
+) -> Result<Option<TargetWord<'a>>, AllocError>
+    ensures { IfOk result (λ o. option_map target_view o ≡ read_single_target word.now) }
+{
+    if word == b"null".as_slice() {
+        return Ok(Some(TargetWord::Null));
+    }
+    Ok(single_place_of(alloc, word)?.map(TargetWord::Place))
 }

@@ -1,4 +1,4 @@
-use Rattle.std.proofs.Common.{rules, sym, ◌∙◌}
+use Rattle.std.proofs.Common.{rules, ◌∙◌}
 use Rattle.lt_input_lines.proofs.Numbers.{digits_are_utf8, parsed_decimal, fact_from_none}
 use Rattle.lt_input_lines.proofs.number.decimal_of.Goals as goal
 

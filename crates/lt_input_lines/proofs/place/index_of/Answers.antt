@@ -1,4 +1,4 @@
-use Rattle.std.proofs.Common.{rules, ◌≡◌, ◌∙◌, sym, true, false}
+use Rattle.std.proofs.Common.{rules, ◌≡◌, ◌∙◌, sym}
 use Rattle.std.specs.Prelude.{option_map}
 use Rattle.lt_input_lines.specs.Views.{step_view}
 use Rattle.lt_input_lines.specs.Reading.{read_index, read_closed}

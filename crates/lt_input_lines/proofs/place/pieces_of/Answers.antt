@@ -1,8 +1,5 @@
-use Rattle.std.proofs.Common.{rules, arith, sym, ◌∙◌, ◌++◌, ap, get_or, Bor, List, ℕ, ◌≡◌, true, false, ◌<◌, length}
-use Rattle.std.specs.Prelude.{map}
-use Rattle.std.specs.List.{slice_range}
+use Rattle.std.proofs.Common.{rules, arith, sym, ◌<◌, length}
 use Rattle.std.proofs.lemmas.List.{map-append}
-use Rattle.lt_input_lines.specs.Reading.{begins_step, pieces, onto}
 use Rattle.lt_input_lines.proofs.Pieces.{onto_nothing, more_in_piece, more_between}
 use Rattle.lt_input_lines.proofs.place.pieces_of.Goals as goal
 use Rattle.lt_input_lines.proofs.place.pieces_of.Goals.{then-begins_step+in_ok-push, else-begins_step}
@@ -17,11 +14,11 @@ loop-i-preserved c =
     let inside : i < length word = omega arith in
     elim c.if-begins_step.branch [
       | then-begins_step+in_ok-push w ↦ record {
-          before = omega arith;
-          are = rw (w.pieces-is, w.start-is, w.in_ok-push.ensures.items, map-append) (more_between word c.loop-i.start i _ inside (search rules) c.loop-i.invariant.are);
-        }
+        before = omega arith;
+        are = rw (w.pieces-is, w.start-is, w.in_ok-push.ensures.items, map-append) (more_between word c.loop-i.start i _ inside (search rules) c.loop-i.invariant.are);
+      }
       | else-begins_step w ↦ record {
-          before = omega arith;
-          are = rw (w.pieces-is, w.start-is) (more_in_piece word c.loop-i.start i _ c.loop-i.invariant.before inside (search (rules)) c.loop-i.invariant.are);
-        }
+        before = omega arith;
+        are = rw (w.pieces-is, w.start-is) (more_in_piece word c.loop-i.start i _ c.loop-i.invariant.before inside (search (rules)) c.loop-i.invariant.are);
+      }
     ]

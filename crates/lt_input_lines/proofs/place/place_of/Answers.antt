@@ -1,8 +1,8 @@
-use Rattle.std.proofs.Common.{rules, arith, sym, Some, None, ◌≡◌, true}
+use Rattle.std.proofs.Common.{rules, arith, sym, ◌≡◌, true}
 use Rattle.std.proofs.lemmas.List.{map-append}
 use Rattle.lt_entry.specs.Written.{is_object_name}
 use Rattle.lt_input_lines.specs.Reading.{read_step}
-use Rattle.lt_input_lines.proofs.ReadAll.{nothing, loop_more, loop_none, loop_all}
+use Rattle.lt_input_lines.proofs.ReadAll.{loop_more, loop_none, loop_all}
 use Rattle.lt_input_lines.proofs.PlacesRead.{place_is, no_place}
 use Rattle.lt_input_lines.proofs.place.place_of.Goals as goal
 
