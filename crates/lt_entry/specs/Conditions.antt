@@ -7,12 +7,15 @@ use Rattle.lt_model.specs.declared.scalar.DataModel.{DataModel}
 use Rattle.lt_model.specs.declared.scalar.Scalar.{Scalar}
 use Rattle.lt_model.specs.Operators.{is_value}
 use Rattle.lt_tree.specs.Typing.Types.{CType, Array, Function as FunctionType, is_scalar, is_integer, scalar_of, target_of}
+use Rattle.lt_token.specs.Words.{is_among, keywords, respelled, skipped, attributes, assemblers, unsupported}
+use Rattle.lt_tree.specs.Typing.Expressions.{has_floating, has_pointer_to_function}
 use Rattle.lt_tree.specs.Typing.Extents.{has_size, has_too_many_cells}
 use Rattle.lt_tree.specs.Typing.Entities.{Declared, Function}
 use Rattle.lt_tree.specs.Typing.Programs.{Program}
 use Rattle.lt_meaning.specs.Runs.{stops, function_among}
 use Rattle.lt_entry.specs.Lines.{Row}
-use Rattle.lt_entry.specs.Written.{Numeral, value_of, TargetWord}
+use Rattle.lt_entry.specs.Written.{Numeral, value_of, PlaceWord, TargetWord}
+use Rattle.lt_entry.specs.Reading.{read_place, read_target}
 use Rattle.lt_entry.specs.TypeNames.{type_named}
 use Rattle.lt_entry.specs.Naming.{Block, block_root, parameters_of, Scope, roots, root_among, default_block, Named, named_by, targets_of}
 use Rattle.lt_entry.specs.SpecificationLines.{Line, entry_line, block_line, range_line, points_line, stub_line, require_line, is_in_form, Addend, addends}
@@ -49,9 +52,9 @@ block_of_line program (block_line name type count) =
     option_map (λ t. record { name = name; element = t; count = nat_abs (value_of count) }) (type_named program.file type)
 block_of_line program line = None
 
--- a line of the file that begins with `points`, the name and a target
+-- a line of the file that begins with `points`, the name and what has the form of a target
 abbrev pub points_at : List ℕ → List (List ℕ) → Bool
-points_at name (first ∷ second ∷ third ∷ words) = bytes_eq first (codes "points") && bytes_eq second name
+points_at name (first ∷ second ∷ third ∷ words) = bytes_eq first (codes "points") && bytes_eq second name && is_some (read_target third)
 points_at name words = false
 
 -- The default blocks: one for each parameter that points to what has a size, and for which no line of the file says where it points.
@@ -80,10 +83,6 @@ abbrev pub names_cell : Scope → Place → Line → Bool
 names_cell scope place (range_line word low high) = is_place_in (named_by scope word) place
 names_cell scope place (points_line word targets) = is_place_in (named_by scope word) place
 names_cell scope place line = false
-
-abbrev pub is_range_line : Line → Bool
-is_range_line (range_line word low high) = true
-is_range_line line = false
 
 -- A place names something, and this holds of each part that it names.
 abbrev pub each_named : (Named → Bool) → List Named → Bool
@@ -129,11 +128,23 @@ names_stub name line = false
 
 -- ---- blocks
 
--- an array of this type may be made
+-- the names of annotations
+unfoldable pub reserved : List (List ℕ)
+reserved = codes "pc_label" ∷ codes "pc_label_bind" ∷ codes "pc_decide" ∷ codes "pc_after" ∷ []
+
+-- a word that has the form of an identifier and is none: a keyword of C11 6.4.1 in any of its spellings, a word that the lexer skips
+-- or that isn't supported, or the name of an annotation
+abbrev pub is_no_identifier : List ℕ → Bool
+is_no_identifier word =
+    is_among word keywords || is_among word respelled || is_among word skipped || is_among word attributes || is_among word assemblers
+    || is_among word unsupported || is_among word reserved
+
+-- An array of this type may be made: an object may have the type of its elements.
 abbrev pub is_block : Program → Numeral → Option CType → Bool
 is_block program count None = false
 is_block program count (Some t) =
-    int_le (pos 1) (value_of count) && has_size program.structs t && not (has_too_many_cells program.structs (Array t (nat_abs (value_of count))))
+    int_le (pos 1) (value_of count) && has_size program.structs t && not (has_floating t) && not (has_pointer_to_function t)
+    && not (has_too_many_cells program.structs (Array t (nat_abs (value_of count))))
 
 -- ---- requirements
 
@@ -151,7 +162,7 @@ is_term scope addend = each_named (λ it. is_integer it.type) (named_by scope ad
 abbrev pub fits_in : Scope → List Line → Line → Bool
 fits_in scope before (entry_line name) = false
 fits_in scope before (block_line name type count) =
-    is_none (root_among (roots scope) name) && is_block scope.program count (type_named scope.program.file type)
+    not (is_no_identifier name) && is_none (root_among (roots scope) name) && is_block scope.program count (type_named scope.program.file type)
 fits_in scope before (range_line place low high) =
     each_named (λ it. is_range scope.program.model low high (scalar_of it.type) && not (list_any (names_cell scope it.place) before)) (named_by scope place)
 fits_in scope before (points_line place targets) =
@@ -176,13 +187,22 @@ fits program rows before line = is_in_form line && fits_where program rows befor
 
 -- ---- free cells
 
--- The cell is one of a parameter or a block, or a `range` line frees it.
-abbrev pub is_free : Scope → List Line → Named → Bool
-is_free scope lines it =
-    is_some (root_among (scope.parameters ++ map block_root scope.blocks) it.place.root)
-    || list_any (λ line. is_range_line line && names_cell scope it.place line) lines
+abbrev pub names_place : Scope → Place → Option PlaceWord → Bool
+names_place scope place None = false
+names_place scope place (Some word) = is_place_in (named_by scope word) place
 
--- the cells of the line's requirement are free where these are the lines of the file
-abbrev pub needs_free : Scope → List Line → Line → Bool
-needs_free scope lines (require_line sum relation constant) = list_all (λ addend. list_all (is_free scope lines) (named_by scope addend.term.place)) (addends sum)
-needs_free scope lines line = true
+-- a line of the file that begins with `range` and a place that names the cell
+abbrev pub is_ranged_by : Scope → Place → List (List ℕ) → Bool
+is_ranged_by scope place (first ∷ second ∷ words) = bytes_eq first (codes "range") && names_place scope place (read_place second)
+is_ranged_by scope place words = false
+
+-- The cell is one of a parameter or a block, or a line of the file begins with `range` and its place. That such a line is in its place itself
+-- is asked of that line.
+abbrev pub is_free : Scope → List Row → Named → Bool
+is_free scope rows it =
+    is_some (root_among (scope.parameters ++ map block_root scope.blocks) it.place.root) || list_any (λ row. is_ranged_by scope it.place row.words) rows
+
+-- the cells of the line's requirement are free in a file with these rows
+abbrev pub needs_free : Scope → List Row → Line → Bool
+needs_free scope rows (require_line sum relation constant) = list_all (λ addend. list_all (is_free scope rows) (named_by scope addend.term.place)) (addends sum)
+needs_free scope rows line = true

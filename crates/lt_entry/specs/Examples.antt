@@ -26,7 +26,7 @@ use Rattle.lt_entry.specs.Written.{Numeral, Step, at_index, at_each, at_member, 
 use Rattle.lt_entry.specs.TypeNames.{type_named}
 use Rattle.lt_entry.specs.SpecificationLines.{Line, line_words, entry_line, block_line, range_line, points_line, stub_line, require_line, at_most, equal_to, Term}
 use Rattle.lt_entry.specs.Conditions.{scope_behind, fits, needs_free}
-use Rattle.lt_entry.specs.Specifications.{Specification, specification_in, IsSpecification}
+use Rattle.lt_entry.specs.Specifications.{Specification, specification_in, IsSpecification, faulty_lines}
 use Rattle.lt_entry.specs.Suites.{SuiteLine, test_line, set_line, point_line, values_line, suite_scope, fits_suite, IsSuite}
 use Rattle.lt_entry.specs.Meeting.{Meets, sets_free_cell, is_wanted, held, keeps_range, needs_hold}
 
@@ -70,8 +70,11 @@ verdicts_from program rows before [] = []
 verdicts_from program rows before (line ∷ lines) =
     fits program rows before line ∷ verdicts_from program rows (joined (fits program rows before line) before line) lines
 
+abbrev pub rows_said : List Line → List Row
+rows_said lines = map (λ it. record { number = 0; words = line_words it }) lines
+
 abbrev pub verdicts : Program → List Line → List Bool
-verdicts program lines = verdicts_from program (map (λ it. record { number = 0; words = line_words it }) lines) [] lines
+verdicts program lines = verdicts_from program (rows_said lines) [] lines
 
 -- ---- a linked list
 
@@ -234,12 +237,21 @@ DefaultBlocksAreNamed =
     × AreJudged (points_line (alone (codes "p")) (to_place (alone default_block) ∷ []) ∷ points_line (alone (codes "p")) (to_place (element (codes "a") 3) ∷ []) ∷ []) (false ∷ false ∷ [])
     × AreJudged (range_line (element default_block 0) (some 1) (some 5) ∷ points_line (alone (codes "q")) (to_null ∷ []) ∷ []) (false ∷ true ∷ [])
 
+-- `q` keeps its default block where what stands behind `points q` isn't of the form of a target.
+abbrev pub FormsOfTargetsCount : Type 0
+FormsOfTargetsCount = (ranged (codes "a[") ≡ true) × (ranged (codes "null") ≡ false) × (ranged (codes "nothing[*].here") ≡ false)
+  where
+    ranged : List ℕ → Bool
+    ranged word =
+        fits small_program (record { number = 2; words = codes "points" ∷ codes "q" ∷ word ∷ [] } ∷ []) (begin ∷ []) (range_line (element default_block 0) (some 1) (some 5))
+
 abbrev pub BlocksAreJudged : Type 0
 BlocksAreJudged =
     AreJudged (block_line (codes "B") (codes "int" ∷ codes "*" ∷ []) (some 2) ∷ points_line (every (codes "B")) (to_place (every (codes "a")) ∷ []) ∷ []) (true ∷ true ∷ [])
     × AreJudged (block_line (codes "B") (codes "const" ∷ codes "word" ∷ []) (some 1) ∷ block_line (codes "B") (codes "int" ∷ []) (some 1) ∷ []) (true ∷ false ∷ [])
     × AreJudged (block_line (codes "a") (codes "int" ∷ []) (some 1) ∷ block_line (codes "C") (codes "void" ∷ []) (some 1) ∷ block_line (codes "C") (codes "int" ∷ []) (some 0) ∷ []) (false ∷ false ∷ false ∷ [])
     × AreJudged (block_line (codes "C") (codes "int" ∷ []) (some 1048577) ∷ block_line (codes "C") (codes "int" ∷ []) (some 1048576) ∷ []) (false ∷ true ∷ [])
+    × AreJudged (block_line (codes "while") (codes "int" ∷ []) (some 1) ∷ block_line (codes "pc_label") (codes "int" ∷ []) (some 1) ∷ block_line (codes "D") (codes "double" ∷ []) (some 1) ∷ []) (false ∷ false ∷ false ∷ [])
     × AreJudged (points_line (alone (codes "q")) (to_place (element (codes "B") 0) ∷ []) ∷ block_line (codes "B") (codes "int" ∷ []) (some 2) ∷ points_line (alone (codes "p")) (to_place (element (codes "B") 2) ∷ []) ∷ []) (false ∷ true ∷ true ∷ [])
 
 abbrev pub StubsAreJudged : Type 0
@@ -257,7 +269,19 @@ RequirementsAreJudged =
   where
     -- whether the cells of each line's requirement are free
     frees : List Line → List Bool
-    frees lines = map (needs_free (scope_behind small_program [] 0 (begin ∷ lines)) (begin ∷ lines)) (begin ∷ lines)
+    frees lines = map (needs_free (scope_behind small_program [] 0 (begin ∷ lines)) (rows_said lines)) (begin ∷ lines)
+
+-- A requirement may stand before the line that frees its cell, and isn't at fault where that line is.
+abbrev pub FaultsAreFound : Type 0
+FaultsAreFound =
+    (faults (codes "range a[0] 3 2") ≡ 4 ∷ [])
+    × (faults (codes "bogus" ++ 10 ∷ codes "range a[0] 0 1") ≡ 4 ∷ 5 ∷ [])
+    × (faults (codes "range a[1] 3 2") ≡ 3 ∷ 4 ∷ [])
+  where
+    faults : List ℕ → List ℕ
+    faults more =
+        faulty_lines small_program (codes "entry f" ++ 10 ∷ 10 ∷ codes "require a[0] <= 1" ++ 10 ∷ more)
+        (begin ∷ require_line (record { first = once (element (codes "a") 0); others = [] }) at_most (some 1) ∷ [])
 
 -- `range` and `points` lines free the cells of objects, which start as the program says; `p` starts at `a[1]`
 abbrev pub an_int_at : Place → Want → FreeCell
@@ -308,7 +332,7 @@ narrow_lines =
     ∷ require_line (record { first = times (some 2) (alone (codes "x")); others = [] }) at_most (some 10) ∷ []
 
 abbrev pub narrow : Spec
-narrow = (specification_in (scope_behind small_program (map (λ it. record { number = 0; words = line_words it }) narrow_lines) 0 narrow_lines) 0 narrow_lines).spec
+narrow = (specification_in (scope_behind small_program (rows_said narrow_lines) 0 narrow_lines) 0 narrow_lines).spec
 
 abbrev pub input_of : List CellSet → List StubSet → Input
 input_of cells stubs = record { blocks = narrow.blocks; cells = cells; stubs = stubs }

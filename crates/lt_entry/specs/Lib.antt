@@ -1,5 +1,6 @@
 pub mod Lines
 pub mod Written
+pub mod Reading
 pub mod TypeNames
 pub mod Naming
 pub mod SpecificationLines

@@ -41,20 +41,20 @@ pub record IsSpecification (program : Program) (text : List ℕ) (it : Specifica
   pub front : IsFront program text lines
   pub entry : ℕ
   pub first : entry_of program lines ≡ Some entry
-  pub free : IsTrue (list_all (needs_free (scope_behind program (rows_of text) entry lines) lines) lines)
+  pub free : IsTrue (list_all (needs_free (scope_behind program (rows_of text) entry lines) (rows_of text)) lines)
   pub says : it ≡ specification_in (scope_behind program (rows_of text) entry lines) entry lines
 
 -- ---- lines that are none
 
--- the numbers of the rows whose requirements have a cell that isn't free
-abbrev pub unfree_rows : Scope → (all : List Line) → List Row → List Line → List ℕ
+-- the numbers of the rows whose requirements have a cell that isn't free in a file of all rows
+abbrev pub unfree_rows : Scope → (all : List Row) → List Row → List Line → List ℕ
 unfree_rows scope all (row ∷ rows) (line ∷ lines) =
     if needs_free scope all line then unfree_rows scope all rows lines else row.number ∷ unfree_rows scope all rows lines
 unfree_rows scope all rows lines = []
 
 abbrev pub unfree_lines : Program → List Row → Option ℕ → List Line → List ℕ
 unfree_lines program rows None lines = []
-unfree_lines program rows (Some entry) lines = unfree_rows (scope_behind program rows entry lines) lines rows lines
+unfree_lines program rows (Some entry) lines = unfree_rows (scope_behind program rows entry lines) rows rows lines
 
 -- the number behind that of the last line, where no line names an entry
 abbrev pub missing_entry : List ℕ → List Line → List ℕ

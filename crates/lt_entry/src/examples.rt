@@ -11,6 +11,8 @@ ghost use Rattle.lt_entry.specs.Examples.{
   BlocksAreJudged,
   StubsAreJudged,
   RequirementsAreJudged,
+  FaultsAreFound,
+  FormsOfTargetsCount,
   ObjectsAreFreed,
   SuitesAreJudged,
   InputsAreJudged,
@@ -36,6 +38,8 @@ pub fn lines_are_judged()
     ensures blocks { BlocksAreJudged }
     ensures stubs { StubsAreJudged }
     ensures requirements { RequirementsAreJudged }
+    ensures faults { FaultsAreFound }
+    ensures forms { FormsOfTargetsCount }
     ensures suites { SuitesAreJudged }
 {}
 

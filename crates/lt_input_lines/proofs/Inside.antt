@@ -1,6 +1,6 @@
 -- Bytes before a closing bracket.
 use Rattle.std.proofs.Common.{◌≡◌, ℕ, true, false, List, [], ◌∷◌, ◌++◌, refl, ap, ◌∙◌, Option, Some, None}
-use Rattle.std.specs.Prelude.{◌==◌, option_map, option_and_then}
+use Rattle.std.specs.Prelude.{◌==◌, option_and_then}
 use Rattle.lt_input_lines.specs.Reading.{inside, read_index, read_closed}
 
 pub inside_closed : (bytes : List ℕ) (last : ℕ) → (last == 93) ≡ true → inside (bytes ++ last ∷ []) ≡ Some bytes

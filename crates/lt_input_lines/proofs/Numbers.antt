@@ -1,5 +1,5 @@
 -- Numbers in decimal: what `parse` reads of their digits.
-use Rattle.std.proofs.Common.{◌≡◌, ℕ, ◌<◌, ◌^◌, true, false, List, [], ◌∷◌, length, sym, ap, arith, rules, Result, Ok, Err, Option, Some, None, refl, ltb}
+use Rattle.std.proofs.Common.{◌≡◌, ℕ, ◌<◌, ◌^◌, true, false, List, [], ◌∷◌, length, ap, arith, rules, Result, Ok, Err, Option, Some, None, refl, ltb}
 use Rattle.std.specs.Prelude.{MatchResult}
 use Rattle.std.specs.Result.{result_ok}
 use Rattle.std.specs.Str.{IsUtf8}

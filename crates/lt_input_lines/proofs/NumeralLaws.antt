@@ -1,5 +1,5 @@
 -- A number that is read is the number that the word writes, and every number is read.
-use Rattle.std.proofs.Common.{◌≡◌, ℕ, suc, zero, ◌<◌, ◌^◌, ◌≢◌, Bool, true, false, cond, List, [], ◌∷◌, length, get_or, refl, sym, ◌∙◌, ap, arith, lit<, inl, inr, Option, Some, None, eqb, ltb}
+use Rattle.std.proofs.Common.{◌≡◌, ℕ, suc, zero, ◌<◌, ◌^◌, Bool, true, false, cond, List, [], ◌∷◌, length, get_or, refl, sym, ◌∙◌, ap, arith, lit<, inl, inr, Option, Some, None, ltb}
 use Rattle.std.specs.Prelude.{◌⊎◌, ◌&&◌, option_map, decimal}
 use Rattle.std.specs.List.{list_all}
 use Rattle.std.specs.Char.{is_ascii_digit}

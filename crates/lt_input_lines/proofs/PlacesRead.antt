@@ -1,7 +1,7 @@
 -- Places, as they are read from the pieces of a word.
-use Rattle.std.proofs.Common.{◌≡◌, ℕ, true, false, List, [], ◌∷◌, refl, sym, ◌∙◌, ap, Option, Some, None, Bor}
+use Rattle.std.proofs.Common.{◌≡◌, ℕ, true, List, ◌∷◌, refl, sym, ◌∙◌, ap, Some, None, Bor}
 use Rattle.std.specs.Prelude.{map}
-use Rattle.lt_entry.specs.Written.{is_object_name, Step, PlaceWord}
+use Rattle.lt_entry.specs.Written.{is_object_name, Step}
 use Rattle.lt_input_lines.specs.Reading.{pieces, place_from, read_place, read_all, read_step}
 
 pieces_are : (word : List ℕ) (items slice : List (Bor (List ℕ))) (name : Bor (List ℕ)) (others : List (Bor (List ℕ))) → map (λ (w : Bor (List ℕ)). w.now) items ≡ pieces word → slice ≡ items → slice ≡ name ∷ others → read_place word ≡ place_from (name.now ∷ map (λ (w : Bor (List ℕ)). w.now) others)

@@ -1,5 +1,5 @@
 -- What is kept of lines, as the definitions have them.
-use Rattle.std.specs.Prelude.{ℕ, List, map, option_map}
+use Rattle.std.specs.Prelude.{map, option_map}
 use Rattle.lt_entry.specs.Lines.{Row}
 use Rattle.lt_entry.specs.SpecificationLines.{Relation, at_most, at_least, equal_to, Term, Addend, Line, entry_line, block_line, range_line, points_line, stub_line, require_line}
 use Rattle.lt_entry.specs.Suites.{SuiteLine, test_line, set_line, point_line, values_line}

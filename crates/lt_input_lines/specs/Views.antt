@@ -1,5 +1,5 @@
 -- What is kept of words and lines, as the definitions have them.
-use Rattle.std.specs.Prelude.{ℕ, List, map}
+use Rattle.std.specs.Prelude.{map}
 use Rattle.lt_entry.specs.Written.{Numeral, Step, at_index, at_each, at_member, PlaceWord, TargetWord, to_null, to_place}
 use Rattle.lt_input_lines.specs.declared.number.Numeral as number
 use Rattle.lt_input_lines.specs.declared.place.Step as step

@@ -1,6 +1,6 @@
-use Rattle.std.proofs.Common.{rules, arith, sym, ◌∙◌, ap, ◌≡◌, Bor, List, ℕ, true, false}
+use Rattle.std.proofs.Common.{rules, arith, sym, ◌∙◌, ap, Bor, List, ℕ, true, false}
 use Rattle.std.specs.Prelude.{map}
-use Rattle.lt_entry.specs.Lines.{is_empty, lines_among}
+use Rattle.lt_entry.specs.Lines.{lines_among}
 use Rattle.lt_input_lines.proofs.RowsRead.{among_empty, among_full, is_empty_by_length}
 use Rattle.lt_input_lines.proofs.row.lines_among.Goals as goal
 

@@ -1,7 +1,6 @@
-use Rattle.std.proofs.Common.{rules, arith, ap, ◌≡◌, ◌+◌, true, false, Bor, List, ℕ, take}
-use Rattle.std.specs.Prelude.{map}
+use Rattle.std.proofs.Common.{rules, ap, ◌≡◌, ◌+◌, true, false, List, ℕ}
 use Rattle.std.proofs.lemmas.List.{map-append}
-use Rattle.lt_entry.specs.Lines.{Row, is_skipped}
+use Rattle.lt_entry.specs.Lines.{is_skipped}
 use Rattle.lt_input_lines.proofs.RowsRead.{row_skipped, row_put}
 use Rattle.lt_input_lines.proofs.row.rows_of.Goals as goal
 use Rattle.lt_input_lines.proofs.row.rows_of.Goals.{then-not-is_skipped+in_ok-words_of+in_ok-push, else-not-is_skipped}

@@ -1,4 +1,3 @@
-use Rattle.std.proofs.Common.{sym, rules}
 use Rattle.lt_input_lines.proofs.LinesRead.{require_is}
 use Rattle.lt_input_lines.proofs.specification.require_line.Goals as goal
 
