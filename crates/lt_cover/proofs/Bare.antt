@@ -10,7 +10,6 @@ use Rattle.std.proofs.lemmas.List.Elements.{All-head, All-tail}
 use Rattle.csv.specs.Writing.{default_writer, needs_byte, fields_text, is_blank, row_text}
 use Rattle.lt_model.specs.Operators.{number_of_kind}
 use Rattle.lt_model.specs.declared.run.End.TheVariants.{Returned, Stopped, Undefined, NoInput, Steps, Deep, Cells}
-use Rattle.lt_cover.specs.Writers.{IsBare}
 use Rattle.lt_cover.specs.Coverage.Names.{is_name_byte, IsTestName, IsTag, IsId}
 use Rattle.lt_cover.specs.Coverage.Table.{IsEnd}
 use Rattle.lt_cover.specs.Coverage.Text.{line, end_word, label_word, names_text, state_word}
@@ -19,7 +18,7 @@ use Rattle.lt_cover.specs.declared.rows.TestEnd.TheVariants.{Ran, Outside}
 use Rattle.lt_cover.specs.declared.rows.HyperState.{HyperState}
 use Rattle.lt_cover.specs.declared.rows.HyperState.TheVariants.{Uncovered, TooWide, Covered}
 use Rattle.lt_cover.proofs.Ends.{small_kind}
-use Rattle.lt_cover.proofs.BareFields.{bare_cons, bare_plain, bare_decimal, bare_field}
+use Rattle.lt_cover.proofs.BareFields.{IsBare, bare_cons, bare_plain, bare_decimal, bare_field}
 
 bare_name_byte : (b : ℕ) → IsTrue (is_name_byte b) → needs_byte default_writer b ≡ false
 bare_name_byte b h = grind (arith, nat_tests)

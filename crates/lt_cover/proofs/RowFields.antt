@@ -9,9 +9,9 @@ use Rattle.lt_cover.specs.declared.rows.HyperRow.{HyperRow}
 use Rattle.lt_cover.specs.declared.rows.Row.{Row}
 use Rattle.lt_cover.specs.declared.rows.Row.TheVariants.{Test, Label, Hyper}
 use Rattle.lt_cover.specs.Coverage.Text.{row_fields}
-use Rattle.lt_cover.proofs.Forms.{IsRow}
+use Rattle.lt_cover.specs.Coverage.Rows.{IsRow}
 use Rattle.lt_cover.proofs.Ends.{end_inj, state_inj}
-use Rattle.lt_cover.proofs.Names.{names_inj}
+use Rattle.lt_cover.proofs.NameFields.{names_inj}
 
 abbrev field : ℕ → List (List ℕ) → List ℕ
 field k fields = get_or fields k []
@@ -32,7 +32,7 @@ pub row_inj : (a b : Row) → IsRow a → IsRow b → row_fields a ≡ row_field
 row_inj (Test a) (Test b) ha hb e = ap Test (test_same a b (ap (field 1) e) (end_inj a.end b.end (ap (field 3) e)))
 row_inj (Label a) (Label b) ha hb e =
     let id : a.id ≡ b.id = decimal_injective a.id b.id (omega (arith, ha.id.1)) (omega (arith, hb.id.1)) (ap (field 1) e) in
-    ap Label (label_same a b id (ap (field 2) e) (names_inj a.by b.by ha.names hb.names (ap (field 3) e) (ap (field 4) e)))
+    ap Label (label_same a b id (ap (field 2) e) (names_inj a.by b.by ha.by.each hb.by.each (ap (field 3) e) (ap (field 4) e)))
 row_inj (Hyper a) (Hyper b) ha hb e =
     let id : a.id ≡ b.id = decimal_injective a.id b.id (omega (arith, ha.id.1)) (omega (arith, hb.id.1)) (ap (field 1) e) in
     ap Hyper (hyper_same a b id (ap (field 2) e) (state_inj a.state b.state (ap (field 3) e)))

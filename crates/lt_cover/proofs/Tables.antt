@@ -10,24 +10,24 @@ use Rattle.lt_cover.specs.declared.rows.Row.{Row}
 use Rattle.lt_cover.specs.declared.rows.Row.TheVariants.{Test, Label, Hyper}
 use Rattle.lt_cover.specs.Coverage.Table.{Table, IsTable, IsLabelRow, names_of}
 use Rattle.lt_cover.specs.Coverage.Text.{row_fields, rows_in}
-use Rattle.lt_cover.proofs.Forms.{IsRow, IsLabelForm}
-use Rattle.lt_cover.proofs.Names.{label_form}
+use Rattle.lt_cover.specs.Coverage.Rows.{IsRow, IsLabelForm}
+use Rattle.lt_cover.proofs.NameFields.{label_form}
 use Rattle.lt_cover.proofs.RowFields.{rows_inj}
 
 -- the tests, labels and hyperlabels among rows
-tests_in : List Row → List TestRow
+unfoldable pub tests_in : List Row → List TestRow
 tests_in [] = []
 tests_in (Test t ∷ rows) = t ∷ tests_in rows
 tests_in (Label l ∷ rows) = tests_in rows
 tests_in (Hyper h ∷ rows) = tests_in rows
 
-labels_in : List Row → List LabelRow
+unfoldable pub labels_in : List Row → List LabelRow
 labels_in [] = []
 labels_in (Test t ∷ rows) = labels_in rows
 labels_in (Label l ∷ rows) = l ∷ labels_in rows
 labels_in (Hyper h ∷ rows) = labels_in rows
 
-hypers_in : List Row → List HyperRow
+unfoldable pub hypers_in : List Row → List HyperRow
 hypers_in [] = []
 hypers_in (Test t ∷ rows) = hypers_in rows
 hypers_in (Label l ∷ rows) = hypers_in rows
@@ -78,17 +78,17 @@ unfolding hypers_in
 hypers_of_tests [] rest = refl
 hypers_of_tests (x ∷ t) rest = hypers_of_tests t rest
 
-tests_are : (t : Table) → tests_in (rows_in t) ≡ t.tests
+pub tests_are : (t : Table) → tests_in (rows_in t) ≡ t.tests
 tests_are t =
     tests_of_tests t.tests (map Label t.labels ++ map Hyper t.hypers)
     ∙ (ap (λ r. t.tests ++ r) (tests_of_labels t.labels (map Hyper t.hypers) ∙ tests_of_hypers t.hypers) ∙ append-nil t.tests)
 
-labels_are : (t : Table) → labels_in (rows_in t) ≡ t.labels
+pub labels_are : (t : Table) → labels_in (rows_in t) ≡ t.labels
 labels_are t =
     labels_of_tests t.tests (map Label t.labels ++ map Hyper t.hypers)
     ∙ (labels_of_labels t.labels (map Hyper t.hypers) ∙ (ap (λ r. t.labels ++ r) (labels_of_hypers t.hypers) ∙ append-nil t.labels))
 
-hypers_are : (t : Table) → hypers_in (rows_in t) ≡ t.hypers
+pub hypers_are : (t : Table) → hypers_in (rows_in t) ≡ t.hypers
 hypers_are t =
     hypers_of_tests t.tests (map Label t.labels ++ map Hyper t.hypers)
     ∙ (hypers_of_labels t.labels (map Hyper t.hypers) ∙ hypers_of_hypers t.hypers)

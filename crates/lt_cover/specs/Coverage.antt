@@ -2,5 +2,8 @@
 pub mod Names
 pub mod Table
 pub mod Text
+pub mod Records
+pub mod Rows
+pub mod Draft
 pub mod Reading
 pub mod Merge

@@ -1,4 +1,1 @@
-pub mod Text
-pub mod Plain
-pub mod Writers
 pub mod Coverage

@@ -1,15 +1,23 @@
-// Coverage files: what `specs/Text.antt` says is written of a suite of small functions, and, defined in `specs/Coverage.antt`, files
-// of both versions, their table and merges.
+// Reads, writes and merges coverage files; `specs/Coverage.antt` says what they are.
 #![tactic(auto)]
 
-mod cover;
+mod covering;
+mod draft;
+mod fields;
 mod laws;
-pub mod rows;
-pub mod stops;
-mod table;
+mod names;
+mod read;
+mod records;
+mod rows;
+mod stops;
+mod values;
+mod words;
+mod write;
 
-pub use cover::write_cover;
 pub use laws::{
     a_text_stands_for_one_table, merge_is_commutative, merge_is_idempotent, what_is_written_is_read,
 };
-pub use table::{Coverage, LabelRow, TestRow};
+pub use read::read_cover;
+pub use rows::{Coverage, HyperRow, HyperState, LabelRow, TestEnd, TestRow};
+pub use stops::{CoverStop, MergeStop};
+pub use write::write_cover;

@@ -64,13 +64,13 @@ pub enum Version {
 /// What a suite covers. `specs/Coverage/Table.antt` says what always holds of it: the tests stand in byte order of their names, the
 /// labels and hyperlabels in the order of their ids, and names, tags and ids have their forms.
 #[derive(Drop)]
-pub struct CoverageTable {
+pub struct Coverage {
     tests: Vec<TestRow>,
     labels: Vec<LabelRow>,
     hypers: Vec<HyperRow>,
 }
 
-impl Model for CoverageTable {
+impl Model for Coverage {
     ghost use Rattle.lt_cover.specs.Coverage.Table.{Table, IsTable};
 
     ghost Value = { Table };
@@ -80,13 +80,13 @@ impl Model for CoverageTable {
     ghost invariant = { λ c. IsTable (record { tests = c.tests.items; labels = c.labels.items; hypers = c.hypers.items }) };
 }
 
-impl CoverageTable {
+impl Coverage {
     /// The table of these rows. It takes no memory.
-    pub fn new(tests: Vec<TestRow>, labels: Vec<LabelRow>, hypers: Vec<HyperRow>) -> CoverageTable
+    pub fn new(tests: Vec<TestRow>, labels: Vec<LabelRow>, hypers: Vec<HyperRow>) -> Coverage
         requires { IsTable (record { tests = tests.items; labels = labels.items; hypers = hypers.items }) }
         ensures { result ≡ (record { tests = tests.items; labels = labels.items; hypers = hypers.items }) }
     {
-        CoverageTable {
+        Coverage {
             tests,
             labels,
             hypers,

@@ -31,3 +31,4 @@ pub mod Functions
 pub mod Whole
 pub mod Small
 pub mod Tags
+pub mod BareFields

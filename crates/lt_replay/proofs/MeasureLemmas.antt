@@ -18,8 +18,8 @@ use Rattle.std.proofs.lemmas.Cmp.{nat_list_cmp_total}
 use Rattle.std.proofs.lemmas.List.Sorted.{sorted_far, ranks_by, All-permutation, IsPermutation-sym}
 use Rattle.std.proofs.lemmas.List.Elements.{All-contains, All-cons, All-nil, All-contains_itself, Contains-get_or}
 use Rattle.std.proofs.lemmas.Option.{slice_get-map}
-use Rattle.lt_cover.specs.declared.table.TestRow.{TestRow}
-use Rattle.lt_cover.specs.declared.table.LabelRow.{LabelRow}
+use Rattle.lt_replay.specs.declared.table.TestRow.{TestRow}
+use Rattle.lt_replay.specs.declared.table.LabelRow.{LabelRow}
 use Rattle.lt_replay.specs.Coverage.{Covers, most_ticks, IsAtMost, IsLeast, IsBy, row_of_test}
 use Rattle.lt_replay.specs.Resolving.{IsRunOf}
 use Rattle.lt_replay.specs.Measuring.{credited, credited_all, IsFirst, AreFirsts, name_at, rows_from}

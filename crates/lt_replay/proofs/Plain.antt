@@ -8,9 +8,9 @@ use Rattle.lt_tree.specs.SmallTree.{Label, Program, id_of, tag_of, labels_in}
 use Rattle.lt_input.specs.Cases.{TestCase}
 use Rattle.lt_replay.specs.Coverage.{IsTable, IsBy, row_of_test, most_ticks}
 use Rattle.lt_model.specs.Plain.{IsPlain}
-use Rattle.lt_cover.specs.Plain.{IsPlainEnd, IsPlainTest, IsPlainBy, IsPlainLabel, IsPlainTable}
-use Rattle.lt_cover.specs.declared.table.TestRow.{TestRow}
-use Rattle.lt_cover.specs.declared.table.LabelRow.{LabelRow}
+use Rattle.lt_replay.specs.Plain.{IsPlainEnd, IsPlainTest, IsPlainBy, IsPlainLabel, IsPlainTable}
+use Rattle.lt_replay.specs.declared.table.TestRow.{TestRow}
+use Rattle.lt_replay.specs.declared.table.LabelRow.{LabelRow}
 use Rattle.std.proofs.lemmas.List.Elements.{All-nil, All-cons, All-head, All-tail, All-weaker, All-map, All-contains}
 use Rattle.std.proofs.lemmas.List.Sorted.{All-permutation}
 use Rattle.lt_replay.proofs.Ends.{IsSmallEnd, run_small}

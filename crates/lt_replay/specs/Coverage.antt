@@ -7,8 +7,8 @@ use Rattle.std.specs.declared.cmp.Ordering.TheVariants.{Greater}
 use Rattle.lt_tree.specs.SmallTree.{Label, Program, id_of, tag_of, labels_in}
 use Rattle.lt_tree.specs.SmallMeaning.{run, covers}
 use Rattle.lt_input.specs.Cases.{TestCase}
-use Rattle.lt_cover.specs.declared.table.TestRow.{TestRow}
-use Rattle.lt_cover.specs.declared.table.LabelRow.{LabelRow}
+use Rattle.lt_replay.specs.declared.table.TestRow.{TestRow}
+use Rattle.lt_replay.specs.declared.table.LabelRow.{LabelRow}
 
 -- the ticks of a run
 abbrev pub most_ticks : ℕ

@@ -7,9 +7,9 @@ use Rattle.lt_replay.specs.Form.{NamesFit, IdsFit}
 use Rattle.lt_replay.specs.Parsed.{IsParsed}
 use Rattle.lt_input.specs.Suite.{IsSuite}
 use Rattle.lt_replay.specs.Coverage.{IsTable}
-use Rattle.lt_cover.specs.Text.{cover_text}
-use Rattle.lt_cover.specs.declared.table.TestRow.{TestRow}
-use Rattle.lt_cover.specs.declared.table.LabelRow.{LabelRow}
+use Rattle.lt_replay.specs.Text.{cover_text}
+use Rattle.lt_replay.specs.declared.table.TestRow.{TestRow}
+use Rattle.lt_replay.specs.declared.table.LabelRow.{LabelRow}
 use Rattle.lt_replay.specs.declared.replay.FirstStop.{FirstStop}
 use Rattle.lt_replay.specs.declared.replay.FirstStop.TheVariants.{NotYet, NoMemory}
 

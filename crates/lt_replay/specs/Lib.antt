@@ -18,3 +18,6 @@ pub mod Gives
 pub mod Scan
 pub mod Reading
 pub mod Depths
+pub mod Text
+pub mod Plain
+pub mod Writers

@@ -3,6 +3,7 @@
 #![tactic(auto)]
 
 mod code;
+mod cover;
 mod guard;
 mod heading;
 mod hits;
@@ -13,8 +14,10 @@ mod read;
 mod replay;
 mod resolving;
 mod running;
+mod table;
 
-pub use lt_cover::{Coverage, LabelRow, TestRow, write_cover};
+pub use cover::write_cover;
 pub use lt_input::{Test, a_text_says_one_suite, names_of_tests_are_plain, suite_of};
 pub use parsing::{one_cut, one_function, parse, tags_are_plain, trees_are_small};
 pub use replay::{FirstStop, first};
+pub use table::{Coverage, LabelRow, TestRow};

@@ -18,7 +18,7 @@ use crate::guard::unmarked;
 use crate::heading::Function;
 use crate::hits::Hits;
 use crate::running::run;
-use lt_cover::{Coverage, LabelRow, TestRow};
+use crate::table::{Coverage, LabelRow, TestRow};
 use lt_input::Test;
 use lt_model::{End, Name};
 use lt_tree::{Expr, Item, Mark, Stmt, id_number};

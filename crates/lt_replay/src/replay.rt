@@ -1,11 +1,11 @@
 ghost use Rattle.std.specs.Prelude.{IfOk, IfErr};
 ghost use Rattle.lt_replay.specs.First.{IsReplay, StopsAt};
 
+use crate::cover::write_cover;
 use crate::heading::heading;
 use crate::measuring::measure;
 use crate::parsing::{one_function, parse, tags_are_plain, trees_are_small};
 use crate::resolving::resolve;
-use lt_cover::write_cover;
 use lt_input::{names_of_tests_are_plain, suite_of};
 use lt_tree::Stop;
 use std::alloc::{AllocError, Global};

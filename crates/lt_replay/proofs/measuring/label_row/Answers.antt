@@ -2,7 +2,7 @@ use Rattle.std.proofs.Common.{◌≡◌, ℕ, List, sym, ap, ◌∙◌}
 use Rattle.lt_tree.specs.declared.declarator.DeclaratorPart.TheViews as views
 use Rattle.lt_tree.specs.Constants.{value_of}
 use Rattle.lt_tree.specs.Ids.{within}
-use Rattle.lt_cover.specs.declared.table.LabelRow.{LabelRow}
+use Rattle.lt_replay.specs.declared.table.LabelRow.{LabelRow}
 use Rattle.lt_replay.proofs.MarkLemmas.{id_is, tag_is}
 use Rattle.lt_replay.proofs.measuring.label_row.Goals as goal
 

@@ -9,7 +9,7 @@ use Rattle.lt_tree.specs.UnitView.{items_in}
 use Rattle.lt_tree.specs.SmallTree.{Label, labels_in}
 use Rattle.lt_tree.specs.declared.mark.Mark.{Mark}
 use Rattle.lt_replay.specs.Heading.{function_of}
-use Rattle.lt_cover.specs.declared.table.LabelRow.{LabelRow}
+use Rattle.lt_replay.specs.declared.table.LabelRow.{LabelRow}
 use Rattle.lt_input.specs.Cases.{TestCase, case_of, cases_of}
 use Rattle.lt_replay.specs.Coverage.{IsBy, row_of_test}
 use Rattle.lt_replay.specs.Measuring.{AreFirsts, rows_from}

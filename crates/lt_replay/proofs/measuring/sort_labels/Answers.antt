@@ -3,7 +3,7 @@ use Rattle.std.specs.Ordering.{is_lt, nat_cmp}
 use Rattle.std.proofs.lemmas.Result.{on_ok_weaker}
 use Rattle.std.proofs.lemmas.Cmp.{nat_cmp_total}
 use Rattle.std.proofs.lemmas.List.Sorted.{ranks_by, answers_always}
-use Rattle.lt_cover.specs.declared.table.LabelRow.{LabelRow}
+use Rattle.lt_replay.specs.declared.table.LabelRow.{LabelRow}
 use Rattle.lt_replay.proofs.measuring.sort_labels.Goals as goal
 
 pub returns-clause-sorted : goal.returns-clause-sorted

@@ -1,0 +1,83 @@
+-- The fields that a writer of rows writes as they are.
+use Rattle.std.proofs.Common.{◌≡◌, ℕ, ◌<◌, ◌^◌, false, cond, List, [], ◌∷◌, ◌++◌, refl, arith, ◌∙◌, ap, append_assoc, lit<}
+use Rattle.std.proofs.lemmas.List.{append-nil}
+use Rattle.std.specs.Prelude.{IsTrue, ◌||◌}
+use Rattle.std.specs.List.{list_any}
+use Rattle.std.specs.Fmt.{decimal}
+use Rattle.std.proofs.lemmas.Bool.Decides.{nat_tests}
+use Rattle.std.proofs.lemmas.List.Elements.{All-head, All-tail}
+use Rattle.std.specs.Char.{digit_value}
+use Rattle.std.specs.Str.Parse.{AllDigits}
+use Rattle.std.proofs.lemmas.Str.Parse.{digit_from_value}
+use Rattle.std.proofs.lemmas.Fmt.{decimal_is_IsNumeral}
+use Rattle.csv.specs.Writing.{default_writer, needs_byte, field_text, fields_text, quoted, is_blank, row_text}
+use Rattle.lt_model.specs.Operators.{number_of_kind}
+use Rattle.lt_model.specs.declared.run.End.{End}
+use Rattle.lt_model.specs.declared.run.End.TheVariants.{Returned, Stopped, Undefined, NoInput, Steps, Deep, Cells}
+use Rattle.lt_model.specs.declared.operator.Ub.{Ub}
+use Rattle.lt_model.specs.declared.operator.Ub.TheVariants as U
+use Rattle.lt_replay.specs.Text.{row, end_word}
+use Rattle.lt_model.specs.Plain.{is_plain_byte, IsPlain}
+use Rattle.lt_replay.specs.Plain.{IsPlainEnd}
+use Rattle.lt_replay.specs.Writers.{IsBare}
+
+bare_byte : (b : ℕ) → IsTrue (is_plain_byte b) → needs_byte default_writer b ≡ false
+bare_byte b h = grind (arith, nat_tests)
+
+bare_digit : (b : ℕ) → digit_value b < 10 → needs_byte default_writer b ≡ false
+bare_digit b h = let k = digit_from_value b h in grind (arith, nat_tests)
+
+pub bare_cons : (b : ℕ) (bytes : List ℕ) → needs_byte default_writer b ≡ false → IsBare bytes → IsBare (b ∷ bytes)
+bare_cons b bytes h k = ap (λ x. x || list_any (needs_byte default_writer) bytes) h ∙ k
+
+pub bare_plain : (name : List ℕ) → IsPlain name → IsBare name
+bare_plain [] h = refl
+bare_plain (b ∷ name) h =
+    let P : ℕ → Type 0 = λ x. IsTrue (is_plain_byte x) in
+    bare_cons b name (bare_byte b (All-head P b name h)) (bare_plain name (All-tail P b name h))
+
+bare_digits : (digits : List ℕ) → AllDigits 10 digits → IsBare digits
+bare_digits [] h = refl
+bare_digits (b ∷ digits) h = bare_cons b digits (bare_digit b h.0) (bare_digits digits h.1)
+
+pub bare_decimal : (n : ℕ) → n < 2 ^ 64 → IsBare (decimal n)
+bare_decimal n h = bare_digits (decimal n) (decimal_is_IsNumeral n h).0.1
+
+small_kind : (kind : Ub) → number_of_kind kind < 2 ^ 64
+small_kind U.Overflow = lit< tt
+small_kind U.ZeroDivisor = lit< tt
+small_kind U.Quotient = lit< tt
+small_kind U.Shift = lit< tt
+small_kind U.Move = lit< tt
+small_kind U.Ended = lit< tt
+small_kind U.Null = lit< tt
+small_kind U.NoCell = lit< tt
+small_kind U.Unset = lit< tt
+small_kind U.Sealed = lit< tt
+small_kind U.Unsequenced = lit< tt
+small_kind U.Unrelated = lit< tt
+small_kind U.NoValue = lit< tt
+
+pub bare_number : (n : ℕ) (bytes text : List ℕ) → bytes ≡ text → text ≡ decimal n → n < 2 ^ 64 → IsBare bytes
+bare_number n bytes text same is h = rw (same, is) (bare_decimal n h)
+
+-- the word for an end, where the name in it is plain
+pub bare_end : (end : End) → IsPlainEnd end → IsBare (end_word end)
+bare_end Returned h = refl
+bare_end Stopped h = refl
+bare_end (Undefined kind) h = bare_decimal (number_of_kind kind) (small_kind kind)
+bare_end (NoInput stub) h = bare_plain stub h
+bare_end Steps h = refl
+bare_end Deep h = refl
+bare_end Cells h = refl
+
+pub bare_field : (field : List ℕ) → IsBare field → field_text default_writer field ≡ field
+bare_field field h = ap (λ b. cond b (quoted default_writer field) field) h
+
+comma_first : (x y z : List ℕ) → (x ++ 44 ∷ y) ++ z ≡ x ++ 44 ∷ (y ++ z)
+comma_first x y z = append_assoc x (44 ∷ y) z
+
+-- a row of bare fields
+pub row_of_bare : (a b c d e : List ℕ) → IsBare a → IsBare b → IsBare c → IsBare d → IsBare e → row_text default_writer (a ∷ b ∷ c ∷ d ∷ e ∷ []) ≡ row a b c d e
+unfolding fields_text is_blank
+row_of_bare a b c d e ha hb hc hd he = rw (bare_field a ha, bare_field b hb, bare_field c hc, bare_field d hd, bare_field e he) (simp (comma_first, append-nil))

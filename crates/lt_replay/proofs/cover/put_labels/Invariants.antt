@@ -1,0 +1,13 @@
+use Rattle.std.proofs.Common.{take}
+use Rattle.std.specs.List.{flat_map}
+use Rattle.std.specs.Io.KnownBytes.{Appends}
+use Rattle.csv.specs.Writing.{text_written}
+use Rattle.lt_replay.specs.Text.{label_line}
+use Rattle.lt_replay.specs.Writers.{IsReady}
+use Rattle.lt_replay.proofs.cover.put_labels.Given as goal
+
+abbrev pub invariant-loop-label : goal.invariant-loop-label
+invariant-loop-label g l = record {
+  ready : IsReady l.writer;
+  text : Appends (text_written g.W.Write.contents l.fn.writer) (text_written g.W.Write.contents l.writer) (flat_map label_line (take l.label-index l.labels));
+}
