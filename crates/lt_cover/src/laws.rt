@@ -23,3 +23,8 @@ pub fn merge_is_commutative()
 pub fn merge_is_idempotent()
     ensures { (a : Table) → IsTable a → IsMerge a a a }
 {}
+
+/// Three tables have one merge, however they are grouped.
+pub fn merge_is_associative()
+    ensures { (a b c m n x : Table) → IsMerge a b m → IsMerge b c n → IsMerge m c x → IsMerge a n x }
+{}
