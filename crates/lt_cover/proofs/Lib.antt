@@ -15,3 +15,5 @@ pub mod Coverings
 pub mod Drafts
 pub mod Follows
 pub mod Fronts
+pub mod Mixed
+pub mod KeyLists

@@ -7,3 +7,4 @@ pub mod Rows
 pub mod Draft
 pub mod Reading
 pub mod Merge
+pub mod Keys

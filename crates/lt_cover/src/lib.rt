@@ -1,6 +1,7 @@
 // Reads, writes and merges coverage files; `specs/Coverage.antt` says what they are.
 #![tactic(auto)]
 
+mod agree;
 mod covering;
 mod draft;
 mod fields;
