@@ -1,6 +1,5 @@
 -- The fields that a writer of rows writes as they are.
-use Rattle.std.proofs.Common.{◌≡◌, ℕ, ◌<◌, ◌^◌, false, cond, List, [], ◌∷◌, ◌++◌, refl, arith, ◌∙◌, ap, append_assoc, lit<}
-use Rattle.std.proofs.lemmas.List.{append-nil}
+use Rattle.std.proofs.Common.{◌≡◌, ℕ, ◌<◌, ◌^◌, false, cond, List, [], ◌∷◌, refl, arith, ◌∙◌, ap}
 use Rattle.std.specs.Prelude.{IsTrue, ◌||◌}
 use Rattle.std.specs.List.{list_any}
 use Rattle.std.specs.Fmt.{decimal}
@@ -10,7 +9,7 @@ use Rattle.std.specs.Char.{digit_value}
 use Rattle.std.specs.Str.Parse.{AllDigits}
 use Rattle.std.proofs.lemmas.Str.Parse.{digit_from_value}
 use Rattle.std.proofs.lemmas.Fmt.{decimal_is_IsNumeral}
-use Rattle.csv.specs.Writing.{default_writer, needs_byte, needs_quotes, field_text, fields_text, quoted, is_blank, row_text}
+use Rattle.csv.specs.Writing.{default_writer, needs_byte, needs_quotes, field_text, quoted}
 use Rattle.lt_model.specs.Plain.{is_plain_byte, IsPlain}
 
 -- no byte of the field calls for quotes

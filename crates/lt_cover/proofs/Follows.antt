@@ -1,11 +1,11 @@
 -- The rows of a table with one row more.
-use Rattle.std.proofs.Common.{◌≡◌, ℕ, ◌+◌, ◌<◌, ◌≤◌, List, [], ◌∷◌, ◌++◌, length, get_or, take, map, refl, sym, ap, subst, ◌∙◌, arith, append_assoc}
+use Rattle.std.proofs.Common.{◌≡◌, ℕ, List, [], ◌∷◌, ◌++◌, get_or, map, refl, sym, ap, subst, ◌∙◌, arith, append_assoc}
 use Rattle.std.specs.Prelude.{All, Contains}
 use Rattle.std.specs.Ordering.{nat_cmp}
 use Rattle.std.specs.Cmp.Lexicographic.{slice_cmp}
 use Rattle.std.specs.List.Sorted.{IsStrictlySortedBy}
 use Rattle.std.proofs.lemmas.List.{append-nil, map-append}
-use Rattle.std.proofs.lemmas.List.Elements.{All-nil, All-cons, All-head, All-tail, All-push, All-append, All-map, All-same, All-weaker}
+use Rattle.std.proofs.lemmas.List.Elements.{All-nil, All-head, All-tail, All-push, All-append, All-map, All-same}
 use Rattle.lt_cover.specs.declared.rows.TestRow.{TestRow}
 use Rattle.lt_cover.specs.declared.rows.LabelRow.{LabelRow}
 use Rattle.lt_cover.specs.declared.rows.HyperRow.{HyperRow}
@@ -14,8 +14,8 @@ use Rattle.lt_cover.specs.declared.rows.Row.TheVariants.{Test, Label, Hyper}
 use Rattle.lt_cover.specs.declared.rows.Version.{Version}
 use Rattle.lt_cover.specs.declared.rows.Version.TheVariants.{One, Two}
 use Rattle.lt_cover.specs.Coverage.Table.{Table, IsTable, IsTestRow, IsLabelRow, IsHyperRow, NamesRise, names_of, label_ids, hyper_ids}
-use Rattle.lt_cover.specs.Coverage.Text.{AreRowsOf, StandFor, MayHold, header, row_fields, rows_in, rows_of, version_word}
-use Rattle.lt_cover.specs.Coverage.Rows.{IsRow, MayFollow, TestMayFollow, LabelMayFollow, added, IsBelowName, IsBelowId}
+use Rattle.lt_cover.specs.Coverage.Text.{AreRowsOf, StandFor, MayHold, header, row_fields, rows_in}
+use Rattle.lt_cover.specs.Coverage.Rows.{IsRow, MayFollow, added}
 use Rattle.lt_cover.proofs.RowFields.{row_inj}
 use Rattle.lt_cover.proofs.Tables.{each_row, tests_in, labels_in, hypers_in, tests_are, labels_are, hypers_are}
 use Rattle.lt_cover.proofs.Rising.{rise_nil, rise_push, rise_back}

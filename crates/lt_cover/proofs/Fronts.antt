@@ -1,12 +1,11 @@
 -- The fronts of a list of rows, and the first row that breaks the grammar.
-use Rattle.std.proofs.Common.{◌≡◌, ℕ, suc, zero, ◌+◌, ◌-◌, ◌^◌, ◌<◌, ◌≤◌, min, List, [], ◌∷◌, ◌++◌, length, get_or, take, refl, sym, ap, subst, ◌∙◌, arith, inl, inr, Bool, true, false}
+use Rattle.std.proofs.Common.{◌≡◌, ℕ, suc, ◌+◌, ◌<◌, ◌≤◌, min, List, [], ◌∷◌, ◌++◌, length, get_or, take, refl, sym, ap, subst, ◌∙◌, arith, inl, inr, Bool, true, false}
 use Rattle.std.proofs.lemmas.Bool.{cases_lt}
-use Rattle.std.proofs.lemmas.List.{take_more, take_all, get_or_default}
-use Rattle.lt_cover.specs.declared.rows.Row.{Row}
+use Rattle.std.proofs.lemmas.List.{take_more, take_all}
 use Rattle.lt_cover.specs.declared.rows.Version.{Version}
 use Rattle.lt_cover.specs.Coverage.Table.{Table}
 use Rattle.lt_cover.specs.Coverage.Text.{AreRowsOf, StandFor, IsFirstBroken, row_number, header, row_fields, rows_of}
-use Rattle.lt_cover.specs.Coverage.Rows.{IsRow, MayFollow, Takes, added}
+use Rattle.lt_cover.specs.Coverage.Rows.{Takes, added}
 use Rattle.lt_cover.proofs.Follows.{grows, only, first_row}
 
 -- each front of up to n rows stands for a table

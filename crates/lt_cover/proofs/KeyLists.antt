@@ -1,11 +1,11 @@
 -- Keys behind references, by their places.
-use Rattle.std.proofs.Common.{◌≡◌, ℕ, ◌+◌, ◌<◌, ◌≤◌, min, List, [], ◌∷◌, ◌++◌, length, get_or, map, take, refl, sym, ap, subst, ◌∙◌, arith, false, Bool}
-use Rattle.std.proofs.lemmas.List.{get_or_default, length-map, take_more, take_all}
+use Rattle.std.proofs.Common.{◌≡◌, ℕ, ◌+◌, ◌<◌, ◌≤◌, min, List, [], ◌∷◌, ◌++◌, length, get_or, map, take, sym, ap, subst, ◌∙◌, arith}
+use Rattle.std.proofs.lemmas.List.{get_or_default, length-map, take_more}
 use Rattle.std.proofs.Math.ListN.{get_or-map}
 use Rattle.lt_cover.specs.declared.agree.Key.{Key}
 use Rattle.lt_cover.specs.Coverage.Merge.{IsLeastMixed}
 use Rattle.lt_cover.specs.Coverage.Keys.{KeysRise, key_of}
-use Rattle.lt_cover.proofs.Mixed.{Keys, mixed_at, mixed_past, other_way}
+use Rattle.lt_cover.proofs.Mixed.{mixed_at, mixed_past, other_way}
 
 abbrev pub none : Key
 none = record { id = 0; tag = record { ref_ptr = (0, 0); now = [] } }

@@ -17,3 +17,7 @@ pub mod Follows
 pub mod Fronts
 pub mod Mixed
 pub mod KeyLists
+pub mod Walks
+pub mod NameWalks
+pub mod TestWalks
+pub mod Merging

@@ -84,12 +84,15 @@ regroup {A} {B} {C} {M} {N} {X} m n x = (λ k. there (x.0 k), λ k. back k)
     split : A ⊎ B → A ⊎ N
     split (inl a) = inl a
     split (inr b) = inr (n.1 (inl b))
+
     there : M ⊎ C → A ⊎ N
     there (inl k) = split (m.0 k)
     there (inr c) = inr (n.1 (inr c))
+
     join : B ⊎ C → X
     join (inl b) = x.1 (inl (m.1 (inr b)))
     join (inr c) = x.1 (inr c)
+
     back : A ⊎ N → X
     back (inl a) = x.1 (inl (m.1 (inl a)))
     back (inr k) = join (n.0 k)

@@ -1,14 +1,13 @@
 -- The least id on which two lists of keys don't agree.
-use Rattle.std.proofs.Common.{◌≡◌, ◌≢◌, ℕ, suc, zero, ◌<◌, ◌≤◌, min, List, [], ◌∷◌, ◌++◌, length, get_or, take, drop, map, refl, sym, ap, subst, ◌∙◌, arith, inl, inr}
+use Rattle.std.proofs.Common.{◌≡◌, ℕ, suc, zero, ◌<◌, ◌≤◌, min, List, [], ◌∷◌, ◌++◌, length, get_or, take, drop, map, refl, sym, ap, subst, ◌∙◌, arith, inl, inr}
 use Rattle.std.specs.Prelude.{All, Contains, ◌⊎◌}
 use Rattle.std.specs.Ordering.{nat_cmp}
 use Rattle.std.specs.declared.cmp.Ordering.TheVariants.{Less}
-use Rattle.std.specs.List.Sorted.{IsStrictlySortedBy}
 use Rattle.std.proofs.lemmas.Bool.{cases_lt}
 use Rattle.std.proofs.lemmas.List.{append-nil, take_all, take-append-drop}
 use Rattle.std.proofs.Math.Seq.{drop-cons}
-use Rattle.std.proofs.lemmas.List.Elements.{All-nil, All-cons, All-head, All-tail, All-contains, Contains-append_left, Contains-append_right, Contains-append_cases}
-use Rattle.lt_cover.specs.Coverage.Merge.{AgreeAt, IsLeastMixed}
+use Rattle.std.proofs.lemmas.List.Elements.{All-nil, All-cons, All-head, All-contains, Contains-append_left, Contains-append_right, Contains-append_cases}
+use Rattle.lt_cover.specs.Coverage.Merge.{IsLeastMixed}
 use Rattle.lt_cover.specs.Coverage.Keys.{KeysRise}
 use Rattle.lt_cover.proofs.Rising.{rise_head, rise_tail}
 use Rattle.lt_cover.proofs.Drafts.{less_lt}
@@ -57,6 +56,7 @@ mixed front xs ys x below left right has misses = record {
     missing : Contains front x ⊎ Contains ys x → ⊥
     missing (inl k) = let h : x.0 < x.0 = All-contains (Below x.0) front x below k in absurd (omega (arith, h))
     missing (inr k) = misses k
+
     over : (us vs : Keys) → All (AtLeast x.0) us → (lesser : ℕ) → lesser < x.0 → (tag : List ℕ) → Contains front (lesser, tag) ⊎ Contains us (lesser, tag) → Contains (front ++ vs) (lesser, tag)
     over us vs each lesser less tag (inl k) = Contains-append_left front vs (lesser, tag) k
     over us vs each lesser less tag (inr k) = let h : x.0 ≤ lesser = All-contains (AtLeast x.0) us (lesser, tag) each k in absurd (omega (arith, h, less))
@@ -87,8 +87,9 @@ lesser_first front x y xs ys h k le differ =
 -- the keys at a place differ, and those before are the same
 pub mixed_heads : (front : Keys) (x y : ℕ × List ℕ) (xs ys : Keys) → KeysRise (front ++ x ∷ xs) → KeysRise (front ++ y ∷ ys) → (x ≡ y → ⊥) → IsLeastMixed (front ++ x ∷ xs) (front ++ y ∷ ys) (min x.0 y.0)
 mixed_heads front x y xs ys h k differ = elim (cases_lt y.0 x.0) [
-    inl less ↦ subst (λ (n : ℕ). IsLeastMixed (front ++ x ∷ xs) (front ++ y ∷ ys) n) {x = y.0} {y = min x.0 y.0} (omega arith) (other_way (front ++ y ∷ ys) (front ++ x ∷ xs) y.0 (lesser_first front y x ys xs k h (omega arith) differ))
-  | inr more ↦ subst (λ (n : ℕ). IsLeastMixed (front ++ x ∷ xs) (front ++ y ∷ ys) n) {x = x.0} {y = min x.0 y.0} (omega arith) (lesser_first front x y xs ys h k more (λ e. differ (sym e))) ]
+  | inl less ↦ subst (λ (n : ℕ). IsLeastMixed (front ++ x ∷ xs) (front ++ y ∷ ys) n) {x = y.0} {y = min x.0 y.0} (omega arith) (other_way (front ++ y ∷ ys) (front ++ x ∷ xs) y.0 (lesser_first front y x ys xs k h (omega arith) differ))
+  | inr more ↦ subst (λ (n : ℕ). IsLeastMixed (front ++ x ∷ xs) (front ++ y ∷ ys) n) {x = x.0} {y = min x.0 y.0} (omega arith) (lesser_first front x y xs ys h k more (λ e. differ (sym e)))
+]
 
 split_at : (a : Keys) (i : ℕ) (x : ℕ × List ℕ) → i < length a → x ≡ get_or a i x → a ≡ take i a ++ x ∷ drop (suc i) a
 split_at a i x within is = sym (take-append-drop i a) ∙ ap (λ z. take i a ++ z) (drop-cons a i x within ∙ ap (λ z. z ∷ drop (suc i) a) (sym is))

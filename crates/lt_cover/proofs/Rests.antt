@@ -1,16 +1,15 @@
 -- What the bytes of a text do to the rows of its rest.
-use Rattle.std.proofs.Common.{suc, ◌+◌, ◌≡◌, ◌≢◌, ℕ, ◌≤◌, ◌<◌, ◌-◌, Bool, true, false, cond, List, [], ◌∷◌, ◌++◌, length, get_or, drop, take, Option, Some, None, refl, sym, ap, subst, ◌∙◌, arith, eqb, append_assoc}
+use Rattle.std.proofs.Common.{suc, ◌+◌, ◌≡◌, ℕ, ◌≤◌, ◌<◌, ◌-◌, Bool, true, false, cond, List, [], ◌∷◌, ◌++◌, length, get_or, drop, take, Option, Some, None, refl, sym, ap, subst, ◌∙◌, arith}
 use Rattle.std.proofs.Math.Seq.{drop-cons}
 use Rattle.std.proofs.Math.ListN.{drop_of_length-le}
-use Rattle.std.specs.Prelude.{◌&&◌, MatchOption}
-use Rattle.std.proofs.lemmas.List.{append-nil, take_all}
+use Rattle.std.specs.Prelude.{MatchOption}
+use Rattle.std.proofs.lemmas.List.{take_all}
 use Rattle.std.proofs.lemmas.Bool.Decides.{nat_tests}
 use Rattle.csv.specs.Machine.{Read, next_record, step, ends_at_end, is_end, fields_after, field_after}
 use Rattle.csv.specs.Reading.{AreRecords, Reached, default_config, strip_bom, is_bom}
 use Rattle.csv.specs.declared.parser.State.{State}
 use Rattle.csv.specs.declared.parser.State.TheVariants as st
 use Rattle.csv.specs.declared.parser.Action.{Action}
-use Rattle.csv.specs.declared.parser.Action.TheVariants as act
 use Rattle.lt_cover.specs.declared.records.Position.{Position}
 use Rattle.lt_cover.specs.declared.records.Position.TheVariants.{RowStart}
 use Rattle.lt_cover.specs.Coverage.Text.{HasRows}

@@ -15,10 +15,7 @@ pub struct Key<'a> {
 }
 
 /// The ids of labels with their tags.
-pub fn keys_of_labels<'a>(
-    alloc: Global,
-    labels: &'a [LabelRow],
-) -> Result<Vec<Key<'a>>, AllocError>
+pub fn keys_of_labels<'a>(alloc: Global, labels: &'a [LabelRow]) -> Result<Vec<Key<'a>>, AllocError>
     ensures { IfOk result (λ v. map key_of v.items ≡ label_keys labels.now) }
 {
     let mut keys = Vec::new(alloc);
@@ -32,10 +29,7 @@ pub fn keys_of_labels<'a>(
 }
 
 /// The ids of hyperlabels with their tags.
-pub fn keys_of_hypers<'a>(
-    alloc: Global,
-    hypers: &'a [HyperRow],
-) -> Result<Vec<Key<'a>>, AllocError>
+pub fn keys_of_hypers<'a>(alloc: Global, hypers: &'a [HyperRow]) -> Result<Vec<Key<'a>>, AllocError>
     ensures { IfOk result (λ v. map key_of v.items ≡ hyper_keys hypers.now) }
 {
     let mut keys = Vec::new(alloc);

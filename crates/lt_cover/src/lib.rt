@@ -2,19 +2,23 @@
 #![tactic(auto)]
 
 mod agree;
+mod combine;
 mod covering;
 mod draft;
 mod fields;
 mod laws;
 mod names;
+mod outcomes;
 mod read;
 mod records;
 mod rows;
 mod stops;
+mod union;
 mod values;
 mod words;
 mod write;
 
+pub use combine::merge;
 pub use laws::{
     a_text_stands_for_one_table, merge_is_associative, merge_is_commutative, merge_is_idempotent,
     what_is_written_is_read,

@@ -95,21 +95,24 @@ impl Coverage {
 
     /// How each test is over, in byte order of the names.
     pub fn tests(&self) -> &[TestRow]
-        ensures { result.now ≡ self.now.tests }
+        ensures rows { result.now ≡ self.now.tests }
+        ensures table { IsTable self.now }
     {
         self.tests.as_slice()
     }
 
     /// The labels, in the order of their ids.
     pub fn labels(&self) -> &[LabelRow]
-        ensures { result.now ≡ self.now.labels }
+        ensures rows { result.now ≡ self.now.labels }
+        ensures table { IsTable self.now }
     {
         self.labels.as_slice()
     }
 
     /// The hyperlabels, in the order of their ids.
     pub fn hypers(&self) -> &[HyperRow]
-        ensures { result.now ≡ self.now.hypers }
+        ensures rows { result.now ≡ self.now.hypers }
+        ensures table { IsTable self.now }
     {
         self.hypers.as_slice()
     }

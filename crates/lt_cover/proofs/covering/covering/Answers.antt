@@ -1,4 +1,4 @@
-use Rattle.std.proofs.Common.{rules, refl, ◌≡◌, ℕ, List, Bor, map, eqb, ap, sym, subst, ◌∙◌}
+use Rattle.std.proofs.Common.{rules, refl, ◌≡◌, map, eqb, ap, sym, subst, ◌∙◌}
 use Rattle.std.specs.Prelude.{All}
 use Rattle.std.specs.List.{slice_split}
 use Rattle.std.proofs.lemmas.Bool.{false≢true}

@@ -1,11 +1,10 @@
-use Rattle.std.proofs.Common.{◌≡◌, ◌∷◌, [], refl, sym, subst, ap, ◌∙◌, true, false, ◌+◌, min}
-use Rattle.lt_cover.specs.declared.rows.Version.{Version}
+use Rattle.std.proofs.Common.{◌∷◌, [], refl, sym, subst, ap, ◌∙◌, true, false, ◌+◌, min}
 use Rattle.lt_cover.specs.Coverage.Table.{Table}
 use Rattle.lt_cover.specs.Coverage.Text.{AreRowsOf, header, row_number}
 use Rattle.lt_cover.specs.Coverage.Rows.{Takes}
 use Rattle.lt_cover.specs.Coverage.Draft.{table_of}
 use Rattle.lt_cover.proofs.Follows.{first_row}
-use Rattle.lt_cover.proofs.Fronts.{taken_as, front_grown, each_grown, first_broken, number_more, front_all, first_each}
+use Rattle.lt_cover.proofs.Fronts.{taken_as, front_grown, each_grown, first_broken, number_more, first_each}
 use Rattle.lt_cover.proofs.read.read_behind.Goals as goal
 
 pub loop-fields-init : goal.loop-fields-init

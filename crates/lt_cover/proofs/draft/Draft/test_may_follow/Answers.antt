@@ -1,4 +1,4 @@
-use Rattle.std.proofs.Common.{refl, sym}
+use Rattle.std.proofs.Common.{sym}
 use Rattle.std.proofs.lemmas.Bool.{false≢true}
 use Rattle.lt_cover.proofs.Drafts.{nil_if, not_nil, above_as}
 use Rattle.lt_cover.proofs.draft.Draft.test_may_follow.Goals as goal

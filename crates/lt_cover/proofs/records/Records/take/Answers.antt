@@ -1,4 +1,4 @@
-use Rattle.std.proofs.Common.{◌∙◌, ap, ◌++◌, ◌∷◌, [], refl, append_assoc}
+use Rattle.std.proofs.Common.{◌∙◌, ap, ◌++◌, ◌∷◌, [], append_assoc}
 use Rattle.lt_cover.specs.Coverage.Records.{state_of}
 use Rattle.lt_cover.proofs.Rests.{nothing_done, field_joined, field_ended, row_ended}
 use Rattle.lt_cover.proofs.records.Records.take.Goals as goal
