@@ -7,23 +7,37 @@ use Rattle.lt_tree.specs.declared.typed.program.Program.{Program}
 use Rattle.lt_tree.specs.Tree as c
 use Rattle.lt_tree.specs.UnitView.{unit_of}
 use Rattle.lt_tree.specs.Typing.Types.{CType}
-use Rattle.lt_tree.specs.Typing.TypeRows.{types_of_rows}
+use Rattle.lt_tree.specs.Typing.TypeRows.{types_of_rows, Continues}
 use Rattle.lt_tree.specs.Typing.Entities.{Known, no_names, at_start}
 use Rattle.lt_tree.specs.Typing.EntityView.{structs_of, object_of, declared_of, function_of, label_of, fact_of}
-use Rattle.lt_tree.specs.Typing.Programs.{typed}
+use Rattle.lt_tree.specs.Typing.Steps.{Goes}
+use Rattle.lt_tree.specs.Typing.Programs.{typed, program_of}
 use Rattle.lt_tree.specs.Typing.UnitTyping.{typing, answer, externals, defined_in}
 use Rattle.lt_env.specs.NamesValue.{NamesValue, NameFrameValue, frame_at, frames_at}
 use Rattle.lt_env.specs.declared.walker.Walker.{Walker}
 use Rattle.lt_env.specs.declared.stop.TypeStop.{TypeStop}
 use Rattle.lt_env.specs.declared.stop.TypeStop.TheVariants.{Broken, NoMemory}
 use Rattle.lt_env.specs.Going.{Gives, done, types_in, known_of}
-use Rattle.lt_env.proofs.Goings.{as_long}
+use Rattle.lt_env.proofs.Goings.{as_long, same_known}
+use Rattle.lt_ranges.proofs.RangedUnits.{programs_are_in_range}
 use Rattle.lt_unit.specs.Elaborated.{Elaborated}
-use Rattle.lt_unit.specs.Programs.{IsProgram}
+use Rattle.lt_unit.specs.Programs.{IsProgram, KnowsInRange}
+use Rattle.lt_unit.proofs.ProgramRanges.{knows}
 
 typing_is : (model : DataModel) (unit : c.Unit) → typing model unit ≡ answer unit (externals unit (at_start model (filter_map defined_in unit)))
 unfolding typing
 typing_is model unit = refl
+
+-- what is known behind a whole unit
+pub knows_in_range : (model : DataModel) (unit : SourceUnit) (before after : Walker) (u : Unit {0})
+    → ((types : List CType) → known_of types before ≡ at_start model (filter_map defined_in (unit_of unit)))
+    → Gives done before after (Ok u) (λ types. externals (unit_of unit)) → KnowsInRange after unit
+knows_in_range model unit before after u start g =
+    let ends : (types : List CType) → Continues (types_in after) types → externals (unit_of unit) (at_start model (filter_map defined_in (unit_of unit))) ≡ Goes tt (known_of types after) =
+    λ types more. ap (externals (unit_of unit)) (sym (start types)) ∙ g.ends.at types more in
+    let here = ends (types_in after) (as_long (types_in after)) in
+    knows after unit (λ types more. same_known (sym (ends types more) ∙ here))
+    (programs_are_in_range model (unit_of unit) (program_of (unit_of unit) (known_of (types_in after) after)) (typing_is model (unit_of unit) ∙ ap (answer (unit_of unit)) here))
 
 pub elaborated : (model : DataModel) (unit : SourceUnit) (before after : Walker) (r : Result Program TypeStop) (u : Unit {0})
     → ((types : List CType) → known_of types before ≡ at_start model (filter_map defined_in (unit_of unit)))

@@ -7,6 +7,7 @@ pub mod SwitchOperands
 pub mod Changed
 pub mod Declarations
 pub mod Units
+pub mod ProgramRanges
 pub mod Elaborations
 pub mod FillingWalks
 pub mod LeftLists

@@ -7,6 +7,7 @@ use Rattle.std.proofs.lemmas.Option.{slice_get_within, get_or_from_slice_get}
 use Rattle.lt_tree.specs.declared.typed.types.TypeId.{TypeId}
 use Rattle.lt_tree.specs.Typing.Types.{CType, Void, same}
 use Rattle.lt_tree.specs.Typing.TypeRows.{type_in}
+use Rattle.lt_tree.specs.Typing.TypeIds.{AreBelow}
 use Rattle.lt_tree.specs.Typing.Programs.{made_of, with_new}
 use Rattle.lt_table.proofs.TableRows.{continues_same}
 use Rattle.lt_table.proofs.TableSame.{same_exact, same_self}
@@ -25,6 +26,11 @@ both_ok (Ok a) f p q = f p q
 both_ok (Err e) f p q = tt
 
 -- ---- a type that isn't listed
+
+-- ids with rows, and one more
+below_last : (n : ℕ) (ids : List TypeId) (t : TypeId) → AreBelow n ids → t.place < n → AreBelow n (ids ++ t ∷ [])
+below_last n [] t h below = (below, tt)
+below_last n (id ∷ ids) t h below = (h.0, below_last n ids t h.1 below)
 
 set_one : (xs : List Bool) (j k : ℕ) (b : Bool) → slice_get (slice_set xs j true) k ≡ Some b → ((k ≡ j) × (b ≡ true)) ⊎ ((k ≢ j) × (slice_get xs k ≡ Some b))
 set_one [] j k b at = absurd (true≢false (sym (ap is_some at)))
@@ -89,8 +95,12 @@ module _ (types : TypesByPlace) (old new : Listed) (t : TypeId) (known : AreByPl
       ]
       ∙ sym (any_last (type_in (types_at types) u) (listed_in (types_at types) old) (type_in (types_at types) t)) ∙ ap (list_any (same (type_in (types_at types) u))) (sym shown)
 
+  stands : t.place < length types.rows.items
+  stands = omega (arith, marked.within, slice_get_within old.is_listed.items t.place false at)
+
   pub is_marked : AreMarked types new
   is_marked = record {
+    rows = subst (AreBelow (length types.rows.items)) (sym ids) (below_last (length types.rows.items) old.ids.items t marked.rows stands);
     within = ap length flags ∙ length_set old.is_listed.items t.place true ∙ marked.within;
     marks = λ u b is. its_mark u b (subst (λ l. slice_get l u.place ≡ Some b) flags is);
   }
@@ -150,6 +160,7 @@ flag_false n k b at =
 pub none_listed : (types : TypesByPlace) (it : Listed) → it.ids.items ≡ [] → it.is_listed.items ≡ replicate (length types.rows.items) false → IsListing types it
 none_listed types it ids flags = record {
   marked = record {
+    rows = subst (AreBelow (length types.rows.items)) (sym ids) tt;
     within = ap length flags ∙ length-replicate (length types.rows.items) false;
     marks = λ t b at. flag_false (length types.rows.items) t.place b (subst (λ l. slice_get l t.place ≡ Some b) flags at) ∙ ap (λ l. list_any (same (type_in (types_at types) t)) (map (type_in (types_at types)) l)) (sym ids);
   };

@@ -5,6 +5,7 @@ use Rattle.lt_tree.specs.declared.typed.types.TypeId.{TypeId}
 use Rattle.lt_tree.specs.declared.typed.types.TypeRow.{TypeRow}
 use Rattle.lt_tree.specs.Typing.Types.{CType, Pointer, Array, Function, Qualified, same}
 use Rattle.lt_tree.specs.Typing.TypeRows.{type_in, types_of_rows}
+use Rattle.lt_tree.specs.Typing.TypeIds.{AreBelow}
 use Rattle.lt_tree.specs.Typing.Programs.{with_new}
 use Rattle.lt_table.specs.TableBare.{AreBare}
 use Rattle.lt_unit.specs.MadeOf.{IsClosed}
@@ -23,8 +24,9 @@ types_at types = types_of_rows types.rows.items
 abbrev pub listed_in : List CType → Listed → List CType
 listed_in types it = map (type_in types) it.ids.items
 
--- the flag of a place says whether its type is listed
+-- What is listed has rows, and the flag of a place says whether its type is listed.
 pub record AreMarked (types : TypesByPlace) (it : Listed) : Type 0 where
+  pub rows : AreBelow (length types.rows.items) it.ids.items
   pub within : length it.is_listed.items ≡ length types.rows.items
   pub marks : (t : TypeId) (b : Bool) → slice_get it.is_listed.items t.place ≡ Some b → b ≡ list_any (same (type_in (types_at types) t)) (listed_in (types_at types) it)
 

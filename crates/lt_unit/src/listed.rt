@@ -4,6 +4,7 @@ ghost use Rattle.std.specs.Prelude.{◌≡◌, [], length, map, IfOk, OnOk};
 ghost use Rattle.std.specs.List.{flat_map};
 ghost use Rattle.lt_tree.specs.Typing.TypeRows.{type_in};
 ghost use Rattle.lt_tree.specs.Typing.EntityView.{member_of, struct_of, structs_of, object_of, declared_of, fact_of};
+ghost use Rattle.lt_tree.specs.Typing.TypeIds.{AreBelow};
 ghost use Rattle.lt_tree.specs.Typing.Programs.{made_of, types_of_struct, with_new};
 ghost use Rattle.lt_unit.specs.Listing.{AreByPlace, IsListing, ListsMore, types_at, listed_in};
 ghost use Rattle.lt_unit.specs.ListedTypes.{types_in_all};
@@ -13,7 +14,7 @@ use lt_tree::typed::{Declared, Fact, Member, Object, StructType, TypeId};
 use std::alloc::{AllocError, Global};
 
 /// The types of members, of objects, of functions and of expressions, in this order, each once, without qualifiers and behind those of which it is
-/// made.
+/// made. Each has a row.
 pub fn listed_types(
     alloc: Global,
     types: &TypesByPlace,
@@ -23,7 +24,8 @@ pub fn listed_types(
     facts: &[Fact],
 ) -> Result<Vec<TypeId>, AllocError>
     requires { AreByPlace types.now }
-    ensures { IfOk result (λ ids. map (type_in (types_at types.now)) ids.items ≡ with_new [] (types_in_all (types_at types.now) structs.now objects.now declared.now facts.now)) }
+    ensures listed { IfOk result (λ ids. map (type_in (types_at types.now)) ids.items ≡ with_new [] (types_in_all (types_at types.now) structs.now objects.now declared.now facts.now)) }
+    ensures rows { IfOk result (λ ids. AreBelow (length types.now.rows.items) ids.items) }
 {
     let mut listed = none(alloc, types)?;
     list_structs(types, &mut listed, structs)?;

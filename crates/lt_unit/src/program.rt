@@ -7,7 +7,7 @@ ghost use Rattle.lt_table.specs.TableRows.{Grows};
 ghost use Rattle.lt_env.specs.declared.stop.TypeStop.TheVariants.{NoMemory};
 ghost use Rattle.lt_env.specs.Going.{known_of};
 ghost use Rattle.lt_unit.specs.Listing.{AreByPlace};
-ghost use Rattle.lt_unit.specs.Programs.{IsProgram};
+ghost use Rattle.lt_unit.specs.Programs.{IsProgram, KnowsInRange};
 
 use crate::listed::listed_types;
 use crate::listing::TypesByPlace;
@@ -63,6 +63,7 @@ fn parts_of(types: Types) -> Result<Parts, AllocError>
 
 /// The program of a unit, of what is known at its end.
 pub fn program(walker: Walker, unit: &Unit) -> Result<Program<'_>, TypeStop>
+    requires { KnowsInRange walker unit.now }
     ensures { IsProgram walker unit.now result }
 {
     let alloc = walker.types.alloc();
