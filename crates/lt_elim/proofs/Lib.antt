@@ -1,3 +1,5 @@
 pub mod Paths
 pub mod Walks
 pub mod Keeping
+pub mod Edges
+pub mod Differences

@@ -5,23 +5,24 @@ use Rattle.lt_lin.specs.declared.row.Row.{Row}
 use Rattle.lt_lin.specs.Terms.{Term, factor}
 use Rattle.lt_elim.specs.Divisor.{gcd_of, content, quotient, passes}
 
--- the row with its factors and its constant divided by d, the constant rounded down
+-- the row with its factors and its constant divided by d, the constant rounded down; by 0 it stays as it is
 abbrev pub divided : ℕ → Row → Row
-divided d r = record { terms = map (λ t. (t.0, quotient t.1 d)) r.terms; constant = quotient r.constant d }
+divided zero r = r
+divided (suc d) r = record { terms = map (λ t. (t.0, quotient t.1 (suc d))) r.terms; constant = quotient r.constant (suc d) }
 
 -- The factors are divided by their greatest common divisor, and the constant as well, rounded down. A row without
 -- variables stays as it is.
 abbrev pub normalised : Row → Row
-normalised r = by_content (content r.terms)
-  where
-    by_content : ℕ → Row
-    by_content zero = r
-    by_content (suc d) = divided (suc d) r
+normalised r = divided (content r.terms) r
+
+-- the terms and one more, unless its factor is 0
+abbrev pub with_term : List Term → ℕ → ℤ → List Term
+with_term ts x c = if int_eq c (pos 0) then ts else ts ++ (x, c) ∷ []
 
 -- the terms of the variables below n that have a factor other than 0
 abbrev pub terms_below : ℕ → (ℕ → ℤ) → List Term
 terms_below zero factors = []
-terms_below (suc n) factors = terms_below n factors ++ (if int_eq (factors n) (pos 0) then [] else (n, factors n) ∷ [])
+terms_below (suc n) factors = with_term (terms_below n factors) n (factors n)
 
 -- Two numbers of no common divisor by which the rows are multiplied, so that their sum has no v: `raising` has a
 -- positive factor of v, `lowering` a negative one.
@@ -29,11 +30,12 @@ pub record Multipliers : Type 0 where
   pub of_raising : ℤ
   pub of_lowering : ℤ
 
+-- for factors of the sizes a and b
+abbrev pub multipliers_of : ℕ → ℕ → Multipliers
+multipliers_of a b = record { of_raising = pos (b / gcd_of a b); of_lowering = pos (a / gcd_of a b) }
+
 abbrev pub multipliers : ℕ → Row → Row → Multipliers
-multipliers v raising lowering = apart (unsigned_abs (factor v raising.terms)) (unsigned_abs (factor v lowering.terms))
-  where
-    apart : ℕ → ℕ → Multipliers
-    apart a b = record { of_raising = pos (b / gcd_of a b); of_lowering = pos (a / gcd_of a b) }
+multipliers v raising lowering = multipliers_of (unsigned_abs (factor v raising.terms)) (unsigned_abs (factor v lowering.terms))
 
 -- the sum of the products of one part of the two rows: of the factors of a variable, or of the constants
 abbrev pub sum_of : Multipliers → ℤ → ℤ → ℤ
