@@ -5,7 +5,7 @@ use Rattle.std.specs.Ordering.{int_eq}
 use Rattle.std.specs.List.{filter}
 use Rattle.std.proofs.lemmas.Int.{ints}
 use Rattle.std.proofs.lemmas.Bool.{and_parts}
-use Rattle.std.proofs.lemmas.Bool.Decides.{Decides-int_eq}
+use Rattle.std.proofs.lemmas.Bool.Decides.{eqb_tells, Decides-int_eq}
 use Rattle.lt_lin.specs.declared.row.Row.{Row}
 use Rattle.lt_lin.specs.Terms.{Term, IsOrdered, IsOrderedFrom, factor}
 use Rattle.lt_elim.specs.Combination.{normalised, combination}
@@ -14,7 +14,7 @@ use Rattle.lt_elim.specs.Difference.{is_unit, is_difference, are_differences}
 use Rattle.lt_elim.specs.Decision.{variables, variables_in}
 use Rattle.lt_elim.proofs.Walks.{IsStage, Eliminates, next_stage, first_stage, IsSized, steps, stage_sized}
 use Rattle.lt_elim.proofs.Keeping.{In, in_filter, filter_in, constant_terms, terms_constant, Has, Different, NoneLike, one_of, Offered, offered_of, combinations, combined_all, in_combinations, combinations_in}
-use Rattle.lt_elim.proofs.Edges.{mark, IsLike, like_terms, like_same_terms, like_none, same_ends, none_like, Touch, starts, stops, leaves, touch, like_normal, combination_sum, combination_like}
+use Rattle.lt_elim.proofs.Edges.{mark, mark_own, mark_other, IsLike, like_terms, like_same_terms, like_none, same_ends, none_like, Touch, starts, stops, leaves, touch, like_normal, combination_sum, combination_like}
 
 -- a row among the rows that is an edge of the weight c
 abbrev pub HasEdge : List Row → ℕ → ℕ → ℤ → Type 0
@@ -293,3 +293,140 @@ kept_next edge n v rows next h k e =
       different = o.different (different_filter (λ r. int_eq (factor v r.terms) (pos 0)) rows k.different);
       stage = next_stage edge (HasEdge rows) (HasEdge next) n v h k.stage (eliminates v rows next k.edges k.different o);
     }
+
+-- ---- the system's own rows
+unit_cases : (z : ℤ) → (unsigned_abs z == 1) ≡ true → (z ≡ pos 1) ⊎ (z ≡ negsuc 0)
+unit_cases (pos n) e = let k : n ≡ 1 = grind arith in inl (ap pos k)
+unit_cases (negsuc n) e = let k : suc n ≡ 1 = grind arith in let l : n ≡ 0 = omega arith in inr (ap negsuc l)
+
+-- what the factor of a term adds at the variable x
+own_factor : (x y : ℕ) (c : ℤ) → ((mark x (suc y) ≡ pos 1) × ((if x == y then c else pos 0) ≡ c)) ⊎ ((mark x (suc y) ≡ pos 0) × ((if x == y then c else pos 0) ≡ pos 0))
+own_factor x y c = elim (eqb_tells x y) [
+  | inl e ↦ inl (ap (λ (z : ℕ). mark x (suc z)) (sym e.1) ∙ mark_own x, ap (λ (b : Bool). if b then c else pos 0) e.0)
+  | inr e ↦ inr (mark_other x (suc y) (λ k. let o : x ≡ y → ⊥ = e.1 in omega arith), ap (λ (b : Bool). if b then c else pos 0) e.0)
+]
+
+one_factor : (x y : ℕ) (c : ℤ) → c ≡ pos 1 → (if x == y then c else pos 0) ≡ mark x (suc y)
+one_factor x y c e = elim (own_factor x y c) [ inl h ↦ h.1 ∙ e ∙ sym h.0 | inr h ↦ h.1 ∙ sym h.0 ]
+
+minus_factor : (x y : ℕ) (c : ℤ) → c ≡ negsuc 0 → (if x == y then c else pos 0) ≡ neg_ℤ (mark x (suc y))
+minus_factor x y c e = elim (own_factor x y c) [ inl h ↦ h.1 ∙ e ∙ ap neg_ℤ (sym h.0) | inr h ↦ h.1 ∙ ap neg_ℤ (sym h.0) ]
+
+record LikeUpTo (r : Row) (n : ℕ) : Type 0 where
+  start : ℕ
+  end : ℕ
+  like : IsLike r start end
+  start_upto : start ≤ n
+  end_upto : end ≤ n
+
+abbrev of_terms : List Term → ℤ → Row
+of_terms ts c = record { terms = ts; constant = c }
+
+difference_like : (ts : List Term) (c : ℤ) → IsOrdered ts → is_difference ts ≡ true → LikeUpTo (of_terms ts c) (variables_in ts)
+difference_like [] c o d = record { start = 0; end = 0; like = record { ordered = tt; factors = λ x. nothing (mark x 0) }; start_upto = omega arith; end_upto = omega arith }
+  where
+    nothing : (z : ℤ) → pos 0 ≡ z -ℤ z
+    nothing z = omega (arith, ints)
+difference_like (t ∷ []) c o d = elim (unit_cases t.1 d) [
+  | inl e ↦ record { start = suc t.0; end = 0; like = record { ordered = o; factors = λ x. plus (if x == t.0 then t.1 else pos 0) (mark x (suc t.0)) (mark x 0) (one_factor x t.0 t.1 e) (mark_other x 0 (λ q. cc)) }; start_upto = omega arith; end_upto = omega arith }
+  | inr e ↦ record { start = 0; end = suc t.0; like = record { ordered = o; factors = λ x. minus (if x == t.0 then t.1 else pos 0) (mark x (suc t.0)) (mark x 0) (minus_factor x t.0 t.1 e) (mark_other x 0 (λ q. cc)) }; start_upto = omega arith; end_upto = omega arith }
+]
+  where
+    plus : (a b z : ℤ) → a ≡ b → z ≡ pos 0 → a +ℤ pos 0 ≡ b -ℤ z
+    plus a b z e f = omega (arith, ints)
+
+    minus : (a b z : ℤ) → a ≡ neg_ℤ b → z ≡ pos 0 → a +ℤ pos 0 ≡ z -ℤ b
+    minus a b z e f = omega (arith, ints)
+difference_like (s ∷ t ∷ []) c o d =
+    let first = and_parts (is_unit s && is_unit t) (int_eq (s.1 +ℤ t.1) (pos 0)) d in
+    let both = and_parts (is_unit s) (is_unit t) first.0 in
+    let sum : s.1 +ℤ t.1 ≡ pos 0 = zero_from_test (s.1 +ℤ t.1) first.1 in
+    elim (unit_cases s.1 both.0) [
+      | inl e ↦ record { start = suc s.0; end = suc t.0; like = record { ordered = o; factors = λ x. down (if x == s.0 then s.1 else pos 0) (if x == t.0 then t.1 else pos 0) (mark x (suc s.0)) (mark x (suc t.0)) (one_factor x s.0 s.1 e) (minus_factor x t.0 t.1 (other s.1 t.1 sum e)) }; start_upto = omega arith; end_upto = omega arith }
+      | inr e ↦ record { start = suc t.0; end = suc s.0; like = record { ordered = o; factors = λ x. up (if x == s.0 then s.1 else pos 0) (if x == t.0 then t.1 else pos 0) (mark x (suc s.0)) (mark x (suc t.0)) (minus_factor x s.0 s.1 e) (one_factor x t.0 t.1 (other' s.1 t.1 sum e)) }; start_upto = omega arith; end_upto = omega arith }
+    ]
+  where
+    other : (a b : ℤ) → a +ℤ b ≡ pos 0 → a ≡ pos 1 → b ≡ negsuc 0
+    other a b e f = omega (arith, ints)
+
+    other' : (a b : ℤ) → a +ℤ b ≡ pos 0 → a ≡ negsuc 0 → b ≡ pos 1
+    other' a b e f = omega (arith, ints)
+
+    down : (a b m n : ℤ) → a ≡ m → b ≡ neg_ℤ n → a +ℤ (b +ℤ pos 0) ≡ m -ℤ n
+    down a b m n e f = omega (arith, ints)
+
+    up : (a b m n : ℤ) → a ≡ neg_ℤ m → b ≡ n → a +ℤ (b +ℤ pos 0) ≡ n -ℤ m
+    up a b m n e f = omega (arith, ints)
+difference_like (s ∷ t ∷ u ∷ ts) c o d = absurd (cc)
+
+row_like : (rows : List Row) → ((r : Row) → In r rows → IsOrdered r.terms) → are_differences rows ≡ true → (r : Row) → In r rows → LikeUpTo r (variables rows)
+row_like [] o d r h = absurd h
+row_like (q ∷ qs) o d r (inl e) =
+    let both = and_parts (is_difference q.terms) (are_differences qs) d in
+    let l = difference_like q.terms q.constant (o q (inl refl)) both.0 in
+    subst (λ (z : Row). LikeUpTo z (variables (q ∷ qs))) e (record {
+      start = l.start; end = l.end; like = l.like; start_upto = omega (arith, l.start_upto); end_upto = omega (arith, l.end_upto);
+    })
+row_like (q ∷ qs) o d r (inr h) =
+    let both = and_parts (is_difference q.terms) (are_differences qs) d in
+    let l = row_like qs (λ x k. o x (inr k)) both.1 r h in
+    record { start = l.start; end = l.end; like = l.like; start_upto = omega (arith, l.start_upto); end_upto = omega (arith, l.end_upto) }
+
+pub kept_first : (rows kept : List Row) (last : ℕ) → ((r : Row) → In r rows → IsOrdered r.terms) → are_differences rows ≡ true → keep_all false last [] rows ≡ keeps kept → IsKept (HasEdge rows) (variables rows) (variables rows) kept
+kept_first rows kept last ordered d e = record {
+  edges = edges;
+  different = o.different tt;
+  stage = first_stage (HasEdge rows) (HasEdge kept) (variables rows) ends from one lightest;
+}
+  where
+    o : Offered [] rows kept
+    o = offered_of last [] rows kept e
+
+    like : (r : Row) → In r rows → LikeUpTo r (variables rows)
+    like r h = row_like rows ordered d r h
+
+    own : (q : Row) → In q kept → In q rows × (is_constant q ≡ false)
+    own q h = by_from (o.from q h)
+      where
+        by_from : In q [] ⊎ ((r : Row) × In r rows × (q ≡ normalised r) × (is_constant q ≡ false)) → In q rows × (is_constant q ≡ false)
+        by_from (inl x) = absurd x
+        by_from (inr x) =
+            let l = like x.0 x.1 in
+            let is : q ≡ x.0 = x.2 ∙ like_normal x.0 l.start l.end l.like in
+            (subst (λ (z : Row). In z rows) (sym is) x.1, x.3)
+
+    edges : AreEdges (variables rows) kept
+    edges q h =
+        let w = own q h in
+        let l = like q w.0 in
+        (l.start, l.end, l.like, (λ k. let t : is_constant q ≡ true = terms_constant q (like_none q l.end (subst (λ (z : ℕ). IsLike q z l.end) k l.like)) in let f : is_constant q ≡ false = w.1 in absurd (cc)), l.start_upto, l.end_upto)
+
+    ends : (i j : ℕ) (c : ℤ) → HasEdge rows i j c → (i ≤ variables rows) × (j ≤ variables rows) × (i ≡ j → ⊥)
+    ends i j c h =
+        let l = like h.0 h.1 in
+        let s = same_ends h.0 i j l.start l.end h.2 l.like h.3 in
+        (subst (λ (z : ℕ). z ≤ variables rows) (sym s.0) l.start_upto, subst (λ (z : ℕ). z ≤ variables rows) (sym s.1) l.end_upto, h.3)
+
+    from : (i j : ℕ) (c : ℤ) → HasEdge kept i j c → HasEdge rows i j c
+    from i j c h = (h.0, (own h.0 h.1).0, h.2, h.3, h.4)
+
+    one : (i j : ℕ) (c d : ℤ) → HasEdge kept i j c → HasEdge kept i j d → c ≡ d
+    one i j c d h k =
+        let is : h.0 ≡ k.0 = one_of kept h.0 k.0 (o.different tt) h.1 k.1 (like_same_terms h.0 k.0 i j h.2 k.2) in
+        sym h.4 ∙ ap (λ (z : Row). z.constant) is ∙ k.4
+
+    lightest : (i j : ℕ) (c : ℤ) → HasEdge rows i j c → (b : ℤ) × HasEdge kept i j b × (b ≤ℤ c)
+    lightest i j c h = by_new (o.new h.0 h.1)
+      where
+        normal : normalised h.0 ≡ h.0
+        normal = like_normal h.0 i j h.2
+
+        by_new : ((is_constant (normalised h.0) ≡ true) × (pos 0 ≤ℤ (normalised h.0).constant)) ⊎ Has kept (normalised h.0).terms (normalised h.0).constant → (b : ℤ) × HasEdge kept i j b × (b ≤ℤ c)
+        by_new (inl x) = absurd (none_like h.0 i j h.2 h.3 (constant_terms h.0 (subst (λ (z : Row). is_constant z ≡ true) normal x.0)))
+        by_new (inr x) = has_edge kept h.0 i j c h.2 h.3 h.4 (subst (λ (z : Row). Has kept z.terms z.constant) normal x)
+
+-- No constant that is kept of a difference system passes n + 1 times those of its rows.
+pub kept_sized : (rows : List Row) (n v m : ℕ) (kept : List Row) → ((r : Row) → In r rows → IsSized m r.constant) → IsKept (HasEdge rows) n v kept → (r : Row) → In r kept → IsSized (steps m (suc n)) r.constant
+kept_sized rows n v m kept small k r h =
+    let e = k.edges r h in
+    stage_sized (HasEdge rows) (HasEdge kept) n v m (λ i j c g. subst (IsSized m) g.4 (small g.0 g.1)) k.stage e.0 e.1 r.constant (r, h, e.2, e.3, refl)

@@ -39,18 +39,18 @@ best_after better limited v values best (r ∷ rs) =
 abbrev pub best_of : (Fraction → Fraction → Fraction) → Bool → ℕ → List Fraction → Row → List Row → Option Fraction
 best_of better limited v values r rs = if_some (bound limited v values r) (λ b. best_after better limited v values b rs)
 
+abbrev pub greatest_allowed : Bool → ℕ → List Fraction → List Row → Option Fraction
+greatest_allowed limited v values [] = Some (whole (pos 0))
+greatest_allowed limited v values (r ∷ rs) = best_of lesser limited v values r rs
+
+abbrev pub least_allowed : Bool → ℕ → List Fraction → List Row → List Row → Option Fraction
+least_allowed limited v values [] upper = greatest_allowed limited v values upper
+least_allowed limited v values (r ∷ rs) upper = best_of greater limited v values r rs
+
 -- The least value of v that the rows with a positive factor of v allow; else the greatest that those with a negative one
 -- allow; else 0. There is none where a number passes the limit.
 unfoldable pub value_of : Bool → ℕ → List Fraction → List Row → Option Fraction
-value_of limited v values rows = from_lower (raising v rows)
-  where
-    from_upper : List Row → Option Fraction
-    from_upper [] = Some (whole (pos 0))
-    from_upper (r ∷ rs) = best_of lesser limited v values r rs
-
-    from_lower : List Row → Option Fraction
-    from_lower [] = from_upper (lowering v rows)
-    from_lower (r ∷ rs) = best_of greater limited v values r rs
+value_of limited v values rows = least_allowed limited v values (raising v rows) (lowering v rows)
 
 -- ---- the whole order of operations
 abbrev pub with_value : ℕ → List Fraction → Option Fraction → Verdict
@@ -79,12 +79,13 @@ abbrev pub variables : List Row → ℕ
 variables [] = 0
 variables (r ∷ rs) = max (variables_in r.terms) (variables rs)
 
--- The system's own rows are kept first, in their order; there is no limit on a difference system.
+-- The system's own rows are kept first, in their order.
+abbrev pub verdict_within : Bool → List Row → Verdict
+verdict_within limited rows = unless_ended (keep_all limited (variables rows - 1) [] rows) (λ kept. decided limited (variables rows) kept)
+
+-- There is no limit on a difference system.
 unfoldable pub verdict : List Row → Verdict
-verdict rows = with_limit (not (are_differences rows))
-  where
-    with_limit : Bool → Verdict
-    with_limit limited = unless_ended (keep_all limited (variables rows - 1) [] rows) (λ kept. decided limited (variables rows) kept)
+verdict rows = verdict_within (not (are_differences rows)) rows
 
 -- ---- what a point is
 -- Over a common denominator the numerators are whole numbers that make each row true.

@@ -17,39 +17,39 @@ whole z = fraction z 1
 abbrev pub limited_to : Bool → Fraction → Option Fraction
 limited_to limited f = if limited && (passes f.over || passes (pos f.under)) then None else Some f
 
--- A factor is cancelled against the denominator before it is multiplied.
+-- A factor is cancelled against the denominator, by their greatest common divisor g, before it is multiplied.
+abbrev pub times_by : ℕ → Bool → ℤ → Fraction → Option Fraction
+times_by g limited factor f = limited_to limited (fraction (quotient factor g *ℤ f.over) (f.under / g))
+
 abbrev pub times : Bool → ℤ → Fraction → Option Fraction
-times limited factor f = cancelled (gcd_of (unsigned_abs factor) f.under)
-  where
-    cancelled : ℕ → Option Fraction
-    cancelled g = limited_to limited (fraction (quotient factor g *ℤ f.over) (f.under / g))
+times limited factor f = times_by (gcd_of (unsigned_abs factor) f.under) limited factor f
+
+abbrev pub reduced_by : ℕ → ℤ → ℕ → Fraction
+reduced_by g p q = fraction (quotient p g) (q / g)
 
 abbrev pub reduced : ℤ → ℕ → Fraction
-reduced p q = by_divisor (gcd_of (unsigned_abs p) q)
-  where
-    by_divisor : ℕ → Fraction
-    by_divisor g = fraction (quotient p g) (q / g)
+reduced p q = reduced_by (gcd_of (unsigned_abs p) q) p q
 
--- Fractions are added over the least common multiple of their denominators, and reduced.
+-- the sum of p and q over a common multiple of their denominators, reduced
+abbrev pub sum_over : Bool → ℤ → ℤ → ℕ → Option Fraction
+sum_over limited p q multiple =
+    if limited && (passes (pos multiple) || passes p || passes q || passes (p +ℤ q)) then None else Some (reduced (p +ℤ q) multiple)
+
+-- Fractions are added over the least common multiple of their denominators; g is the greatest common divisor of these.
+abbrev pub plus_by : ℕ → Bool → Fraction → Fraction → Option Fraction
+plus_by g limited e f = sum_over limited (e.over *ℤ pos (f.under / g)) (f.over *ℤ pos (e.under / g)) (e.under / g * f.under)
+
 abbrev pub plus : Bool → Fraction → Fraction → Option Fraction
-plus limited e f = by_divisor (gcd_of e.under f.under)
-  where
-    over_common : ℤ → ℤ → ℕ → Option Fraction
-    over_common p q multiple =
-        if limited && (passes (pos multiple) || passes p || passes q || passes (p +ℤ q)) then None else Some (reduced (p +ℤ q) multiple)
+plus limited e f = plus_by (gcd_of e.under f.under) limited e f
 
-    by_divisor : ℕ → Option Fraction
-    by_divisor g = over_common (e.over *ℤ pos (f.under / g)) (f.over *ℤ pos (e.under / g)) (e.under / g * f.under)
+-- The fraction negated and divided by a number other than 0, which is cancelled against the numerator, by their greatest
+-- common divisor g, before it is multiplied.
+abbrev pub negated_over_by : ℕ → Bool → Fraction → ℤ → Option Fraction
+negated_over_by g limited f divisor =
+    limited_to limited (fraction (if int_lt (pos 0) divisor then neg_ℤ (quotient f.over g) else quotient f.over g) (f.under * (unsigned_abs divisor / g)))
 
--- The fraction negated and divided by a number other than 0, which is cancelled against the numerator before it is multiplied.
 abbrev pub negated_over : Bool → Fraction → ℤ → Option Fraction
-negated_over limited f divisor = cancelled (gcd_of (unsigned_abs f.over) (unsigned_abs divisor))
-  where
-    signed : ℤ → ℤ
-    signed p = if int_lt (pos 0) divisor then neg_ℤ p else p
-
-    cancelled : ℕ → Option Fraction
-    cancelled g = limited_to limited (fraction (signed (quotient f.over g)) (f.under * (unsigned_abs divisor / g)))
+negated_over limited f divisor = negated_over_by (gcd_of (unsigned_abs f.over) (unsigned_abs divisor)) limited f divisor
 
 abbrev pub is_at_most : Fraction → Fraction → Bool
 is_at_most e f = int_le (e.over *ℤ pos f.under) (f.over *ℤ pos e.under)
