@@ -131,7 +131,7 @@ in_lowering v rows n i h k o = by_touch (touch n v i (suc v) k o)
 -- ---- one variable
 pub elimination : (v : ℕ) (rows next : List Row) → eliminated false v rows ≡ keeps next → Offered (without v rows) (combinations v (raising v rows) (lowering v rows)) next
 unfolding eliminated
-elimination v rows next e = offered_of v (without v rows) (combinations v (raising v rows) (lowering v rows)) next (combined_all v (without v rows) (raising v rows) (lowering v rows) next e)
+elimination v rows next e = offered_of false v (without v rows) (combinations v (raising v rows) (lowering v rows)) next (combined_all false v (without v rows) (raising v rows) (lowering v rows) next e)
 
 swapped : (a b c : ℤ) → c ≡ a +ℤ b → c ≡ b +ℤ a
 swapped a b c e = omega (arith, ints)
@@ -380,7 +380,7 @@ kept_first rows kept last ordered d e = record {
 }
   where
     o : Offered [] rows kept
-    o = offered_of last [] rows kept e
+    o = offered_of false last [] rows kept e
 
     like : (r : Row) → In r rows → LikeUpTo r (variables rows)
     like r h = row_like rows ordered d r h

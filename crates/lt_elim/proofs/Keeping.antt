@@ -1,6 +1,6 @@
 -- What is kept of rows that come in turn.
 use Rattle.std.proofs.Common.{arith, ◌≡◌, refl, sym, ◌∙◌, ap, subst, ℕ, suc, zero, ℤ, pos, ◌+ℤ◌, ◌≤ℤ◌, ◌<ℤ◌, ◌+◌, ◌<◌, ◌≤◌, List, [], ◌∷◌, ◌++◌, length, ◌⊎◌, inl, inr, Bool, true, false, ◌&&◌, cond}
-use Rattle.std.specs.Prelude.{neg_ℤ, int_lt, ◌==◌, if◌then◌else◌, map}
+use Rattle.std.specs.Prelude.{neg_ℤ, int_lt, nat_lt, ◌==◌, if◌then◌else◌, map}
 use Rattle.std.specs.Ordering.{int_eq}
 use Rattle.std.specs.List.{filter}
 use Rattle.std.proofs.lemmas.Int.{ints}
@@ -8,8 +8,8 @@ use Rattle.std.proofs.lemmas.Bool.{eq-eqb}
 use Rattle.std.proofs.lemmas.Bool.Decides.{eqb_tells, Decides-int_eq}
 use Rattle.lt_lin.specs.declared.row.Row.{Row}
 use Rattle.lt_lin.specs.Terms.{Term}
-use Rattle.lt_elim.specs.Combination.{normalised, combination}
-use Rattle.lt_elim.specs.Elimination.{Kept, keeps, ends, Event, refuted, and_next, same_terms, is_constant, is_contradiction, tighter, with_row, keep, keep_normalised, keep_all, combine_with, combine_all, keep_combination}
+use Rattle.lt_elim.specs.Combination.{normalised, combination, is_wide}
+use Rattle.lt_elim.specs.Elimination.{Kept, keeps, ends, Event, refuted, coeff, many_rows, row_limit, within_limit, and_next, same_terms, is_constant, is_contradiction, tighter, with_row, keep, keep_normalised, keep_all, combine_with, combine_all, keep_combination}
 
 abbrev pub In : Row → List Row → Type 0
 In r [] = ⊥
@@ -226,16 +226,23 @@ pub data KeptOne (kept : List Row) (r : Row) (next : List Row) : Type 0 where
   dropped : is_constant r ≡ true → pos 0 ≤ℤ r.constant → next ≡ kept → KeptOne kept r next
   stays : is_constant r ≡ false → next ≡ with_row kept r → KeptOne kept r next
 
-kept_one : (v : ℕ) (kept : List Row) (r : Row) (next : List Row) → keep_normalised false v kept r ≡ keeps next → KeptOne kept r next
-kept_one v kept r next e = by_tests (is_constant r) (int_lt r.constant (pos 0)) refl refl e
+within_is : (b : Bool) (v : ℕ) (rows next : List Row) → within_limit b v rows ≡ keeps next → next ≡ rows
+within_is b v rows next e = by_test (b && nat_lt row_limit (length rows)) e
+  where
+    by_test : (t : Bool) → (if t then ends (many_rows v) else keeps rows) ≡ keeps next → next ≡ rows
+    by_test true e = absurd (cc)
+    by_test false e = cc
+
+kept_one : (b : Bool) (v : ℕ) (kept : List Row) (r : Row) (next : List Row) → keep_normalised b v kept r ≡ keeps next → KeptOne kept r next
+kept_one b v kept r next e = by_tests (is_constant r) (int_lt r.constant (pos 0)) refl refl e
   where
     not_less : (z : ℤ) → int_lt z (pos 0) ≡ false → pos 0 ≤ℤ z
     not_less z e = grind (arith, ints)
 
-    by_tests : (c l : Bool) → is_constant r ≡ c → int_lt r.constant (pos 0) ≡ l → (if c && l then ends refuted else (if c then keeps kept else keeps (with_row kept r))) ≡ keeps next → KeptOne kept r next
+    by_tests : (c l : Bool) → is_constant r ≡ c → int_lt r.constant (pos 0) ≡ l → (if c && l then ends refuted else (if c then keeps kept else within_limit b v (with_row kept r))) ≡ keeps next → KeptOne kept r next
     by_tests true true f g e = absurd (cc)
     by_tests true false f g e = dropped f (not_less r.constant g) (cc)
-    by_tests false l f g e = stays f (cc)
+    by_tests false l f g e = stays f (within_is b v (with_row kept r) next e)
 
 pub record Offered (kept offered next : List Row) : Type 0 where
   pub from : (q : Row) → In q next → In q kept ⊎ ((r : Row) × In r offered × (q ≡ normalised r) × (is_constant q ≡ false))
@@ -275,8 +282,8 @@ offered_more kept r mid rs next (stays c e) o = record {
     new q (inl x) = inr (subst (λ (z : Row). Has next (normalised z).terms (normalised z).constant) x (has_after mid next (normalised r).terms (normalised r).constant o.old j.new))
     new q (inr h) = o.new q h
 
-pub offered_of : (v : ℕ) (kept offered next : List Row) → keep_all false v kept offered ≡ keeps next → Offered kept offered next
-offered_of v kept [] next e = record {
+pub offered_of : (b : Bool) (v : ℕ) (kept offered next : List Row) → keep_all b v kept offered ≡ keeps next → Offered kept offered next
+offered_of b v kept [] next e = record {
   from = λ q h. inl (subst (In q) (sym is) h);
   old = λ q h. subst (λ (z : List Row). Has z q.terms q.constant) is (has_itself kept q h);
   new = λ r h. absurd h;
@@ -285,40 +292,44 @@ offered_of v kept [] next e = record {
   where
     is : kept ≡ next
     is = cc
-offered_of v kept (r ∷ rs) next e = by_kept (keep false v kept r) refl e (λ mid. offered_of v mid rs next)
+offered_of b v kept (r ∷ rs) next e = by_kept (keep b v kept r) refl e (λ mid. offered_of b v mid rs next)
   where
-    by_kept : (k : Kept) → keep false v kept r ≡ k → and_next k (λ more. keep_all false v more rs) ≡ keeps next → ((mid : List Row) → keep_all false v mid rs ≡ keeps next → Offered mid rs next) → Offered kept (r ∷ rs) next
-    by_kept (keeps mid) f e rest = offered_more kept r mid rs next (kept_one v kept (normalised r) mid f) (rest mid e)
+    by_kept : (k : Kept) → keep b v kept r ≡ k → and_next k (λ more. keep_all b v more rs) ≡ keeps next → ((mid : List Row) → keep_all b v mid rs ≡ keeps next → Offered mid rs next) → Offered kept (r ∷ rs) next
+    by_kept (keeps mid) f e rest = offered_more kept r mid rs next (kept_one b v kept (normalised r) mid f) (rest mid e)
     by_kept (ends event) f e rest = absurd (cc)
 
 -- ---- combinations in turn
-pub keep_both : (v : ℕ) (kept a mid b next : List Row) → keep_all false v kept a ≡ keeps mid → keep_all false v mid b ≡ keeps next → keep_all false v kept (a ++ b) ≡ keeps next
-keep_both v kept [] mid b next e f = let is : kept ≡ mid = cc in subst (λ (z : List Row). keep_all false v z b ≡ keeps next) (sym is) f
-keep_both v kept (r ∷ a) mid b next e f = by_kept (keep false v kept r) e (λ more g. keep_both v more a mid b next g f)
+pub keep_both : (b : Bool) (v : ℕ) (kept a mid c next : List Row) → keep_all b v kept a ≡ keeps mid → keep_all b v mid c ≡ keeps next → keep_all b v kept (a ++ c) ≡ keeps next
+keep_both b v kept [] mid c next e f = let is : kept ≡ mid = cc in subst (λ (z : List Row). keep_all b v z c ≡ keeps next) (sym is) f
+keep_both b v kept (r ∷ a) mid c next e f = by_kept (keep b v kept r) e (λ more g. keep_both b v more a mid c next g f)
   where
-    by_kept : (k : Kept) → and_next k (λ more. keep_all false v more a) ≡ keeps mid → ((more : List Row) → keep_all false v more a ≡ keeps mid → keep_all false v more (a ++ b) ≡ keeps next) → and_next k (λ more. keep_all false v more (a ++ b)) ≡ keeps next
+    by_kept : (k : Kept) → and_next k (λ more. keep_all b v more a) ≡ keeps mid → ((more : List Row) → keep_all b v more a ≡ keeps mid → keep_all b v more (a ++ c) ≡ keeps next) → and_next k (λ more. keep_all b v more (a ++ c)) ≡ keeps next
     by_kept (keeps more) e rest = rest more e
     by_kept (ends event) e rest = absurd (cc)
 
-combined_with : (v : ℕ) (p : Row) (kept ns next : List Row) → combine_with false v p kept ns ≡ keeps next → keep_all false v kept (map (λ n. combination v p n) ns) ≡ keeps next
-combined_with v p kept [] next e = e
-combined_with v p kept (n ∷ ns) next e = by_kept (keep false v kept (combination v p n)) e (λ more. combined_with v p more ns next)
+combined_with : (b : Bool) (v : ℕ) (p : Row) (kept ns next : List Row) → combine_with b v p kept ns ≡ keeps next → keep_all b v kept (map (λ n. combination v p n) ns) ≡ keeps next
+combined_with b v p kept [] next e = e
+combined_with b v p kept (n ∷ ns) next e = by_test (b && is_wide v p n) e (λ more. combined_with b v p more ns next)
   where
-    by_kept : (k : Kept) → and_next k (λ more. combine_with false v p more ns) ≡ keeps next → ((more : List Row) → combine_with false v p more ns ≡ keeps next → keep_all false v more (map (λ n. combination v p n) ns) ≡ keeps next) → and_next k (λ more. keep_all false v more (map (λ n. combination v p n) ns)) ≡ keeps next
+    by_kept : (k : Kept) → and_next k (λ more. combine_with b v p more ns) ≡ keeps next → ((more : List Row) → combine_with b v p more ns ≡ keeps next → keep_all b v more (map (λ n. combination v p n) ns) ≡ keeps next) → and_next k (λ more. keep_all b v more (map (λ n. combination v p n) ns)) ≡ keeps next
     by_kept (keeps more) e rest = rest more e
     by_kept (ends event) e rest = absurd (cc)
+
+    by_test : (t : Bool) → and_next (if t then ends (coeff v) else keep b v kept (combination v p n)) (λ more. combine_with b v p more ns) ≡ keeps next → ((more : List Row) → combine_with b v p more ns ≡ keeps next → keep_all b v more (map (λ n. combination v p n) ns) ≡ keeps next) → keep_all b v kept (map (λ n. combination v p n) (n ∷ ns)) ≡ keeps next
+    by_test true e rest = absurd (cc)
+    by_test false e rest = by_kept (keep b v kept (combination v p n)) e rest
 
 -- each row of the first list with each of the second
 abbrev pub combinations : ℕ → List Row → List Row → List Row
 combinations v [] ns = []
 combinations v (p ∷ ps) ns = map (λ n. combination v p n) ns ++ combinations v ps ns
 
-pub combined_all : (v : ℕ) (kept ps ns next : List Row) → combine_all false v kept ps ns ≡ keeps next → keep_all false v kept (combinations v ps ns) ≡ keeps next
-combined_all v kept [] ns next e = e
-combined_all v kept (p ∷ ps) ns next e = by_kept (combine_with false v p kept ns) refl e (λ mid. combined_all v mid ps ns next)
+pub combined_all : (b : Bool) (v : ℕ) (kept ps ns next : List Row) → combine_all b v kept ps ns ≡ keeps next → keep_all b v kept (combinations v ps ns) ≡ keeps next
+combined_all b v kept [] ns next e = e
+combined_all b v kept (p ∷ ps) ns next e = by_kept (combine_with b v p kept ns) refl e (λ mid. combined_all b v mid ps ns next)
   where
-    by_kept : (k : Kept) → combine_with false v p kept ns ≡ k → and_next k (λ more. combine_all false v more ps ns) ≡ keeps next → ((mid : List Row) → combine_all false v mid ps ns ≡ keeps next → keep_all false v mid (combinations v ps ns) ≡ keeps next) → keep_all false v kept (map (λ n. combination v p n) ns ++ combinations v ps ns) ≡ keeps next
-    by_kept (keeps mid) f e rest = keep_both v kept (map (λ n. combination v p n) ns) mid (combinations v ps ns) next (combined_with v p kept ns mid f) (rest mid e)
+    by_kept : (k : Kept) → combine_with b v p kept ns ≡ k → and_next k (λ more. combine_all b v more ps ns) ≡ keeps next → ((mid : List Row) → combine_all b v mid ps ns ≡ keeps next → keep_all b v mid (combinations v ps ns) ≡ keeps next) → keep_all b v kept (map (λ n. combination v p n) ns ++ combinations v ps ns) ≡ keeps next
+    by_kept (keeps mid) f e rest = keep_both b v kept (map (λ n. combination v p n) ns) mid (combinations v ps ns) next (combined_with b v p kept ns mid f) (rest mid e)
     by_kept (ends event) f e rest = absurd (cc)
 
 pub in_combinations : (v : ℕ) (ps ns : List Row) (p n : Row) → In p ps → In n ns → In (combination v p n) (combinations v ps ns)

@@ -3,3 +3,4 @@ pub mod Walks
 pub mod Keeping
 pub mod Edges
 pub mod Differences
+pub mod Laws

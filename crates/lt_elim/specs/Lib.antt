@@ -4,4 +4,5 @@ pub mod Elimination
 pub mod Fraction
 pub mod Decision
 pub mod Difference
+pub mod Law
 pub mod Examples

@@ -1,9 +1,14 @@
-// Laws of the definitions.
-ghost use Rattle.std.specs.Prelude.{◌≡◌};
+// Laws of the definitions: nothing to run.
+ghost use Rattle.lt_elim.specs.Law.{DifferencesAreWhole, DifferencesStaySmall};
 
-/// Nothing.
-pub fn greatest_divisor(a: u32) -> u32
-    ensures { result ≡ a }
+/// On a difference system neither limit comes, and a point is whole.
+pub fn differences_are_whole()
+    ensures { DifferencesAreWhole }
 {
-    a
+}
+
+/// Constants that are kept of a difference system stay small.
+pub fn differences_stay_small()
+    ensures { DifferencesStaySmall }
+{
 }

@@ -1,0 +1,36 @@
+-- What holds of verdicts.
+use Rattle.std.specs.Prelude.{◌≡◌, ℕ, suc, ℤ, pos, neg_ℤ, ◌*◌, ◌≤ℤ◌, true, false, Bool, List, [], ◌∷◌, All}
+use Rattle.lt_lin.specs.declared.row.Row.{Row}
+use Rattle.lt_lin.specs.Terms.{IsOrdered}
+use Rattle.lt_elim.specs.Elimination.{refuted, Kept, keeps, keep_all, eliminated}
+use Rattle.lt_elim.specs.Fraction.{Fraction}
+use Rattle.lt_elim.specs.Decision.{Verdict, stops, point, variables, verdict}
+use Rattle.lt_elim.specs.Difference.{are_differences}
+
+-- the terms of each row in order
+abbrev pub AreOrdered : List Row → Type 0
+AreOrdered rows = All (λ r. IsOrdered r.terms) rows
+
+-- ---- difference systems
+-- refuted, or a point of whole numbers
+pub data IsWholeVerdict : Verdict → Type 0 where
+  is_refuted : IsWholeVerdict (stops refuted)
+  is_whole : (values : List Fraction) → All (λ f. f.under ≡ 1) values → IsWholeVerdict (point values)
+
+-- On a difference system neither limit comes, and a point is whole.
+abbrev pub DifferencesAreWhole : Type 0
+DifferencesAreWhole = (rows : List Row) → AreOrdered rows → are_differences rows ≡ true → IsWholeVerdict (verdict rows)
+
+-- the rows that are kept without a limit as the variables below v are left
+pub data Reaches (rows : List Row) : ℕ → List Row → Type 0 where
+  at_first : (last : ℕ) (kept : List Row) → keep_all false last [] rows ≡ keeps kept → Reaches rows (variables rows) kept
+  after_next : (v : ℕ) (kept next : List Row) → Reaches rows (suc v) kept → eliminated false v kept ≡ keeps next → Reaches rows v next
+
+abbrev pub AreSized : ℕ → List Row → Type 0
+AreSized m rows = All (λ r. (neg_ℤ (pos m) ≤ℤ r.constant) × (r.constant ≤ℤ pos m)) rows
+
+-- Constants that are kept of a difference system are the sums of no more of its constants than there are variables, and one.
+abbrev pub DifferencesStaySmall : Type 0
+DifferencesStaySmall =
+    (rows : List Row) → AreOrdered rows → are_differences rows ≡ true → (m : ℕ) → AreSized m rows →
+    (v : ℕ) (kept : List Row) → Reaches rows v kept → AreSized (suc (variables rows) * m) kept
