@@ -1,3 +1,5 @@
+pub mod Ring
+pub mod Divisors
 pub mod Paths
 pub mod Walks
 pub mod Keeping

@@ -20,11 +20,11 @@ abbrev pub upto : (ℕ → ℤ) → ℕ → (ℕ → ℤ) → ℤ
 upto v zero f = pos 0
 upto v (suc n) f = f n *ℤ v n +ℤ upto v n f
 
-upto_same : (v : ℕ → ℤ) (n : ℕ) (f g : ℕ → ℤ) → ((x : ℕ) → f x ≡ g x) → upto v n f ≡ upto v n g
+pub upto_same : (v : ℕ → ℤ) (n : ℕ) (f g : ℕ → ℤ) → ((x : ℕ) → f x ≡ g x) → upto v n f ≡ upto v n g
 upto_same v zero f g h = refl
 upto_same v (suc n) f g h = ap (λ z. z *ℤ v n +ℤ upto v n f) (h n) ∙ ap (λ z. g n *ℤ v n +ℤ z) (upto_same v n f g h)
 
-upto_zero : (v : ℕ → ℤ) (n : ℕ) (f : ℕ → ℤ) → ((x : ℕ) → x < n → f x ≡ pos 0) → upto v n f ≡ pos 0
+pub upto_zero : (v : ℕ → ℤ) (n : ℕ) (f : ℕ → ℤ) → ((x : ℕ) → x < n → f x ≡ pos 0) → upto v n f ≡ pos 0
 upto_zero v zero f h = refl
 upto_zero v (suc n) f h =
     let z : f n *ℤ v n ≡ pos 0 = ap (λ k. k *ℤ v n) (h n (omega arith)) ∙ zero-*ℤ (v n) in
@@ -33,14 +33,14 @@ upto_zero v (suc n) f h =
     none : (a b : ℤ) → a ≡ pos 0 → b ≡ pos 0 → a +ℤ b ≡ pos 0
     none a b e f = omega (arith, ints)
 
-upto_plus : (v : ℕ → ℤ) (n : ℕ) (f g : ℕ → ℤ) → upto v n (λ x. f x +ℤ g x) ≡ upto v n f +ℤ upto v n g
+pub upto_plus : (v : ℕ → ℤ) (n : ℕ) (f g : ℕ → ℤ) → upto v n (λ x. f x +ℤ g x) ≡ upto v n f +ℤ upto v n g
 upto_plus v zero f g = refl
 upto_plus v (suc n) f g = join ((f n +ℤ g n) *ℤ v n) (f n *ℤ v n) (g n *ℤ v n) (upto v n (λ x. f x +ℤ g x)) (upto v n f) (upto v n g) (add-mul_ℤ (f n) (g n) (v n)) (upto_plus v n f g)
   where
     join : (a b c s t u : ℤ) → a ≡ b +ℤ c → s ≡ t +ℤ u → a +ℤ s ≡ (b +ℤ t) +ℤ (c +ℤ u)
     join a b c s t u e f = omega (arith, ints)
 
-upto_scale : (v : ℕ → ℤ) (n : ℕ) (m : ℤ) (g : ℕ → ℤ) → upto v n (λ x. m *ℤ g x) ≡ m *ℤ upto v n g
+pub upto_scale : (v : ℕ → ℤ) (n : ℕ) (m : ℤ) (g : ℕ → ℤ) → upto v n (λ x. m *ℤ g x) ≡ m *ℤ upto v n g
 upto_scale v zero m g = sym (*ℤ-zero m)
 upto_scale v (suc n) m g = join ((m *ℤ g n) *ℤ v n) (m *ℤ (g n *ℤ v n)) (upto v n (λ x. m *ℤ g x)) (m *ℤ upto v n g) (m *ℤ (g n *ℤ v n +ℤ upto v n g)) (mul_assoc_ℤ m (g n) (v n)) (upto_scale v n m g) (mul-add_ℤ m (g n *ℤ v n) (upto v n g))
   where
@@ -79,7 +79,7 @@ upto_alone v (suc n) y c h = elim (eqb_tells y n) [
     right a b w e f = omega (arith, ints)
 
 -- what terms come to, variable by variable
-sum_by_variable : (v : ℕ → ℤ) (n : ℕ) (ts : List Term) → AllBelow n ts → sum_at v ts ≡ upto v n (λ x. factor x ts)
+pub sum_by_variable : (v : ℕ → ℤ) (n : ℕ) (ts : List Term) → AllBelow n ts → sum_at v ts ≡ upto v n (λ x. factor x ts)
 unfolding alone
 sum_by_variable v n [] b = sym (upto_zero v n (λ x. pos 0) (λ x l. refl))
 sum_by_variable v n (t ∷ ts) b =
