@@ -1,5 +1,6 @@
 pub mod Ring
 pub mod Divisors
+pub mod Values
 pub mod Paths
 pub mod Walks
 pub mod Keeping
