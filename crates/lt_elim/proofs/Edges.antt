@@ -194,7 +194,7 @@ like_normal r i j h = elim (content_units r.terms (like_units r i j h)) [
 ]
 
 -- ---- the terms of a combination
-below_all : (n : ℕ) (f : ℕ → ℤ) → AllBelow n (terms_below n f)
+pub below_all : (n : ℕ) (f : ℕ → ℤ) → AllBelow n (terms_below n f)
 below_all zero f = tt
 below_all (suc n) f = by_test (int_eq (f n) (pos 0)) (below_all n f)
   where

@@ -5,5 +5,6 @@ pub mod Paths
 pub mod Walks
 pub mod Keeping
 pub mod Edges
+pub mod Points
 pub mod Differences
 pub mod Laws

@@ -239,7 +239,7 @@ AreWorth values num d = (x : ℕ) → IsWorth (slice_index_or values x (whole (p
 abbrev pub total : (ℕ → ℤ) → ℤ → Row → ℤ
 total num d r = sum_at num r.terms +ℤ r.constant *ℤ d
 
-if_some_is : {A B : Type 0} (o : Option A) (next : A → Option B) (h : B) → if_some o next ≡ Some h → (x : A) × (o ≡ Some x) × (next x ≡ Some h)
+pub if_some_is : {A B : Type 0} (o : Option A) (next : A → Option B) (h : B) → if_some o next ≡ Some h → (x : A) × (o ≡ Some x) × (next x ≡ Some h)
 if_some_is None next h e = absurd (cc)
 if_some_is (Some x) next h e = (x, refl, e)
 
