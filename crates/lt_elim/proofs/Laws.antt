@@ -13,11 +13,13 @@ use Rattle.lt_elim.specs.Combination.{normalised, combination}
 use Rattle.lt_elim.specs.Elimination.{Event, refuted, Kept, keeps, ends, and_next, is_constant, with_row, keep, keep_normalised, keep_all, combine_with, combine_all, without, raising, lowering, eliminated}
 use Rattle.lt_elim.specs.Fraction.{Fraction, fraction, whole, times_by, times, reduced_by, reduced, sum_over, plus_by, plus, negated_over_by, negated_over, is_at_most, greater, lesser}
 use Rattle.lt_elim.specs.Difference.{are_differences}
-use Rattle.lt_elim.specs.Decision.{Verdict, stops, point, if_some, terms_added, bound, best_after, best_of, greatest_allowed, least_allowed, value_of, with_value, and_value, unless_ended, decided, variables, verdict_within, verdict}
-use Rattle.lt_elim.specs.Law.{AreOrdered, IsWholeVerdict, is_refuted, is_whole, DifferencesAreWhole, Reaches, at_first, after_next, AreSized, DifferencesStaySmall}
+use Rattle.lt_elim.specs.Decision.{Verdict, stops, point, if_some, terms_added, bound, best_after, best_of, greatest_allowed, least_allowed, value_of, with_value, and_value, unless_ended, decided, variables, verdict_within, verdict, IsSolution}
+use Rattle.lt_elim.specs.Law.{AreOrdered, IsWholeVerdict, is_refuted, is_whole, DifferencesAreWhole, Reaches, at_first, after_next, AreSized, DifferencesStaySmall, PointsSatisfy}
 use Rattle.lt_elim.proofs.Walks.{IsSized, steps}
 use Rattle.lt_elim.proofs.Keeping.{In, filter_in}
 use Rattle.lt_elim.proofs.Edges.{AllUnits, quotient_one, like_units, touch, Touch, starts, stops, leaves, IsLike}
+use Rattle.lt_elim.proofs.Points.{Solved, verdict_solved}
+use Rattle.lt_elim.proofs.Values.{total}
 use Rattle.lt_elim.proofs.Differences.{HasEdge, AreEdges, IsKept, kept_first, kept_next, kept_sized}
 
 -- ---- small constants
@@ -258,3 +260,15 @@ differences_are_whole rows o d = subst (λ (b : Bool). IsWholeVerdict (verdict_w
     by_kept : (e : Kept) → keep_all false (variables rows - 1) [] rows ≡ e → IsUnlimited e → IsWholeVerdict (unless_ended e (λ kept. decided false (variables rows) kept))
     by_kept e q (goes kept) = decided_whole (HasEdge rows) (variables rows) (variables rows) kept (omega arith) (kept_first rows kept (variables rows - 1) (λ r h. in_all (λ q. IsOrdered q.terms) rows o r h) d q)
     by_kept e q refutes = is_refuted
+
+-- ---- points
+pub points_satisfy : PointsSatisfy
+points_satisfy rows o values e =
+    let s = verdict_solved rows values (λ r h. in_all (λ q. IsOrdered q.terms) rows o r h) e in
+    (s.length_is, record {
+      denominator = s.d;
+      numerators = s.num;
+      positive = s.positive;
+      values_are = λ x. (s.worth x).value;
+      rows_hold = all_in (λ r. pos 0 ≤ℤ total s.num s.d r) rows s.holds;
+    })

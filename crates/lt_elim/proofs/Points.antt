@@ -1,5 +1,5 @@
 -- A point satisfies every row.
-use Rattle.std.proofs.Common.{arith, ◌≡◌, refl, sym, ◌∙◌, ap, subst, ℕ, suc, zero, ℤ, pos, negsuc, ◌+ℤ◌, ◌-ℤ◌, ◌*ℤ◌, ◌≤ℤ◌, ◌<ℤ◌, ◌+◌, ◌-◌, ◌*◌, ◌/◌, ◌<◌, ◌≤◌, ◌≢◌, List, [], ◌∷◌, ◌++◌, length, ◌⊎◌, inl, inr, Bool, true, false, ◌&&◌, not, Option, Some, None, length-append}
+use Rattle.std.proofs.Common.{arith, ◌≡◌, refl, sym, ◌∙◌, ap, subst, ℕ, suc, zero, ℤ, pos, negsuc, ◌+ℤ◌, ◌-ℤ◌, ◌*ℤ◌, ◌≤ℤ◌, ◌<ℤ◌, ◌+◌, ◌-◌, ◌*◌, ◌/◌, ◌<◌, ◌≤◌, ◌≢◌, List, [], ◌∷◌, ◌++◌, length, ◌⊎◌, inl, inr, Bool, true, false, ◌&&◌, not, Option, Some, None, length-append, mul_comm}
 use Rattle.std.specs.Prelude.{neg_ℤ, int_lt, int_le, ◌==◌, if◌then◌else◌, map, unsigned_abs, All, slice_index_or}
 use Rattle.std.specs.Ordering.{int_eq}
 use Rattle.std.specs.Int.{◌∣◌}
@@ -7,7 +7,7 @@ use Rattle.std.specs.List.{filter}
 use Rattle.std.proofs.lemmas.Int.{ints, by_lt_z}
 use Rattle.std.proofs.lemmas.Bool.{cases_lt, eqb-true, ne_eqb, eq-eqb}
 use Rattle.std.proofs.lemmas.Bool.Decides.{eqb_tells, Decides-int_eq}
-use Rattle.std.proofs.lemmas.List.{get_or_past}
+use Rattle.std.proofs.lemmas.List.{get_or_past, get_or_append_left, get_or_push}
 use Rattle.std.proofs.Math.IntN.{*ℤ_comm, zero-*ℤ}
 use borrow.Author.Differences.{up, down, same_in, product_is}
 use Rattle.lt_model.proofs.Whole.{mul_assoc_ℤ, mul-add_ℤ, add-mul_ℤ, neg-mul_ℤ, mul-≤ℤ, abs_up, abs_down}
@@ -20,6 +20,7 @@ use Rattle.lt_elim.specs.Divisor.{gcd_of, content, quotient}
 use Rattle.lt_elim.specs.Combination.{divided, normalised, with_term, terms_below, Multipliers, multipliers_of, multipliers, sum_of, combination}
 use Rattle.lt_elim.specs.Elimination.{Kept, keeps, ends, is_constant, keep_all, without, raising, lowering, eliminated}
 use Rattle.lt_elim.specs.Fraction.{Fraction, whole, is_at_most, greater, lesser}
+use Rattle.lt_elim.specs.Difference.{are_differences}
 use Rattle.lt_elim.specs.Decision.{Verdict, stops, point, if_some, bound, best_after, best_of, greatest_allowed, least_allowed, value_of, with_value, and_value, unless_ended, decided, variables, variables_in, verdict_within, verdict, IsSolution}
 use Rattle.lt_elim.proofs.Divisors.{gcd_is, divisor_positive, Divides, content_divides}
 use Rattle.lt_elim.proofs.Ring.{product_not_negative, not_negative_from, exact_ℕ, exact_ℤ}
@@ -429,3 +430,376 @@ next_form v rows next f o q h = by_from (o.from q h)
         let m = normalised_form v (combination v c.0 c.1) k.0 k.1 in
         let is : q ≡ normalised (combination v c.0 c.1) = x.2 ∙ ap normalised c.4 in
         (subst (λ (z : Row). IsOrdered z.terms) (sym is) m.0, subst (λ (z : Row). AllBelow v z.terms) (sym is) m.1, x.3)
+
+-- ---- one variable more
+pub record Solved (n : ℕ) (values : List Fraction) (rows : List Row) : Type 0 where
+  pub num : ℕ → ℤ
+  pub d : ℤ
+  pub positive : pos 0 <ℤ d
+  pub worth : AreWorth values num d
+  pub length_is : length values ≡ n
+  pub holds : AllHold num d rows
+
+-- which rows those are
+data Sorted (v : ℕ) (rows : List Row) (r : Row) : Type 0 where
+  absent : factor v r.terms ≡ pos 0 → In r (without v rows) → Sorted v rows r
+  raises : In r (raising v rows) → Sorted v rows r
+  lowers : In r (lowering v rows) → Sorted v rows r
+
+sorted : (v : ℕ) (rows : List Row) (r : Row) → In r rows → Sorted v rows r
+sorted v rows r h = by_tests (int_lt (pos 0) (factor v r.terms)) (int_lt (factor v r.terms) (pos 0)) refl refl
+  where
+    nothing : (z : ℤ) → int_lt (pos 0) z ≡ false → int_lt z (pos 0) ≡ false → z ≡ pos 0
+    nothing z e f = let a : z ≤ℤ pos 0 = up_to z e in let b : pos 0 ≤ℤ z = down_to z f in omega (arith, ints)
+      where
+        up_to : (z : ℤ) → int_lt (pos 0) z ≡ false → z ≤ℤ pos 0
+        up_to z e = grind (arith, ints)
+
+        down_to : (z : ℤ) → int_lt z (pos 0) ≡ false → pos 0 ≤ℤ z
+        down_to z e = grind (arith, ints)
+
+    by_tests : (a b : Bool) → int_lt (pos 0) (factor v r.terms) ≡ a → int_lt (factor v r.terms) (pos 0) ≡ b → Sorted v rows r
+    by_tests true b e f = raises (in_filter (λ q. int_lt (pos 0) (factor v q.terms)) r rows h e)
+    by_tests false true e f = lowers (in_filter (λ q. int_lt (factor v q.terms) (pos 0)) r rows h f)
+    by_tests false false e f =
+        let z : factor v r.terms ≡ pos 0 = nothing (factor v r.terms) e f in
+        absent z (in_filter (λ q. int_eq (factor v q.terms) (pos 0)) r rows h ((Decides-int_eq (factor v r.terms) (pos 0)).1 z))
+
+raising_sign : (d : ℤ) (v : ℕ) (rows : List Row) → pos 0 <ℤ d → HaveSign d v NotNegative (raising v rows)
+unfolding NotNegative
+raising_sign d v rows pd r h =
+    let f = filter_in (λ q. int_lt (pos 0) (factor v q.terms)) r rows h in
+    (not_zero (factor v r.terms) f.1, product_not_negative (factor v r.terms) d (more (factor v r.terms) f.1) (omega (arith, ints)))
+  where
+    not_zero : (z : ℤ) → int_lt (pos 0) z ≡ true → z ≡ pos 0 → ⊥
+    not_zero z t e = grind (arith, ints)
+
+    more : (z : ℤ) → int_lt (pos 0) z ≡ true → pos 0 ≤ℤ z
+    more z e = grind (arith, ints)
+
+lowering_sign : (d : ℤ) (v : ℕ) (rows : List Row) → pos 0 <ℤ d → HaveSign d v NotPositive (lowering v rows)
+unfolding NotPositive
+lowering_sign d v rows pd r h =
+    let f = filter_in (λ q. int_lt (factor v q.terms) (pos 0)) r rows h in
+    (not_zero (factor v r.terms) f.1, turned (factor v r.terms) (less (factor v r.terms) f.1))
+  where
+    not_zero : (z : ℤ) → int_lt z (pos 0) ≡ true → z ≡ pos 0 → ⊥
+    not_zero z t e = grind (arith, ints)
+
+    less : (z : ℤ) → int_lt z (pos 0) ≡ true → pos 0 ≤ℤ neg_ℤ z
+    less z e = let k : z ≤ℤ pos 0 = at_most z e in omega (arith, ints)
+      where
+        at_most : (z : ℤ) → int_lt z (pos 0) ≡ true → z ≤ℤ pos 0
+        at_most z e = grind (arith, ints)
+
+    turned : (z : ℤ) → pos 0 ≤ℤ neg_ℤ z → (z *ℤ d) ≤ℤ pos 0
+    turned z h =
+        let p : pos 0 ≤ℤ (neg_ℤ z *ℤ d) = product_not_negative (neg_ℤ z) d h (omega (arith, ints)) in
+        flip (neg_ℤ z *ℤ d) (z *ℤ d) p (neg-mul_ℤ z d)
+      where
+        flip : (x y : ℤ) → pos 0 ≤ℤ x → x ≡ neg_ℤ y → y ≤ℤ pos 0
+        flip x y p e = omega (arith, ints)
+
+-- a row without v holds whatever v is
+absent_holds : (num : ℕ → ℤ) (d : ℤ) (v : ℕ) (f : Fraction) (r : Row) → factor v r.terms ≡ pos 0 → pos 0 ≤ℤ total num d r → RowHoldsAt num d v f r
+absent_holds num d v f r z h =
+    sum (pos f.under *ℤ total num d r) (f.over *ℤ (factor v r.terms *ℤ d)) (product_not_negative (pos f.under) (total num d r) (omega (arith, ints)) h)
+        (ap (λ k. f.over *ℤ (k *ℤ d)) z ∙ ap (λ k. f.over *ℤ k) (zero-*ℤ d) ∙ nothing f.over)
+  where
+    nothing : (k : ℤ) → k *ℤ pos 0 ≡ pos 0
+    nothing k = omega (arith, ints)
+
+    sum : (a b : ℤ) → pos 0 ≤ℤ a → b ≡ pos 0 → pos 0 ≤ℤ (a +ℤ b)
+    sum a b h e = omega (arith, ints)
+
+-- a row that lowers v, where the value is the bound of one that raises it
+lowered_holds : (num : ℕ → ℤ) (d : ℤ) (v : ℕ) (rows next : List Row) (f : Fraction) (p r : Row) → pos 0 <ℤ d → num v ≡ pos 0 → InForm (suc v) rows → Offered (without v rows) (combinations v (raising v rows) (lowering v rows)) next → AllHold num d next → In p (raising v rows) → In r (lowering v rows) → 0 < f.under → IsNegatedOver f (factor v p.terms) (total num d p) d → RowHoldsAt num d v f r
+lowered_holds num d v rows next f p r pd z form o all hp hr pf w =
+    crossed f (factor v r.terms) (factor v p.terms) (total num d r) (total num d p) d (multipliers v p r) (gcd_of (unsigned_abs (factor v p.terms)) (unsigned_abs (factor v r.terms)))
+        (divisor_positive (gcd_of (unsigned_abs (factor v p.terms)) (unsigned_abs (factor v r.terms))) (unsigned_abs (factor v p.terms)) g.0 (size_positive (factor v p.terms) fp.1))
+        pf (positive (factor v p.terms) fp.1)
+        (ap pos (mul_comm (gcd_of (unsigned_abs (factor v p.terms)) (unsigned_abs (factor v r.terms))) (unsigned_abs (factor v r.terms) / gcd_of (unsigned_abs (factor v p.terms)) (unsigned_abs (factor v r.terms))) ∙ exact_ℕ (unsigned_abs (factor v r.terms)) (gcd_of (unsigned_abs (factor v p.terms)) (unsigned_abs (factor v r.terms))) g.1) ∙ abs_down (factor v r.terms) (not_positive (factor v r.terms) fr.1))
+        (ap pos (mul_comm (gcd_of (unsigned_abs (factor v p.terms)) (unsigned_abs (factor v r.terms))) (unsigned_abs (factor v p.terms) / gcd_of (unsigned_abs (factor v p.terms)) (unsigned_abs (factor v r.terms))) ∙ exact_ℕ (unsigned_abs (factor v p.terms)) (gcd_of (unsigned_abs (factor v p.terms)) (unsigned_abs (factor v r.terms))) g.0) ∙ abs_up (factor v p.terms) (not_negative (factor v p.terms) fp.1))
+        w
+        (subst (λ (k : ℤ). pos 0 ≤ℤ k) (combination_total num d v p r (form p fp.0).1 (form r fr.0).1 z) (offered_holds num d next (combination v p r) pd all (o.new (combination v p r) (in_combinations v (raising v rows) (lowering v rows) p r hp hr))))
+  where
+    g : (gcd_of (unsigned_abs (factor v p.terms)) (unsigned_abs (factor v r.terms)) ∣ unsigned_abs (factor v p.terms)) × (gcd_of (unsigned_abs (factor v p.terms)) (unsigned_abs (factor v r.terms)) ∣ unsigned_abs (factor v r.terms)) × ((k : ℕ) → k ∣ unsigned_abs (factor v p.terms) → k ∣ unsigned_abs (factor v r.terms) → k ∣ gcd_of (unsigned_abs (factor v p.terms)) (unsigned_abs (factor v r.terms)))
+    g = gcd_is (unsigned_abs (factor v p.terms)) (unsigned_abs (factor v r.terms))
+
+    fp : In p rows × (int_lt (pos 0) (factor v p.terms) ≡ true)
+    fp = filter_in (λ q. int_lt (pos 0) (factor v q.terms)) p rows hp
+
+    fr : In r rows × (int_lt (factor v r.terms) (pos 0) ≡ true)
+    fr = filter_in (λ q. int_lt (factor v q.terms) (pos 0)) r rows hr
+
+    positive : (k : ℤ) → int_lt (pos 0) k ≡ true → pos 0 <ℤ k
+    positive k e = grind (arith, ints)
+
+    not_negative : (k : ℤ) → int_lt (pos 0) k ≡ true → pos 0 ≤ℤ k
+    not_negative k e = grind (arith, ints)
+
+    not_positive : (k : ℤ) → int_lt k (pos 0) ≡ true → k ≤ℤ pos 0
+    not_positive k e = grind (arith, ints)
+
+    size_positive : (k : ℤ) → int_lt (pos 0) k ≡ true → 0 < unsigned_abs k
+    size_positive (pos zero) e = absurd (cc)
+    size_positive (pos (suc n)) e = omega arith
+    size_positive (negsuc n) e = omega arith
+
+record ValueHolds (num : ℕ → ℤ) (d : ℤ) (v : ℕ) (rows : List Row) (f : Fraction) : Type 0 where
+  positive : 0 < f.under
+  holds : (r : Row) → In r rows → RowHoldsAt num d v f r
+
+value_holds : (b : Bool) (v : ℕ) (values : List Fraction) (rows next : List Row) (num : ℕ → ℤ) (d : ℤ) (f : Fraction) → pos 0 <ℤ d → AreWorth values num d → num v ≡ pos 0 → InForm (suc v) rows → Offered (without v rows) (combinations v (raising v rows) (lowering v rows)) next → AllHold num d next → value_of b v values rows ≡ Some f → ValueHolds num d v rows f
+unfolding value_of
+value_holds b v values rows next num d f pd ws z form o all e = by_lists (raising v rows) (lowering v rows) refl refl e
+  where
+    absent_row : (r : Row) → factor v r.terms ≡ pos 0 → In r (without v rows) → RowHoldsAt num d v f r
+    absent_row r e h = absent_holds num d v f r e (has_holds num d next r pd all (o.old r h))
+
+    by_lists : (lower upper : List Row) → raising v rows ≡ lower → lowering v rows ≡ upper → least_allowed b v values lower upper ≡ Some f → ValueHolds num d v rows f
+    by_lists [] [] el eu e = record { positive = subst (λ (x : Fraction). 0 < x.under) is (omega arith); holds = λ r h. by_sort r (sorted v rows r h) }
+      where
+        is : whole (pos 0) ≡ f
+        is = cc
+
+        by_sort : (r : Row) → Sorted v rows r → RowHoldsAt num d v f r
+        by_sort r (absent e k) = absent_row r e k
+        by_sort r (raises k) = absurd (subst (In r) el k)
+        by_sort r (lowers k) = absurd (subst (In r) eu k)
+    by_lists [] (u ∷ us) el eu e = record { positive = k.positive; holds = λ r h. by_sort r (sorted v rows r h) }
+      where
+        k : IsBestOf num d v (u ∷ us) f
+        k = best_of_is lesser NotPositive lesser_betters b v values num d ws z u us f (subst (HaveSign d v NotPositive) eu (lowering_sign d v rows pd)) e
+
+        by_sort : (r : Row) → Sorted v rows r → RowHoldsAt num d v f r
+        by_sort r (absent e h) = absent_row r e h
+        by_sort r (raises h) = absurd (subst (In r) el h)
+        by_sort r (lowers h) = k.holds r (subst (In r) eu h)
+    by_lists (l ∷ ls) upper el eu e = record { positive = k.positive; holds = λ r h. by_sort r (sorted v rows r h) }
+      where
+        k : IsBestOf num d v (l ∷ ls) f
+        k = best_of_is greater NotNegative greater_betters b v values num d ws z l ls f (subst (HaveSign d v NotNegative) el (raising_sign d v rows pd)) e
+
+        by_sort : (r : Row) → Sorted v rows r → RowHoldsAt num d v f r
+        by_sort r (absent e h) = absent_row r e h
+        by_sort r (raises h) = k.holds r (subst (In r) el h)
+        by_sort r (lowers h) = lowered_holds num d v rows next f k.row r pd z form o all (subst (In k.row) (sym el) k.is_in) h k.positive k.bound_is
+
+-- the numerators over d times q, where v is p / q
+raised_to : (ℕ → ℤ) → ℤ → ℕ → Fraction → ℕ → ℤ
+raised_to num d v f x = num x *ℤ pos f.under +ℤ (if v == x then f.over *ℤ d else pos 0)
+
+sum_raised : (num : ℕ → ℤ) (d : ℤ) (v : ℕ) (f : Fraction) (ts : List Term) → sum_at (raised_to num d v f) ts ≡ pos f.under *ℤ sum_at num ts +ℤ f.over *ℤ (factor v ts *ℤ d)
+unfolding raised_to
+sum_raised num d v f [] = nothing (pos f.under) (f.over) (pos 0 *ℤ d) (zero-*ℤ d)
+  where
+    nothing : (a b c : ℤ) → c ≡ pos 0 → pos 0 ≡ a *ℤ pos 0 +ℤ b *ℤ c
+    nothing a b c e = subst (λ (z : ℤ). pos 0 ≡ a *ℤ pos 0 +ℤ b *ℤ z) (sym e) (zeros a b)
+      where
+        zeros : (a b : ℤ) → pos 0 ≡ a *ℤ pos 0 +ℤ b *ℤ pos 0
+        zeros a b = omega (arith, ints)
+sum_raised num d v f (t ∷ ts) = by_test (v == t.0) (sum_raised num d v f ts)
+  where
+    q : ℤ
+    q = pos f.under
+
+    inner : (x y z : ℤ) → x *ℤ (y *ℤ z) ≡ z *ℤ (x *ℤ y)
+    inner x y z = same_in (x *ℤ (y *ℤ z)) (z *ℤ (x *ℤ y)) (simp (up_product, down_product) (omega arith))
+
+    outer : (x y z : ℤ) → x *ℤ (y *ℤ z) ≡ y *ℤ (x *ℤ z)
+    outer x y z = same_in (x *ℤ (y *ℤ z)) (y *ℤ (x *ℤ z)) (simp (up_product, down_product) (omega arith))
+
+    times_nothing : (a : ℤ) → a *ℤ pos 0 ≡ pos 0
+    times_nothing a = omega (arith, ints)
+
+    regroup : (l s a b r c e g : ℤ) → l ≡ a +ℤ b → s ≡ r +ℤ c → e ≡ a +ℤ r → g ≡ b +ℤ c → l +ℤ s ≡ e +ℤ g
+    regroup l s a b r c e g h i j k = omega (arith, ints)
+
+    -- what the term adds beyond its multiple
+    extra : (x y : ℤ) → t.1 *ℤ x ≡ f.over *ℤ (y *ℤ d) → sum_at (raised_to num d v f) ts ≡ q *ℤ sum_at num ts +ℤ f.over *ℤ (factor v ts *ℤ d) → t.1 *ℤ (num t.0 *ℤ q +ℤ x) +ℤ sum_at (raised_to num d v f) ts ≡ q *ℤ (t.1 *ℤ num t.0 +ℤ sum_at num ts) +ℤ f.over *ℤ ((y +ℤ factor v ts) *ℤ d)
+    extra x y e ih =
+        regroup (t.1 *ℤ (num t.0 *ℤ q +ℤ x)) (sum_at (raised_to num d v f) ts) (q *ℤ (t.1 *ℤ num t.0)) (f.over *ℤ (y *ℤ d)) (q *ℤ sum_at num ts) (f.over *ℤ (factor v ts *ℤ d)) (q *ℤ (t.1 *ℤ num t.0 +ℤ sum_at num ts)) (f.over *ℤ ((y +ℤ factor v ts) *ℤ d))
+            (mul-add_ℤ t.1 (num t.0 *ℤ q) x ∙ ap (λ z. z +ℤ t.1 *ℤ x) (inner t.1 (num t.0) q) ∙ ap (λ z. q *ℤ (t.1 *ℤ num t.0) +ℤ z) e)
+            ih
+            (mul-add_ℤ q (t.1 *ℤ num t.0) (sum_at num ts))
+            (ap (λ z. f.over *ℤ z) (add-mul_ℤ y (factor v ts) d) ∙ mul-add_ℤ f.over (y *ℤ d) (factor v ts *ℤ d))
+
+    by_test : (b : Bool) → sum_at (raised_to num d v f) ts ≡ q *ℤ sum_at num ts +ℤ f.over *ℤ (factor v ts *ℤ d) → t.1 *ℤ (num t.0 *ℤ q +ℤ (if b then f.over *ℤ d else pos 0)) +ℤ sum_at (raised_to num d v f) ts ≡ q *ℤ (t.1 *ℤ num t.0 +ℤ sum_at num ts) +ℤ f.over *ℤ (((if b then t.1 else pos 0) +ℤ factor v ts) *ℤ d)
+    by_test true ih = extra (f.over *ℤ d) t.1 (outer t.1 f.over d) ih
+    by_test false ih = extra (pos 0) (pos 0) (times_nothing t.1 ∙ sym (ap (λ z. f.over *ℤ z) (zero-*ℤ d) ∙ times_nothing f.over)) ih
+
+raised_holds : (num : ℕ → ℤ) (d : ℤ) (v : ℕ) (f : Fraction) (r : Row) → RowHoldsAt num d v f r → pos 0 ≤ℤ total (raised_to num d v f) (d *ℤ pos f.under) r
+raised_holds num d v f r h =
+    regroup (sum_at (raised_to num d v f) r.terms) (pos f.under *ℤ sum_at num r.terms) (f.over *ℤ (factor v r.terms *ℤ d)) (r.constant *ℤ (d *ℤ pos f.under)) (pos f.under *ℤ (r.constant *ℤ d)) (pos f.under *ℤ (sum_at num r.terms +ℤ r.constant *ℤ d))
+        (sum_raised num d v f r.terms) (outer r.constant d (pos f.under)) (mul-add_ℤ (pos f.under) (sum_at num r.terms) (r.constant *ℤ d)) h
+  where
+    outer : (x y z : ℤ) → x *ℤ (y *ℤ z) ≡ z *ℤ (x *ℤ y)
+    outer x y z = same_in (x *ℤ (y *ℤ z)) (z *ℤ (x *ℤ y)) (simp (up_product, down_product) (omega arith))
+
+    regroup : (s a b c e t : ℤ) → s ≡ a +ℤ b → c ≡ e → t ≡ a +ℤ e → pos 0 ≤ℤ (t +ℤ b) → pos 0 ≤ℤ (s +ℤ c)
+    regroup s a b c e t h i j k = omega (arith, ints)
+
+raised_worth : (values : List Fraction) (num : ℕ → ℤ) (d : ℤ) (v : ℕ) (f : Fraction) → length values ≡ v → 0 < f.under → AreWorth values num d → num v ≡ pos 0 → AreWorth (values ++ f ∷ []) (raised_to num d v f) (d *ℤ pos f.under)
+unfolding raised_to
+raised_worth values num d v f l pf ws z x = by_place (eqb_tells v x)
+  where
+    outer : (a b c : ℤ) → a *ℤ b *ℤ c ≡ a *ℤ c *ℤ b
+    outer a b c = same_in (a *ℤ b *ℤ c) (a *ℤ c *ℤ b) (simp (up_product, down_product) (omega arith))
+
+    plus_nothing : (a b : ℤ) → b ≡ pos 0 → a +ℤ b ≡ a
+    plus_nothing a b e = omega (arith, ints)
+
+    nothing_plus : (a b : ℤ) → a ≡ pos 0 → a +ℤ b ≡ b
+    nothing_plus a b e = omega (arith, ints)
+
+    other : (g : Fraction) → (v == x) ≡ false → IsWorth g (num x) d → IsWorth g (num x *ℤ pos f.under +ℤ (if v == x then f.over *ℤ d else pos 0)) (d *ℤ pos f.under)
+    other g e w = record {
+      positive = w.positive;
+      value = ap (λ k. k *ℤ pos g.under) (plus_nothing (num x *ℤ pos f.under) (if v == x then f.over *ℤ d else pos 0) (ap (λ (b : Bool). if b then f.over *ℤ d else pos 0) e)) ∙ outer (num x) (pos f.under) (pos g.under) ∙ ap (λ k. k *ℤ pos f.under) w.value ∙ mul_assoc_ℤ g.over d (pos f.under);
+    }
+
+    place : (v ≡ x → ⊥) → slice_index_or (values ++ f ∷ []) x (whole (pos 0)) ≡ slice_index_or values x (whole (pos 0))
+    place o = elim (cases_lt x v) [
+      | inl k ↦ get_or_append_left values (f ∷ []) (whole (pos 0)) x (omega arith)
+      | inr k ↦ get_or_past (values ++ f ∷ []) x (whole (pos 0)) (past x o k) ∙ sym (get_or_past values x (whole (pos 0)) (omega arith))
+    ]
+      where
+        past : (x : ℕ) → (v ≡ x → ⊥) → v ≤ x → length (values ++ f ∷ []) ≤ x
+        past x o k = let e : length (values ++ f ∷ []) ≡ length values + 1 = length-append values (f ∷ []) in omega arith
+
+    by_place : (((v == x) ≡ true) × (v ≡ x)) ⊎ (((v == x) ≡ false) × (v ≢ x)) → IsWorth (slice_index_or (values ++ f ∷ []) x (whole (pos 0))) (num x *ℤ pos f.under +ℤ (if v == x then f.over *ℤ d else pos 0)) (d *ℤ pos f.under)
+    by_place (inl e) =
+        subst (λ (g : Fraction). IsWorth g (num x *ℤ pos f.under +ℤ (if v == x then f.over *ℤ d else pos 0)) (d *ℤ pos f.under)) (sym (get_or_push values f (whole (pos 0)) x (l ∙ e.1))) (record {
+          positive = pf;
+          value =
+              ap (λ k. k *ℤ pos f.under) (nothing_plus (num x *ℤ pos f.under) (if v == x then f.over *ℤ d else pos 0) (ap (λ k. k *ℤ pos f.under) (ap num (sym e.1) ∙ z) ∙ zero-*ℤ (pos f.under)) ∙ ap (λ (b : Bool). if b then f.over *ℤ d else pos 0) e.0)
+              ∙ mul_assoc_ℤ f.over d (pos f.under);
+        })
+    by_place (inr e) = subst (λ (g : Fraction). IsWorth g (num x *ℤ pos f.under +ℤ (if v == x then f.over *ℤ d else pos 0)) (d *ℤ pos f.under)) (sym (place e.1)) (other (slice_index_or values x (whole (pos 0))) e.0 (ws x))
+
+-- ---- all variables
+length_push : (values : List Fraction) (f : Fraction) (n : ℕ) → length values ≡ n → length (values ++ f ∷ []) ≡ suc n
+length_push values f n e = let k : length (values ++ f ∷ []) ≡ length values + 1 = length-append values (f ∷ []) in omega arith
+
+value_past : (values : List Fraction) (num : ℕ → ℤ) (d : ℤ) (v : ℕ) → length values ≡ v → AreWorth values num d → num v ≡ pos 0
+value_past values num d v l ws =
+    let w : IsWorth (whole (pos 0)) (num v) d = subst (λ (g : Fraction). IsWorth g (num v) d) (get_or_past values v (whole (pos 0)) (omega arith)) (ws v) in
+    sym (once (num v)) ∙ w.value ∙ zero-*ℤ d
+  where
+    once : (k : ℤ) → k *ℤ pos 1 ≡ k
+    once k = omega (arith, ints)
+
+positive_times : (d : ℤ) (q : ℕ) → pos 0 <ℤ d → 0 < q → pos 0 <ℤ (d *ℤ pos q)
+positive_times d (suc q) pd pq =
+    let h : pos 0 ≤ℤ (d *ℤ pos q) = product_not_negative d (pos q) (omega (arith, ints)) (omega (arith, ints)) in
+    more (d *ℤ pos (suc q)) (d *ℤ pos q) (ap (λ (k : ℕ). d *ℤ pos k) (next q) ∙ mul-add_ℤ d (pos q) (pos 1) ∙ ap (λ k. d *ℤ pos q +ℤ k) (once d)) h
+  where
+    once : (k : ℤ) → k *ℤ pos 1 ≡ k
+    once k = omega (arith, ints)
+
+    next : (n : ℕ) → suc n ≡ n + 1
+    next n = omega arith
+
+    more : (a b : ℤ) → a ≡ b +ℤ d → pos 0 ≤ℤ b → pos 0 <ℤ a
+    more a b e h = omega (arith, ints)
+positive_times d zero pd pq = absurd (omega arith)
+
+step_solved : (b : Bool) (v : ℕ) (values : List Fraction) (rows next : List Row) (f : Fraction) → InForm (suc v) rows → Offered (without v rows) (combinations v (raising v rows) (lowering v rows)) next → Solved v values next → value_of b v values rows ≡ Some f → Solved (suc v) (values ++ f ∷ []) rows
+step_solved b v values rows next f form o s e = by_value (value_holds b v values rows next s.num s.d f s.positive s.worth z form o s.holds e)
+  where
+    z : s.num v ≡ pos 0
+    z = value_past values s.num s.d v s.length_is s.worth
+
+    by_value : ValueHolds s.num s.d v rows f → Solved (suc v) (values ++ f ∷ []) rows
+    by_value h = record {
+      num = raised_to s.num s.d v f;
+      d = s.d *ℤ pos f.under;
+      positive = positive_times s.d f.under s.positive h.positive;
+      worth = raised_worth values s.num s.d v f s.length_is h.positive s.worth z;
+      length_is = length_push values f v s.length_is;
+      holds = λ r k. raised_holds s.num s.d v f r (h.holds r k);
+    }
+
+elimination : (b : Bool) (v : ℕ) (rows next : List Row) → eliminated b v rows ≡ keeps next → Offered (without v rows) (combinations v (raising v rows) (lowering v rows)) next
+unfolding eliminated
+elimination b v rows next e = offered_of b v (without v rows) (combinations v (raising v rows) (lowering v rows)) next (combined_all b v (without v rows) (raising v rows) (lowering v rows) next e)
+
+decided_solved : (b : Bool) (n : ℕ) (rows : List Row) (values : List Fraction) → InForm n rows → decided b n rows ≡ point values → Solved n values rows
+decided_solved b zero rows values form e =
+    let is : [] ≡ values = cc in
+    subst (λ (vs : List Fraction). Solved zero vs rows) is (record {
+      num = λ x. pos 0;
+      d = pos 1;
+      positive = omega (arith, ints);
+      worth = λ x. record { positive = omega arith; value = refl };
+      length_is = refl;
+      holds = λ r h. absurd (none r (form r h));
+    })
+  where
+    none : (r : Row) → IsOrdered r.terms × AllBelow zero r.terms × (is_constant r ≡ false) → ⊥
+    none r f =
+        let t : is_constant r ≡ true = terms_constant r (empty r.terms f.1) in
+        let u : is_constant r ≡ false = f.2 in
+        absurd (cc)
+      where
+        empty : (ts : List Term) → AllBelow zero ts → ts ≡ []
+        empty [] h = refl
+        empty (t ∷ ts) h = absurd (let k : t.0 < zero = h.0 in omega arith)
+decided_solved b (suc v) rows values form e = by_kept (eliminated b v rows) refl e (λ next vs f g. decided_solved b v next vs f g)
+  where
+    Rest : Type 0
+    Rest = (next : List Row) (vs : List Fraction) → InForm v next → decided b v next ≡ point vs → Solved v vs next
+
+    by_value : (next : List Row) (vs : List Fraction) → Offered (without v rows) (combinations v (raising v rows) (lowering v rows)) next → Solved v vs next → (o : Option Fraction) → value_of b v vs rows ≡ o → with_value v vs o ≡ point values → Solved (suc v) values rows
+    by_value next vs o s None g e = absurd (cc)
+    by_value next vs o s (Some f) g e = let is : vs ++ f ∷ [] ≡ values = cc in subst (λ (k : List Fraction). Solved (suc v) k rows) is (step_solved b v vs rows next f form o s g)
+
+    by_verdict : (next : List Row) → eliminated b v rows ≡ keeps next → (w : Verdict) → decided b v next ≡ w → and_value b v rows w ≡ point values → ((next : List Row) (vs : List Fraction) → InForm v next → decided b v next ≡ point vs → Solved v vs next) → Solved (suc v) values rows
+    by_verdict next k (stops event) g e rest = absurd (cc)
+    by_verdict next k (point vs) g e rest =
+        let o = elimination b v rows next k in
+        by_value next vs o (rest next vs (next_form v rows next form o) g) (value_of b v vs rows) refl e
+
+    by_kept : (k : Kept) → eliminated b v rows ≡ k → unless_ended k (λ next. and_value b v rows (decided b v next)) ≡ point values → ((next : List Row) (vs : List Fraction) → InForm v next → decided b v next ≡ point vs → Solved v vs next) → Solved (suc v) values rows
+    by_kept (keeps next) k e rest = by_verdict next k (decided b v next) refl e rest
+    by_kept (ends event) k e rest = absurd (cc)
+
+-- ---- the whole system
+below_variables : (ts : List Term) → AllBelow (variables_in ts) ts
+below_variables [] = tt
+below_variables (t ∷ ts) = (omega arith, AllBelow-mono (variables_in ts) (variables_in (t ∷ ts)) ts (omega arith) (below_variables ts))
+
+row_below : (rows : List Row) (r : Row) → In r rows → AllBelow (variables rows) r.terms
+row_below [] r h = absurd h
+row_below (q ∷ qs) r (inl e) = subst (λ (z : Row). AllBelow (variables (q ∷ qs)) z.terms) e (AllBelow-mono (variables_in q.terms) (variables (q ∷ qs)) q.terms (omega arith) (below_variables q.terms))
+row_below (q ∷ qs) r (inr h) = AllBelow-mono (variables qs) (variables (q ∷ qs)) r.terms (omega arith) (row_below qs r h)
+
+pub verdict_solved : (rows : List Row) (values : List Fraction) → ((r : Row) → In r rows → IsOrdered r.terms) → verdict rows ≡ point values → Solved (variables rows) values rows
+unfolding verdict
+verdict_solved rows values ordered e = by_kept (not (are_differences rows)) (keep_all (not (are_differences rows)) (variables rows - 1) [] rows) refl e
+  where
+    by_solved : (b : Bool) (kept : List Row) → Offered [] rows kept → Solved (variables rows) values kept → Solved (variables rows) values rows
+    by_solved b kept o s = record {
+      num = s.num;
+      d = s.d;
+      positive = s.positive;
+      worth = s.worth;
+      length_is = s.length_is;
+      holds = λ r h. offered_holds s.num s.d kept r s.positive s.holds (o.new r h);
+    }
+
+    in_form : (kept : List Row) → Offered [] rows kept → InForm (variables rows) kept
+    in_form kept o q h = by_from (o.from q h)
+      where
+        by_from : In q [] ⊎ ((r : Row) × In r rows × (q ≡ normalised r) × (is_constant q ≡ false)) → IsOrdered q.terms × AllBelow (variables rows) q.terms × (is_constant q ≡ false)
+        by_from (inl x) = absurd x
+        by_from (inr x) =
+            let m = normalised_form (variables rows) x.0 (ordered x.0 x.1) (row_below rows x.0 x.1) in
+            (subst (λ (z : Row). IsOrdered z.terms) (sym x.2) m.0, subst (λ (z : Row). AllBelow (variables rows) z.terms) (sym x.2) m.1, x.3)
+
+    by_kept : (b : Bool) (k : Kept) → keep_all b (variables rows - 1) [] rows ≡ k → unless_ended k (λ kept. decided b (variables rows) kept) ≡ point values → Solved (variables rows) values rows
+    by_kept b (ends event) k e = absurd (cc)
+    by_kept b (keeps kept) k e =
+        let o = offered_of b (variables rows - 1) [] rows kept k in
+        by_solved b kept o (decided_solved b (variables rows) kept values (in_form kept o) e)

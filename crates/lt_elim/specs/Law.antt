@@ -1,10 +1,10 @@
 -- What holds of verdicts.
-use Rattle.std.specs.Prelude.{◌≡◌, ℕ, suc, ℤ, pos, neg_ℤ, ◌*◌, ◌≤ℤ◌, true, false, Bool, List, [], ◌∷◌, All}
+use Rattle.std.specs.Prelude.{◌≡◌, ℕ, suc, ℤ, pos, neg_ℤ, ◌*◌, ◌≤ℤ◌, true, false, Bool, List, [], ◌∷◌, All, length}
 use Rattle.lt_lin.specs.declared.row.Row.{Row}
 use Rattle.lt_lin.specs.Terms.{IsOrdered}
 use Rattle.lt_elim.specs.Elimination.{refuted, Kept, keeps, keep_all, eliminated}
 use Rattle.lt_elim.specs.Fraction.{Fraction}
-use Rattle.lt_elim.specs.Decision.{Verdict, stops, point, variables, verdict}
+use Rattle.lt_elim.specs.Decision.{Verdict, stops, point, variables, verdict, IsSolution}
 use Rattle.lt_elim.specs.Difference.{are_differences}
 
 -- the terms of each row in order
@@ -34,3 +34,10 @@ abbrev pub DifferencesStaySmall : Type 0
 DifferencesStaySmall =
     (rows : List Row) → AreOrdered rows → are_differences rows ≡ true → (m : ℕ) → AreSized m rows →
     (v : ℕ) (kept : List Row) → Reaches rows v kept → AreSized (suc (variables rows) * m) kept
+
+-- ---- points
+-- A point has a value for each variable, and makes every row true.
+abbrev pub PointsSatisfy : Type 0
+PointsSatisfy =
+    (rows : List Row) → AreOrdered rows → (values : List Fraction) → verdict rows ≡ point values →
+    (length values ≡ variables rows) × IsSolution values rows

@@ -1,5 +1,5 @@
 // Laws of the definitions: nothing to run.
-ghost use Rattle.lt_elim.specs.Law.{DifferencesAreWhole, DifferencesStaySmall};
+ghost use Rattle.lt_elim.specs.Law.{DifferencesAreWhole, DifferencesStaySmall, PointsSatisfy};
 
 /// On a difference system neither limit comes, and a point is whole.
 pub fn differences_are_whole()
@@ -10,5 +10,11 @@ pub fn differences_are_whole()
 /// Constants that are kept of a difference system stay small.
 pub fn differences_stay_small()
     ensures { DifferencesStaySmall }
+{
+}
+
+/// A point has a value for each variable, and makes every row true.
+pub fn points_satisfy()
+    ensures { PointsSatisfy }
 {
 }

@@ -3,4 +3,4 @@
 
 mod law;
 
-pub use law::{differences_are_whole, differences_stay_small};
+pub use law::{differences_are_whole, differences_stay_small, points_satisfy};
