@@ -7,4 +7,5 @@ pub mod Keeping
 pub mod Edges
 pub mod Points
 pub mod Differences
+pub mod Refuting
 pub mod Laws
