@@ -64,21 +64,21 @@ data Origin (v : ℕ) (rows : List Row) (q : Row) : Type 0 where
   same : In q rows → factor v q.terms ≡ pos 0 → Origin v rows q
   pair : (p n : Row) (i j : ℕ) → In p rows → In n rows → IsLike p (suc v) j → IsLike n i (suc v) → i ≤ v → j ≤ v → (i ≡ j → ⊥) → IsLike q i j → q.constant ≡ n.constant +ℤ p.constant → Origin v rows q
 
-record Raising (v : ℕ) (rows : List Row) (p : Row) : Type 0 where
-  end : ℕ
-  is_in : In p rows
-  like : IsLike p (suc v) end
-  upto : end ≤ v
-  factor_is : factor v p.terms ≡ pos 1
+pub record Raising (v : ℕ) (rows : List Row) (p : Row) : Type 0 where
+  pub end : ℕ
+  pub is_in : In p rows
+  pub like : IsLike p (suc v) end
+  pub upto : end ≤ v
+  pub factor_is : factor v p.terms ≡ pos 1
 
-record Lowering (v : ℕ) (rows : List Row) (n : Row) : Type 0 where
-  start : ℕ
-  is_in : In n rows
-  like : IsLike n start (suc v)
-  upto : start ≤ v
-  factor_is : factor v n.terms ≡ negsuc 0
+pub record Lowering (v : ℕ) (rows : List Row) (n : Row) : Type 0 where
+  pub start : ℕ
+  pub is_in : In n rows
+  pub like : IsLike n start (suc v)
+  pub upto : start ≤ v
+  pub factor_is : factor v n.terms ≡ negsuc 0
 
-raising_is : (v : ℕ) (rows : List Row) → AreEdges (suc v) rows → (p : Row) → In p (raising v rows) → Raising v rows p
+pub raising_is : (v : ℕ) (rows : List Row) → AreEdges (suc v) rows → (p : Row) → In p (raising v rows) → Raising v rows p
 raising_is v rows edges p h = by_touch (touch p v e.0 e.1 e.2 e.3)
   where
     f : In p rows × (int_lt (pos 0) (factor v p.terms) ≡ true)
@@ -95,7 +95,7 @@ raising_is v rows edges p h = by_touch (touch p v e.0 e.1 e.2 e.3)
     by_touch (stops a b c) = absurd (clash (factor v p.terms) f.1 (let z : factor v p.terms ≡ negsuc 0 = c in omega (arith, ints)))
     by_touch (leaves a b c) = absurd (clash (factor v p.terms) f.1 (let z : factor v p.terms ≡ pos 0 = c in omega (arith, ints)))
 
-lowering_is : (v : ℕ) (rows : List Row) → AreEdges (suc v) rows → (n : Row) → In n (lowering v rows) → Lowering v rows n
+pub lowering_is : (v : ℕ) (rows : List Row) → AreEdges (suc v) rows → (n : Row) → In n (lowering v rows) → Lowering v rows n
 lowering_is v rows edges n h = by_touch (touch n v e.0 e.1 e.2 e.3)
   where
     f : In n rows × (int_lt (factor v n.terms) (pos 0) ≡ true)

@@ -255,7 +255,7 @@ below_factor (suc n) f x h = by_place (below_factor n f x) (eqb_tells x n)
         factor_term x n (f n) (terms_below n f) ∙ sum' (factor x (terms_below n f)) (if x == n then f n else pos 0) (f x) (rest (let o : x ≡ n → ⊥ = p.1 in omega arith)) (pass (x == n) p.0)
 
 -- ---- edges over a vertex
-multipliers_one : (v : ℕ) (p n : Row) → factor v p.terms ≡ pos 1 → factor v n.terms ≡ negsuc 0 → multipliers v p n ≡ record { of_raising = pos 1; of_lowering = pos 1 }
+pub multipliers_one : (v : ℕ) (p n : Row) → factor v p.terms ≡ pos 1 → factor v n.terms ≡ negsuc 0 → multipliers v p n ≡ record { of_raising = pos 1; of_lowering = pos 1 }
 unfolding gcd_of
 multipliers_one v p n e f = ap (λ (z : ℤ). multipliers_of (unsigned_abs z) (unsigned_abs (factor v n.terms))) e ∙ ap (λ (z : ℤ). multipliers_of 1 (unsigned_abs z)) f
 

@@ -416,7 +416,7 @@ combination_form : (v : ℕ) (p n : Row) → IsOrdered (combination v p n).terms
 unfolding combination
 combination_form v p n = (below_ordered v (λ x. sum_of (multipliers v p n) (factor x p.terms) (factor x n.terms)), below_all v (λ x. sum_of (multipliers v p n) (factor x p.terms) (factor x n.terms)))
 
-next_form : (v : ℕ) (rows next : List Row) → InForm (suc v) rows → Offered (without v rows) (combinations v (raising v rows) (lowering v rows)) next → InForm v next
+pub next_form : (v : ℕ) (rows next : List Row) → InForm (suc v) rows → Offered (without v rows) (combinations v (raising v rows) (lowering v rows)) next → InForm v next
 next_form v rows next f o q h = by_from (o.from q h)
   where
     by_from : In q (without v rows) ⊎ ((r : Row) × In r (combinations v (raising v rows) (lowering v rows)) × (q ≡ normalised r) × (is_constant q ≡ false)) → IsOrdered q.terms × AllBelow v q.terms × (is_constant q ≡ false)
@@ -721,7 +721,7 @@ step_solved b v values rows next f form o s e = by_value (value_holds b v values
       holds = λ r k. raised_holds s.num s.d v f r (h.holds r k);
     }
 
-elimination : (b : Bool) (v : ℕ) (rows next : List Row) → eliminated b v rows ≡ keeps next → Offered (without v rows) (combinations v (raising v rows) (lowering v rows)) next
+pub elimination : (b : Bool) (v : ℕ) (rows next : List Row) → eliminated b v rows ≡ keeps next → Offered (without v rows) (combinations v (raising v rows) (lowering v rows)) next
 unfolding eliminated
 elimination b v rows next e = offered_of b v (without v rows) (combinations v (raising v rows) (lowering v rows)) next (combined_all b v (without v rows) (raising v rows) (lowering v rows) next e)
 
@@ -775,6 +775,15 @@ row_below [] r h = absurd h
 row_below (q ∷ qs) r (inl e) = subst (λ (z : Row). AllBelow (variables (q ∷ qs)) z.terms) e (AllBelow-mono (variables_in q.terms) (variables (q ∷ qs)) q.terms (omega arith) (below_variables q.terms))
 row_below (q ∷ qs) r (inr h) = AllBelow-mono (variables qs) (variables (q ∷ qs)) r.terms (omega arith) (row_below qs r h)
 
+pub first_form : (b : Bool) (last : ℕ) (rows kept : List Row) → ((r : Row) → In r rows → IsOrdered r.terms) → keep_all b last [] rows ≡ keeps kept → InForm (variables rows) kept
+first_form b last rows kept ordered e q h = by_from ((offered_of b last [] rows kept e).from q h)
+  where
+    by_from : In q [] ⊎ ((r : Row) × In r rows × (q ≡ normalised r) × (is_constant q ≡ false)) → IsOrdered q.terms × AllBelow (variables rows) q.terms × (is_constant q ≡ false)
+    by_from (inl x) = absurd x
+    by_from (inr x) =
+        let m = normalised_form (variables rows) x.0 (ordered x.0 x.1) (row_below rows x.0 x.1) in
+        (subst (λ (z : Row). IsOrdered z.terms) (sym x.2) m.0, subst (λ (z : Row). AllBelow (variables rows) z.terms) (sym x.2) m.1, x.3)
+
 pub verdict_solved : (rows : List Row) (values : List Fraction) → ((r : Row) → In r rows → IsOrdered r.terms) → verdict rows ≡ point values → Solved (variables rows) values rows
 unfolding verdict
 verdict_solved rows values ordered e = by_kept (not (are_differences rows)) (keep_all (not (are_differences rows)) (variables rows - 1) [] rows) refl e
@@ -789,17 +798,8 @@ verdict_solved rows values ordered e = by_kept (not (are_differences rows)) (kee
       holds = λ r h. offered_holds s.num s.d kept r s.positive s.holds (o.new r h);
     }
 
-    in_form : (kept : List Row) → Offered [] rows kept → InForm (variables rows) kept
-    in_form kept o q h = by_from (o.from q h)
-      where
-        by_from : In q [] ⊎ ((r : Row) × In r rows × (q ≡ normalised r) × (is_constant q ≡ false)) → IsOrdered q.terms × AllBelow (variables rows) q.terms × (is_constant q ≡ false)
-        by_from (inl x) = absurd x
-        by_from (inr x) =
-            let m = normalised_form (variables rows) x.0 (ordered x.0 x.1) (row_below rows x.0 x.1) in
-            (subst (λ (z : Row). IsOrdered z.terms) (sym x.2) m.0, subst (λ (z : Row). AllBelow (variables rows) z.terms) (sym x.2) m.1, x.3)
-
     by_kept : (b : Bool) (k : Kept) → keep_all b (variables rows - 1) [] rows ≡ k → unless_ended k (λ kept. decided b (variables rows) kept) ≡ point values → Solved (variables rows) values rows
     by_kept b (ends event) k e = absurd (cc)
     by_kept b (keeps kept) k e =
         let o = offered_of b (variables rows - 1) [] rows kept k in
-        by_solved b kept o (decided_solved b (variables rows) kept values (in_form kept o) e)
+        by_solved b kept o (decided_solved b (variables rows) kept values (first_form b (variables rows - 1) rows kept ordered k) e)
