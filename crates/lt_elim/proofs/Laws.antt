@@ -1,5 +1,5 @@
 -- The laws of difference systems.
-use Rattle.std.proofs.Common.{arith, ◌≡◌, refl, sym, ◌∙◌, ap, subst, ℕ, suc, zero, ℤ, pos, negsuc, ◌+ℤ◌, ◌-ℤ◌, ◌*ℤ◌, ◌≤ℤ◌, ◌<ℤ◌, ◌+◌, ◌-◌, ◌*◌, ◌/◌, ◌%◌, ◌<◌, ◌≤◌, ◌≢◌, List, [], ◌∷◌, ◌++◌, length, ◌⊎◌, inl, inr, Bool, true, false, ◌&&◌, not, max, div-one, suc-mul, zero-mul, add_comm, Option, Some, None}
+use Rattle.std.proofs.Common.{arith, ◌≡◌, refl, sym, ◌∙◌, ap, subst, ℕ, suc, zero, ℤ, pos, negsuc, ◌+ℤ◌, ◌-ℤ◌, ◌*ℤ◌, ◌≤ℤ◌, ◌<ℤ◌, ◌+◌, ◌-◌, ◌*◌, ◌/◌, ◌%◌, ◌^◌, ◌<◌, ◌≤◌, ◌≢◌, List, [], ◌∷◌, ◌++◌, length, ◌⊎◌, inl, inr, Bool, true, false, ◌&&◌, not, max, div-one, suc-mul, zero-mul, add_comm, Option, Some, None}
 use native.Mathlib.Nat.{mod-one}
 use Rattle.std.specs.Prelude.{neg_ℤ, int_lt, ◌==◌, if◌then◌else◌, unsigned_abs, All, slice_index_or}
 use Rattle.std.proofs.lemmas.Int.{ints}
@@ -14,10 +14,14 @@ use Rattle.lt_elim.specs.Elimination.{Event, refuted, Kept, keeps, ends, and_nex
 use Rattle.lt_elim.specs.Fraction.{Fraction, fraction, whole, times_by, times, reduced_by, reduced, sum_over, plus_by, plus, negated_over_by, negated_over, is_at_most, greater, lesser}
 use Rattle.lt_elim.specs.Difference.{are_differences}
 use Rattle.lt_elim.specs.Decision.{Verdict, stops, point, if_some, terms_added, bound, best_after, best_of, greatest_allowed, least_allowed, value_of, with_value, and_value, unless_ended, decided, variables, verdict_within, verdict, IsSolution}
-use Rattle.lt_elim.specs.Law.{AreOrdered, IsWholeVerdict, is_refuted, is_whole, DifferencesAreWhole, Reaches, at_first, after_next, AreSized, DifferencesStaySmall, PointsSatisfy}
+use Rattle.lt_elim.specs.Law.{AreOrdered, IsWholeVerdict, is_refuted, is_whole, DifferencesAreWhole, Reaches, at_first, after_next, AreSized, DifferencesStaySmall, PointsSatisfy, RefutationsHaveLines}
 use Rattle.lt_elim.proofs.Walks.{IsSized, steps}
 use Rattle.lt_elim.proofs.Keeping.{In, filter_in}
 use Rattle.lt_elim.proofs.Edges.{AllUnits, quotient_one, like_units, touch, Touch, starts, stops, leaves, IsLike}
+use Rattle.lt_lin.specs.Lines.{Lines}
+use Rattle.lt_lin.specs.Refutation.{Refutes}
+use Rattle.lt_lin.proofs.Soundness.{unsatisfied}
+use Rattle.lt_elim.proofs.Refuting.{Follows, verdict_traced, edges_fit, CombinationFits}
 use Rattle.lt_elim.proofs.Points.{Solved, verdict_solved}
 use Rattle.lt_elim.proofs.Values.{total}
 use Rattle.lt_elim.proofs.Differences.{HasEdge, AreEdges, IsKept, kept_first, kept_next, kept_sized}
@@ -272,3 +276,40 @@ points_satisfy rows o values e =
       values_are = λ x. (s.worth x).value;
       rows_hold = all_in (λ r. pos 0 ≤ℤ total s.num s.d r) rows s.holds;
     })
+
+-- ---- refutations
+has_lines : (rows : List Row) → AreOrdered rows → (m : ℕ) → AreSized m rows → suc (variables rows) * m ≤ 2 ^ 125 → verdict rows ≡ stops refuted → (lines : Lines) × Refutes rows lines
+unfolding verdict
+has_lines rows o m s small e = by_test (are_differences rows) refl e
+  where
+    ordered : (r : Row) → In r rows → IsOrdered r.terms
+    ordered r h = in_all (λ q. IsOrdered q.terms) rows o r h
+
+    sized : (r : Row) → In r rows → IsSized m r.constant
+    sized r h = let k = in_all (Sized m) rows s r h in record { low = k.0; high = k.1 }
+
+    without_limit : Follows rows false (λ v kept. IsKept (HasEdge rows) (variables rows) v kept × (v ≤ variables rows))
+    without_limit = record {
+      fits = λ v kept i f p n hp hn. edges_fit v kept i.0.edges (λ r h. wider r.constant (kept_sized rows (variables rows) (suc v) m kept sized i.0 r h)) p n hp hn;
+      next = λ v kept more i f. (kept_next (HasEdge rows) (variables rows) v kept more i.1 i.0 f, let l : suc v ≤ variables rows = i.1 in omega arith);
+    }
+      where
+        wider : (c : ℤ) → IsSized (steps m (suc (variables rows))) c → IsSized (2 ^ 125) c
+        wider c h =
+            let k : IsSized (suc (variables rows) * m) c = subst (λ (n : ℕ). IsSized n c) (steps_times m (suc (variables rows))) h in
+            widen (suc (variables rows) * m) (2 ^ 125) c small k.low k.high
+          where
+            widen : (x y : ℕ) (c : ℤ) → x ≤ y → neg_ℤ (pos x) ≤ℤ c → c ≤ℤ pos x → IsSized y c
+            widen x y c l a b = record { low = omega (arith, ints); high = omega (arith, ints) }
+
+    with_limit : Follows rows true (λ v kept. Unit {0})
+    with_limit = record { fits = λ v kept i f p n hp hn. absurd (cc); next = λ v kept more i f. tt }
+
+    by_test : (d : Bool) → are_differences rows ≡ d → verdict_within (not d) rows ≡ stops refuted → (lines : Lines) × Refutes rows lines
+    by_test true d e = verdict_traced rows false (λ v kept. IsKept (HasEdge rows) (variables rows) v kept × (v ≤ variables rows)) without_limit ordered (λ kept f. (kept_first rows kept (variables rows - 1) ordered d f, omega arith)) e
+    by_test false d e = verdict_traced rows true (λ v kept. Unit {0}) with_limit ordered (λ kept f. tt) e
+
+pub refutations_have_lines : RefutationsHaveLines
+refutations_have_lines rows o m s small e =
+    let l = has_lines rows o m s small e in
+    (l, λ numbers h. unsatisfied rows l.0 l.1 numbers h)

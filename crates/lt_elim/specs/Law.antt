@@ -1,7 +1,10 @@
 -- What holds of verdicts.
-use Rattle.std.specs.Prelude.{◌≡◌, ℕ, suc, ℤ, pos, neg_ℤ, ◌*◌, ◌≤ℤ◌, true, false, Bool, List, [], ◌∷◌, All, length}
+use Rattle.std.specs.Prelude.{◌≡◌, ℕ, suc, ℤ, pos, neg_ℤ, ◌*◌, ◌^◌, ◌≤◌, ◌≤ℤ◌, true, false, Bool, List, [], ◌∷◌, All, length}
 use Rattle.lt_lin.specs.declared.row.Row.{Row}
 use Rattle.lt_lin.specs.Terms.{IsOrdered}
+use Rattle.lt_lin.specs.Rows.{Satisfies}
+use Rattle.lt_lin.specs.Lines.{Lines}
+use Rattle.lt_lin.specs.Refutation.{Refutes}
 use Rattle.lt_elim.specs.Elimination.{refuted, Kept, keeps, keep_all, eliminated}
 use Rattle.lt_elim.specs.Fraction.{Fraction}
 use Rattle.lt_elim.specs.Decision.{Verdict, stops, point, variables, verdict, IsSolution}
@@ -41,3 +44,11 @@ abbrev pub PointsSatisfy : Type 0
 PointsSatisfy =
     (rows : List Row) → AreOrdered rows → (values : List Fraction) → verdict rows ≡ point values →
     (length values ≡ variables rows) × IsSolution values rows
+
+-- ---- refutations
+-- Where a system is refuted, lines refute it, and no whole numbers make all its rows true. Its constants are small enough for
+-- the lines of a difference system, which has no limit.
+abbrev pub RefutationsHaveLines : Type 0
+RefutationsHaveLines =
+    (rows : List Row) → AreOrdered rows → (m : ℕ) → AreSized m rows → suc (variables rows) * m ≤ 2 ^ 125 → verdict rows ≡ stops refuted →
+    ((lines : Lines) × Refutes rows lines) × ((numbers : ℕ → ℤ) → Satisfies numbers rows → ⊥)

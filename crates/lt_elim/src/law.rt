@@ -1,5 +1,5 @@
 // Laws of the definitions: nothing to run.
-ghost use Rattle.lt_elim.specs.Law.{DifferencesAreWhole, DifferencesStaySmall, PointsSatisfy};
+ghost use Rattle.lt_elim.specs.Law.{DifferencesAreWhole, DifferencesStaySmall, PointsSatisfy, RefutationsHaveLines};
 
 /// On a difference system neither limit comes, and a point is whole.
 pub fn differences_are_whole()
@@ -16,5 +16,11 @@ pub fn differences_stay_small()
 /// A point has a value for each variable, and makes every row true.
 pub fn points_satisfy()
     ensures { PointsSatisfy }
+{
+}
+
+/// Where a system is refuted, lines refute it, and no whole numbers make all its rows true.
+pub fn refutations_have_lines()
+    ensures { RefutationsHaveLines }
 {
 }

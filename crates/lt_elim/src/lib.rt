@@ -3,4 +3,4 @@
 
 mod law;
 
-pub use law::{differences_are_whole, differences_stay_small, points_satisfy};
+pub use law::{differences_are_whole, differences_stay_small, points_satisfy, refutations_have_lines};
