@@ -1,15 +1,15 @@
 -- Eliminating a variable from a difference system eliminates a vertex from its graph.
-use Rattle.std.proofs.Common.{arith, ◌≡◌, refl, sym, ◌∙◌, ap, subst, ℕ, suc, zero, ℤ, pos, negsuc, ◌+ℤ◌, ◌-ℤ◌, ◌*ℤ◌, ◌≤ℤ◌, ◌<ℤ◌, ◌+◌, ◌-◌, ◌<◌, ◌≤◌, ◌≢◌, List, [], ◌∷◌, ◌++◌, length, ◌⊎◌, inl, inr, Bool, true, false, ◌&&◌, cond, max}
-use Rattle.std.specs.Prelude.{neg_ℤ, int_lt, ◌==◌, if◌then◌else◌, map, unsigned_abs}
+use Rattle.std.proofs.Common.{arith, ◌≡◌, refl, sym, ◌∙◌, ap, subst, ℕ, suc, ℤ, pos, negsuc, ◌+ℤ◌, ◌-ℤ◌, ◌≤ℤ◌, ◌≤◌, List, [], ◌∷◌, ◌⊎◌, inl, inr, Bool, true, false, ◌&&◌, cond}
+use Rattle.std.specs.Prelude.{neg_ℤ, int_lt, ◌==◌, if◌then◌else◌, unsigned_abs}
 use Rattle.std.specs.Ordering.{int_eq}
 use Rattle.std.specs.List.{filter}
 use Rattle.std.proofs.lemmas.Int.{ints}
 use Rattle.std.proofs.lemmas.Bool.{and_parts}
 use Rattle.std.proofs.lemmas.Bool.Decides.{eqb_tells, Decides-int_eq}
 use Rattle.lt_lin.specs.declared.row.Row.{Row}
-use Rattle.lt_lin.specs.Terms.{Term, IsOrdered, IsOrderedFrom, factor}
+use Rattle.lt_lin.specs.Terms.{Term, IsOrdered, factor}
 use Rattle.lt_elim.specs.Combination.{normalised, combination}
-use Rattle.lt_elim.specs.Elimination.{Kept, keeps, is_constant, keep_all, combine_all, without, raising, lowering, eliminated}
+use Rattle.lt_elim.specs.Elimination.{keeps, is_constant, keep_all, without, raising, lowering, eliminated}
 use Rattle.lt_elim.specs.Difference.{is_unit, is_difference, are_differences}
 use Rattle.lt_elim.specs.Decision.{variables, variables_in}
 use Rattle.lt_elim.proofs.Walks.{IsStage, Eliminates, next_stage, first_stage, IsSized, steps, stage_sized}
@@ -149,10 +149,10 @@ origin v rows next edges o q h = by_from (o.from q h)
         let is : q ≡ combination v c.0 c.1 = x.2 ∙ ap normalised c.4 ∙ like_normal (combination v c.0 c.1) n.start p.end like in
         let like_q : IsLike q n.start p.end = subst (λ (z : Row). IsLike z n.start p.end) (sym is) like in
         let proper : n.start ≡ p.end → ⊥ = λ e. (
-          let t : q.terms ≡ [] = like_none q p.end (subst (λ (z : ℕ). IsLike q z p.end) e like_q) in
-          let u : is_constant q ≡ true = terms_constant q t in
-          let w : is_constant q ≡ false = x.3 in
-          absurd (cc)
+        let t : q.terms ≡ [] = like_none q p.end (subst (λ (z : ℕ). IsLike q z p.end) e like_q) in
+        let u : is_constant q ≡ true = terms_constant q t in
+        let w : is_constant q ≡ false = x.3 in
+        absurd (cc)
         ) in
         let sum : q.constant ≡ c.0.constant +ℤ c.1.constant = ap (λ (z : Row). z.constant) is ∙ combination_sum v c.0 c.1 p.factor_is n.factor_is in
         pair c.0 c.1 n.start p.end p.is_in n.is_in p.like n.like n.upto p.upto proper like_q (swapped c.0.constant c.1.constant q.constant sum)
@@ -365,7 +365,11 @@ row_like (q ∷ qs) o d r (inl e) =
     let both = and_parts (is_difference q.terms) (are_differences qs) d in
     let l = difference_like q.terms q.constant (o q (inl refl)) both.0 in
     subst (λ (z : Row). LikeUpTo z (variables (q ∷ qs))) e (record {
-      start = l.start; end = l.end; like = l.like; start_upto = omega (arith, l.start_upto); end_upto = omega (arith, l.end_upto);
+      start = l.start;
+      end = l.end;
+      like = l.like;
+      start_upto = omega (arith, l.start_upto);
+      end_upto = omega (arith, l.end_upto);
     })
 row_like (q ∷ qs) o d r (inr h) =
     let both = and_parts (is_difference q.terms) (are_differences qs) d in

@@ -1,9 +1,9 @@
 -- Greatest common divisors.
-use Rattle.std.proofs.Common.{arith, ◌≡◌, refl, sym, ◌∙◌, ap, subst, ℕ, suc, zero, ◌+◌, ◌*◌, ◌/◌, ◌%◌, ◌<◌, ◌≤◌, Bool, true, false, mod-lt, pos_of_ne-zero, List, [], ◌∷◌}
+use Rattle.std.proofs.Common.{arith, ◌≡◌, refl, ℕ, suc, zero, ◌%◌, ◌<◌, Bool, true, false, mod-lt, pos_of_ne-zero, List, [], ◌∷◌}
 use Rattle.std.specs.Prelude.{◌==◌, unsigned_abs}
 use Rattle.std.specs.Int.{◌∣◌, IsGcd}
 use Rattle.std.proofs.lemmas.Bool.{eqb-true, eqb-false}
-use Rattle.std.proofs.lemmas.Nat.Gcd.{IsGcd-from_zero, IsGcd-from_mod, same_from_IsGcd, dvd_trans, mod-eq-zero_of_dvd}
+use Rattle.std.proofs.lemmas.Nat.Gcd.{IsGcd-from_zero, IsGcd-from_mod, dvd_trans, mod-eq-zero_of_dvd}
 use Rattle.lt_lin.specs.Terms.{Term}
 use Rattle.lt_elim.specs.Divisor.{gcd_by, gcd_of, content}
 

@@ -1,6 +1,6 @@
 -- Rows of a difference system are edges of a graph: vertex 0 stands for 0, and vertex x + 1 for the variable x.
-use Rattle.std.proofs.Common.{arith, ◌≡◌, refl, sym, ◌∙◌, ap, subst, ℕ, suc, zero, ℤ, pos, negsuc, ◌+ℤ◌, ◌-ℤ◌, ◌*ℤ◌, ◌≤ℤ◌, ◌<ℤ◌, ◌+◌, ◌<◌, ◌≤◌, ◌≢◌, List, [], ◌∷◌, ◌++◌, length, ◌⊎◌, inl, inr, Bool, true, false, ◌&&◌, div-one}
-use Rattle.std.specs.Prelude.{neg_ℤ, int_lt, ◌==◌, if◌then◌else◌, map, unsigned_abs}
+use Rattle.std.proofs.Common.{arith, ◌≡◌, refl, sym, ◌∙◌, ap, subst, ℕ, suc, zero, ℤ, pos, negsuc, ◌+ℤ◌, ◌-ℤ◌, ◌*ℤ◌, ◌+◌, ◌<◌, ◌≤◌, ◌≢◌, List, [], ◌∷◌, ◌++◌, ◌⊎◌, inl, inr, Bool, true, false, div-one}
+use Rattle.std.specs.Prelude.{◌==◌, if◌then◌else◌, map, unsigned_abs}
 use Rattle.std.specs.Ordering.{int_eq}
 use Rattle.std.proofs.lemmas.Int.{ints}
 use Rattle.std.proofs.lemmas.Bool.{eq-eqb, ne_eqb, cases_lt}
@@ -88,9 +88,10 @@ same_first zero (suc y) (suc x) l h o = elim (marks x l) [
 
 -- An edge has one start and one end.
 pub same_ends : (r : Row) (i j k l : ℕ) → IsLike r i j → IsLike r k l → (i ≡ j → ⊥) → (i ≡ k) × (j ≡ l)
-same_ends r i j k l h m o =
-    (same_first i j k l (λ x. sym (h.factors x) ∙ m.factors x) o,
-    same_first j i l k (λ x. turned (mark x i) (mark x j) (mark x k) (mark x l) (sym (h.factors x) ∙ m.factors x)) (λ e. o (sym e)))
+same_ends r i j k l h m o = (
+  same_first i j k l (λ x. sym (h.factors x) ∙ m.factors x) o,
+  same_first j i l k (λ x. turned (mark x i) (mark x j) (mark x k) (mark x l) (sym (h.factors x) ∙ m.factors x)) (λ e. o (sym e)),
+)
   where
     turned : (a b c d : ℤ) → a -ℤ b ≡ c -ℤ d → b -ℤ a ≡ d -ℤ c
     turned a b c d e = omega (arith, ints)

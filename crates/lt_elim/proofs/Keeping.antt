@@ -1,15 +1,15 @@
 -- What is kept of rows that come in turn.
-use Rattle.std.proofs.Common.{arith, ◌≡◌, refl, sym, ◌∙◌, ap, subst, ℕ, suc, zero, ℤ, pos, ◌+ℤ◌, ◌≤ℤ◌, ◌<ℤ◌, ◌+◌, ◌<◌, ◌≤◌, List, [], ◌∷◌, ◌++◌, length, ◌⊎◌, inl, inr, Bool, true, false, ◌&&◌, cond}
-use Rattle.std.specs.Prelude.{neg_ℤ, int_lt, nat_lt, ◌==◌, if◌then◌else◌, map}
+use Rattle.std.proofs.Common.{arith, ◌≡◌, refl, sym, ◌∙◌, ap, subst, ℕ, ℤ, pos, ◌≤ℤ◌, List, [], ◌∷◌, ◌++◌, length, ◌⊎◌, inl, inr, Bool, true, false, ◌&&◌, cond}
+use Rattle.std.specs.Prelude.{int_lt, nat_lt, ◌==◌, if◌then◌else◌, map}
 use Rattle.std.specs.Ordering.{int_eq}
 use Rattle.std.specs.List.{filter}
 use Rattle.std.proofs.lemmas.Int.{ints}
 use Rattle.std.proofs.lemmas.Bool.{eq-eqb}
-use Rattle.std.proofs.lemmas.Bool.Decides.{eqb_tells, Decides-int_eq}
+use Rattle.std.proofs.lemmas.Bool.Decides.{Decides-int_eq}
 use Rattle.lt_lin.specs.declared.row.Row.{Row}
 use Rattle.lt_lin.specs.Terms.{Term}
 use Rattle.lt_elim.specs.Combination.{normalised, combination, is_wide}
-use Rattle.lt_elim.specs.Elimination.{Kept, keeps, ends, Event, refuted, coeff, many_rows, row_limit, within_limit, and_next, same_terms, is_constant, is_contradiction, tighter, with_row, keep, keep_normalised, keep_all, combine_with, combine_all, keep_combination}
+use Rattle.lt_elim.specs.Elimination.{Kept, keeps, ends, refuted, coeff, many_rows, row_limit, within_limit, and_next, same_terms, is_constant, tighter, with_row, keep, keep_normalised, keep_all, combine_with, combine_all}
 
 abbrev pub In : Row → List Row → Type 0
 In r [] = ⊥
@@ -336,7 +336,7 @@ pub in_combinations : (v : ℕ) (ps ns : List Row) (p n : Row) → In p ps → I
 in_combinations v [] ns p n h k = absurd h
 in_combinations v (q ∷ ps) ns p n (inl e) k =
     in_append_left (combination v p n) (map (λ x. combination v q x) ns) (combinations v ps ns)
-        (subst (λ (z : Row). In (combination v p n) (map (λ x. combination v z x) ns)) (sym e) (in_map (λ x. combination v p x) n ns k))
+    (subst (λ (z : Row). In (combination v p n) (map (λ x. combination v z x) ns)) (sym e) (in_map (λ x. combination v p x) n ns k))
 in_combinations v (q ∷ ps) ns p n (inr h) k =
     in_append_right (combination v p n) (map (λ x. combination v q x) ns) (combinations v ps ns) (in_combinations v ps ns p n h k)
 

@@ -1,5 +1,5 @@
 -- The laws of difference systems.
-use Rattle.std.proofs.Common.{arith, ◌≡◌, refl, sym, ◌∙◌, ap, subst, ℕ, suc, zero, ℤ, pos, negsuc, ◌+ℤ◌, ◌-ℤ◌, ◌*ℤ◌, ◌≤ℤ◌, ◌<ℤ◌, ◌+◌, ◌-◌, ◌*◌, ◌/◌, ◌%◌, ◌^◌, ◌<◌, ◌≤◌, ◌≢◌, List, [], ◌∷◌, ◌++◌, length, ◌⊎◌, inl, inr, Bool, true, false, ◌&&◌, not, max, div-one, suc-mul, zero-mul, add_comm, Option, Some, None}
+use Rattle.std.proofs.Common.{arith, ◌≡◌, refl, sym, ◌∙◌, ap, subst, ℕ, suc, zero, ℤ, pos, ◌+ℤ◌, ◌*ℤ◌, ◌≤ℤ◌, ◌+◌, ◌-◌, ◌*◌, ◌/◌, ◌^◌, ◌<◌, ◌≤◌, List, [], ◌∷◌, ◌++◌, length, ◌⊎◌, inl, inr, Bool, true, false, ◌&&◌, not, div-one, suc-mul, zero-mul, add_comm, Option, Some}
 use native.Mathlib.Nat.{mod-one}
 use Rattle.std.specs.Prelude.{neg_ℤ, int_lt, ◌==◌, if◌then◌else◌, unsigned_abs, All, slice_index_or}
 use Rattle.std.proofs.lemmas.Int.{ints}
@@ -10,19 +10,19 @@ use Rattle.lt_lin.specs.declared.row.Row.{Row}
 use Rattle.lt_lin.specs.Terms.{Term, IsOrdered, factor}
 use Rattle.lt_elim.specs.Divisor.{gcd_by, gcd_of, quotient}
 use Rattle.lt_elim.specs.Combination.{normalised, combination}
-use Rattle.lt_elim.specs.Elimination.{Event, refuted, Kept, keeps, ends, and_next, is_constant, with_row, keep, keep_normalised, keep_all, combine_with, combine_all, without, raising, lowering, eliminated}
-use Rattle.lt_elim.specs.Fraction.{Fraction, fraction, whole, times_by, times, reduced_by, reduced, sum_over, plus_by, plus, negated_over_by, negated_over, is_at_most, greater, lesser}
+use Rattle.lt_elim.specs.Elimination.{refuted, Kept, keeps, ends, and_next, is_constant, with_row, keep, keep_normalised, keep_all, combine_with, combine_all, without, raising, lowering, eliminated}
+use Rattle.lt_elim.specs.Fraction.{Fraction, fraction, whole, times, reduced, plus, negated_over, is_at_most, greater, lesser}
 use Rattle.lt_elim.specs.Difference.{are_differences}
-use Rattle.lt_elim.specs.Decision.{Verdict, stops, point, if_some, terms_added, bound, best_after, best_of, greatest_allowed, least_allowed, value_of, with_value, and_value, unless_ended, decided, variables, verdict_within, verdict, IsSolution}
+use Rattle.lt_elim.specs.Decision.{Verdict, stops, if_some, terms_added, bound, best_after, best_of, least_allowed, value_of, with_value, and_value, unless_ended, decided, variables, verdict_within, verdict}
 use Rattle.lt_elim.specs.Law.{AreOrdered, IsWholeVerdict, is_refuted, is_whole, DifferencesAreWhole, Reaches, at_first, after_next, AreSized, DifferencesStaySmall, PointsSatisfy, RefutationsHaveLines}
 use Rattle.lt_elim.proofs.Walks.{IsSized, steps}
 use Rattle.lt_elim.proofs.Keeping.{In, filter_in}
-use Rattle.lt_elim.proofs.Edges.{AllUnits, quotient_one, like_units, touch, Touch, starts, stops, leaves, IsLike}
+use Rattle.lt_elim.proofs.Edges.{touch, Touch, starts, stops, leaves}
 use Rattle.lt_lin.specs.Lines.{Lines}
 use Rattle.lt_lin.specs.Refutation.{Refutes}
 use Rattle.lt_lin.proofs.Soundness.{unsatisfied}
-use Rattle.lt_elim.proofs.Refuting.{Follows, verdict_traced, edges_fit, CombinationFits}
-use Rattle.lt_elim.proofs.Points.{Solved, verdict_solved}
+use Rattle.lt_elim.proofs.Refuting.{Follows, verdict_traced, edges_fit}
+use Rattle.lt_elim.proofs.Points.{verdict_solved}
 use Rattle.lt_elim.proofs.Values.{total}
 use Rattle.lt_elim.proofs.Differences.{HasEdge, AreEdges, IsKept, kept_first, kept_next, kept_sized}
 
@@ -165,13 +165,13 @@ added_whole v values (t ∷ ts) before h u = by_test (t.0 == v) (λ f w. added_w
     by_test true rest = rest before u
     by_test false rest =
         if_some_whole (times false t.1 (slice_index_or values t.0 (whole (pos 0)))) (λ product. if_some (plus false before product) (λ sum. terms_added false v values ts sum)) (times_whole t.1 (slice_index_or values t.0 (whole (pos 0))) (value_at values h t.0))
-            (λ product w. if_some_whole (plus false before product) (λ sum. terms_added false v values ts sum) (plus_whole before product u w) rest)
+        (λ product w. if_some_whole (plus false before product) (λ sum. terms_added false v values ts sum) (plus_whole before product u w) rest)
 
 bound_whole : (v : ℕ) (values : List Fraction) (r : Row) → AllWhole values → unsigned_abs (factor v r.terms) ≡ 1 → GivesWhole (bound false v values r)
 bound_whole v values r h w =
     if_some_whole (terms_added false v values r.terms (whole (pos 0))) (λ terms. if_some (plus false terms (whole r.constant)) (λ sum. negated_over false sum (factor v r.terms))) (added_whole v values r.terms (whole (pos 0)) h refl)
-        (λ terms u. if_some_whole (plus false terms (whole r.constant)) (λ sum. negated_over false sum (factor v r.terms)) (plus_whole terms (whole r.constant) u refl)
-            (λ sum k. negated_whole sum (factor v r.terms) k w))
+    (λ terms u. if_some_whole (plus false terms (whole r.constant)) (λ sum. negated_over false sum (factor v r.terms)) (plus_whole terms (whole r.constant) u refl)
+    (λ sum k. negated_whole sum (factor v r.terms) k w))
 
 abbrev Keeps : (Fraction → Fraction → Fraction) → Type 0
 Keeps better = (e f : Fraction) → (better e f ≡ e) ⊎ (better e f ≡ f)
@@ -186,12 +186,12 @@ best_after_whole : (better : Fraction → Fraction → Fraction) → Keeps bette
 best_after_whole better k v values best [] h u one = (best, refl, u)
 best_after_whole better k v values best (r ∷ rs) h u one =
     if_some_whole (bound false v values r) (λ b. best_after better false v values (better best b) rs) (bound_whole v values r h (one r (inl refl)))
-        (λ b w. best_after_whole better k v values (better best b) rs h (better_whole better k best b u w) (λ q g. one q (inr g)))
+    (λ b w. best_after_whole better k v values (better best b) rs h (better_whole better k best b u w) (λ q g. one q (inr g)))
 
 best_of_whole : (better : Fraction → Fraction → Fraction) → Keeps better → (v : ℕ) (values : List Fraction) (r : Row) (rows : List Row) → AllWhole values → UnitAt v (r ∷ rows) → GivesWhole (best_of better false v values r rows)
 best_of_whole better k v values r rows h one =
     if_some_whole (bound false v values r) (λ b. best_after better false v values b rows) (bound_whole v values r h (one r (inl refl)))
-        (λ b w. best_after_whole better k v values b rows h w (λ q g. one q (inr g)))
+    (λ b w. best_after_whole better k v values b rows h w (λ q g. one q (inr g)))
 
 greater_keeps : Keeps greater
 greater_keeps e f = by_test (is_at_most f e)
@@ -243,7 +243,7 @@ value_whole v values rows edges h = allowed_whole v values (raising v rows) (low
 with_value_whole : (v : ℕ) (values : List Fraction) (o : Option Fraction) → AllWhole values → GivesWhole o → IsWholeVerdict (with_value v values o)
 with_value_whole v values o h g =
     subst (λ (z : Option Fraction). IsWholeVerdict (with_value v values z)) (sym g.1)
-        (is_whole (values ++ g.0 ∷ []) (All-append (λ f. f.under ≡ 1) values (g.0 ∷ []) h (All-cons (λ f. f.under ≡ 1) g.0 [] g.2 (All-nil (λ f. f.under ≡ 1)))))
+    (is_whole (values ++ g.0 ∷ []) (All-append (λ f. f.under ≡ 1) values (g.0 ∷ []) h (All-cons (λ f. f.under ≡ 1) g.0 [] g.2 (All-nil (λ f. f.under ≡ 1)))))
 
 and_value_whole : (v : ℕ) (rows : List Row) (rest : Verdict) → AreEdges (suc v) rows → IsWholeVerdict rest → IsWholeVerdict (and_value false v rows rest)
 and_value_whole v rows rest edges is_refuted = is_refuted
@@ -268,14 +268,16 @@ differences_are_whole rows o d = subst (λ (b : Bool). IsWholeVerdict (verdict_w
 -- ---- points
 pub points_satisfy : PointsSatisfy
 points_satisfy rows o values e =
-    let s = verdict_solved rows values (λ r h. in_all (λ q. IsOrdered q.terms) rows o r h) e in
-    (s.length_is, record {
-      denominator = s.d;
-      numerators = s.num;
-      positive = s.positive;
-      values_are = λ x. (s.worth x).value;
-      rows_hold = all_in (λ r. pos 0 ≤ℤ total s.num s.d r) rows s.holds;
-    })
+    let s = verdict_solved rows values (λ r h. in_all (λ q. IsOrdered q.terms) rows o r h) e in (
+      s.length_is,
+      record {
+        denominator = s.d;
+        numerators = s.num;
+        positive = s.positive;
+        values_are = λ x. (s.worth x).value;
+        rows_hold = all_in (λ r. pos 0 ≤ℤ total s.num s.d r) rows s.holds;
+      },
+    )
 
 -- ---- refutations
 has_lines : (rows : List Row) → AreOrdered rows → (m : ℕ) → AreSized m rows → suc (variables rows) * m ≤ 2 ^ 125 → verdict rows ≡ stops refuted → (lines : Lines) × Refutes rows lines

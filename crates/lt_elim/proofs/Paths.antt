@@ -1,6 +1,5 @@
 -- Lists of vertices without repetition.
-use Rattle.std.proofs.Common.{arith, ◌≡◌, refl, sym, ◌∙◌, ap, subst, ℕ, suc, zero, ◌+◌, ◌<◌, ◌≤◌, List, [], ◌∷◌, ◌++◌, length, ◌⊎◌, inl, inr}
-use Rattle.std.specs.Prelude.{◌==◌, Bool, true, false}
+use Rattle.std.proofs.Common.{arith, ◌≡◌, refl, sym, ◌∙◌, ap, subst, ℕ, suc, zero, ◌<◌, ◌≤◌, List, [], ◌∷◌, ◌++◌, length, inl, inr}
 use Rattle.std.proofs.lemmas.Bool.Decides.{eqb_tells}
 
 abbrev pub Absent : ℕ → List ℕ → Type 0

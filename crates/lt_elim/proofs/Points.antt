@@ -1,11 +1,10 @@
 -- A point satisfies every row.
-use Rattle.std.proofs.Common.{arith, ◌≡◌, refl, sym, ◌∙◌, ap, subst, ℕ, suc, zero, ℤ, pos, negsuc, ◌+ℤ◌, ◌-ℤ◌, ◌*ℤ◌, ◌≤ℤ◌, ◌<ℤ◌, ◌+◌, ◌-◌, ◌*◌, ◌/◌, ◌<◌, ◌≤◌, ◌≢◌, List, [], ◌∷◌, ◌++◌, length, ◌⊎◌, inl, inr, Bool, true, false, ◌&&◌, not, Option, Some, None, length-append, mul_comm}
-use Rattle.std.specs.Prelude.{neg_ℤ, int_lt, int_le, ◌==◌, if◌then◌else◌, map, unsigned_abs, All, slice_index_or}
+use Rattle.std.proofs.Common.{arith, ◌≡◌, refl, sym, ◌∙◌, ap, subst, ℕ, suc, zero, ℤ, pos, negsuc, ◌+ℤ◌, ◌-ℤ◌, ◌*ℤ◌, ◌≤ℤ◌, ◌<ℤ◌, ◌+◌, ◌-◌, ◌*◌, ◌/◌, ◌<◌, ◌≤◌, ◌≢◌, List, [], ◌∷◌, ◌++◌, length, ◌⊎◌, inl, inr, Bool, true, false, not, Option, Some, None, length-append, mul_comm}
+use Rattle.std.specs.Prelude.{neg_ℤ, int_lt, int_le, ◌==◌, if◌then◌else◌, map, unsigned_abs, slice_index_or}
 use Rattle.std.specs.Ordering.{int_eq}
 use Rattle.std.specs.Int.{◌∣◌}
-use Rattle.std.specs.List.{filter}
-use Rattle.std.proofs.lemmas.Int.{ints, by_lt_z}
-use Rattle.std.proofs.lemmas.Bool.{cases_lt, eqb-true, ne_eqb, eq-eqb}
+use Rattle.std.proofs.lemmas.Int.{ints}
+use Rattle.std.proofs.lemmas.Bool.{cases_lt}
 use Rattle.std.proofs.lemmas.Bool.Decides.{eqb_tells, Decides-int_eq}
 use Rattle.std.proofs.lemmas.List.{get_or_past, get_or_append_left, get_or_push}
 use Rattle.std.proofs.Math.IntN.{*ℤ_comm, zero-*ℤ}
@@ -15,13 +14,13 @@ use Rattle.lt_lin.specs.declared.row.Row.{Row}
 use Rattle.lt_lin.specs.Terms.{Term, IsOrdered, IsOrderedFrom, factor, sum_at}
 use Rattle.lt_lin.proofs.Whole.{floor_low}
 use Rattle.lt_lin.proofs.Factors.{AllBelow, AllBelow-mono, factor_head, factor_other}
-use Rattle.lt_lin.proofs.Soundness.{upto, upto_same, upto_plus, upto_scale, sum_by_variable}
+use Rattle.lt_lin.proofs.Soundness.{upto, upto_plus, upto_scale, sum_by_variable}
 use Rattle.lt_elim.specs.Divisor.{gcd_of, content, quotient}
-use Rattle.lt_elim.specs.Combination.{divided, normalised, with_term, terms_below, Multipliers, multipliers_of, multipliers, sum_of, combination}
+use Rattle.lt_elim.specs.Combination.{divided, normalised, with_term, terms_below, Multipliers, multipliers, sum_of, combination}
 use Rattle.lt_elim.specs.Elimination.{Kept, keeps, ends, is_constant, keep_all, without, raising, lowering, eliminated}
 use Rattle.lt_elim.specs.Fraction.{Fraction, whole, is_at_most, greater, lesser}
 use Rattle.lt_elim.specs.Difference.{are_differences}
-use Rattle.lt_elim.specs.Decision.{Verdict, stops, point, if_some, bound, best_after, best_of, greatest_allowed, least_allowed, value_of, with_value, and_value, unless_ended, decided, variables, variables_in, verdict_within, verdict, IsSolution}
+use Rattle.lt_elim.specs.Decision.{Verdict, stops, point, bound, best_after, best_of, least_allowed, value_of, with_value, and_value, unless_ended, decided, variables, variables_in, verdict}
 use Rattle.lt_elim.proofs.Divisors.{gcd_is, divisor_positive, Divides, content_divides}
 use Rattle.lt_elim.proofs.Ring.{product_not_negative, not_negative_from, exact_ℕ, exact_ℤ}
 use Rattle.lt_elim.proofs.Values.{IsWorth, IsNegatedOver, AreWorth, total, bound_worth, if_some_is}
@@ -54,7 +53,7 @@ divided_holds num d (suc k) r pd h t =
     let low : (pos (suc k) *ℤ q) ≤ℤ r.constant = floor_low r.constant (pos (suc k)) (omega (arith, ints)) in
     let times : (d *ℤ (pos (suc k) *ℤ q)) ≤ℤ (d *ℤ r.constant) = mul-≤ℤ (pos (suc k) *ℤ q) r.constant d (omega (arith, ints)) low in
     raised (pos (suc k) *ℤ (s +ℤ q *ℤ d)) (pos (suc k) *ℤ s) (sum_at num r.terms) (pos (suc k) *ℤ (q *ℤ d)) (d *ℤ (pos (suc k) *ℤ q)) (d *ℤ r.constant) (r.constant *ℤ d)
-        scaled (mul-add_ℤ (pos (suc k)) s (q *ℤ d)) (divides_sum num (suc k) r.terms (omega arith) h) (regroup (pos (suc k)) q d) times (*ℤ_comm d r.constant)
+    scaled (mul-add_ℤ (pos (suc k)) s (q *ℤ d)) (divides_sum num (suc k) r.terms (omega arith) h) (regroup (pos (suc k)) q d) times (*ℤ_comm d r.constant)
   where
     regroup : (x y z : ℤ) → x *ℤ (y *ℤ z) ≡ z *ℤ (x *ℤ y)
     regroup x y z = same_in (x *ℤ (y *ℤ z)) (z *ℤ (x *ℤ y)) (simp (up_product, down_product) (omega arith))
@@ -131,14 +130,14 @@ combination_total num d v p n bp bn z = by_multipliers (multipliers v p n)
     by_multipliers : (m : Multipliers) → sum_at num (terms_below v (λ x. sum_of m (factor x p.terms) (factor x n.terms))) +ℤ sum_of m p.constant n.constant *ℤ d ≡ m.of_raising *ℤ total num d p +ℤ m.of_lowering *ℤ total num d n
     by_multipliers m =
         regroup (m.of_raising *ℤ sum_at num p.terms) (m.of_lowering *ℤ sum_at num n.terms) (pos 0) (pos 0) (m.of_raising *ℤ (p.constant *ℤ d)) (m.of_lowering *ℤ (n.constant *ℤ d))
-            (sum_at num (terms_below v (λ x. sum_of m (factor x p.terms) (factor x n.terms)))) (sum_of m p.constant n.constant *ℤ d) (m.of_raising *ℤ total num d p) (m.of_lowering *ℤ total num d n)
-            (sum_below num v (λ x. sum_of m (factor x p.terms) (factor x n.terms))
-            ∙ upto_plus num v (λ x. m.of_raising *ℤ factor x p.terms) (λ x. m.of_lowering *ℤ factor x n.terms)
-            ∙ ap (λ k. k +ℤ upto num v (λ x. m.of_lowering *ℤ factor x n.terms)) (upto_scale num v m.of_raising (λ x. factor x p.terms) ∙ ap (λ k. m.of_raising *ℤ k) (sum_without num v p.terms bp z))
-            ∙ ap (λ k. m.of_raising *ℤ sum_at num p.terms +ℤ k) (upto_scale num v m.of_lowering (λ x. factor x n.terms) ∙ ap (λ k. m.of_lowering *ℤ k) (sum_without num v n.terms bn z)))
-            (add-mul_ℤ (m.of_raising *ℤ p.constant) (m.of_lowering *ℤ n.constant) d ∙ ap (λ k. k +ℤ m.of_lowering *ℤ n.constant *ℤ d) (mul_assoc_ℤ m.of_raising p.constant d) ∙ ap (λ k. m.of_raising *ℤ (p.constant *ℤ d) +ℤ k) (mul_assoc_ℤ m.of_lowering n.constant d))
-            (sym (mul-add_ℤ m.of_raising (sum_at num p.terms) (p.constant *ℤ d)))
-            (sym (mul-add_ℤ m.of_lowering (sum_at num n.terms) (n.constant *ℤ d)))
+        (sum_at num (terms_below v (λ x. sum_of m (factor x p.terms) (factor x n.terms)))) (sum_of m p.constant n.constant *ℤ d) (m.of_raising *ℤ total num d p) (m.of_lowering *ℤ total num d n)
+        (sum_below num v (λ x. sum_of m (factor x p.terms) (factor x n.terms))
+        ∙ upto_plus num v (λ x. m.of_raising *ℤ factor x p.terms) (λ x. m.of_lowering *ℤ factor x n.terms)
+        ∙ ap (λ k. k +ℤ upto num v (λ x. m.of_lowering *ℤ factor x n.terms)) (upto_scale num v m.of_raising (λ x. factor x p.terms) ∙ ap (λ k. m.of_raising *ℤ k) (sum_without num v p.terms bp z))
+        ∙ ap (λ k. m.of_raising *ℤ sum_at num p.terms +ℤ k) (upto_scale num v m.of_lowering (λ x. factor x n.terms) ∙ ap (λ k. m.of_lowering *ℤ k) (sum_without num v n.terms bn z)))
+        (add-mul_ℤ (m.of_raising *ℤ p.constant) (m.of_lowering *ℤ n.constant) d ∙ ap (λ k. k +ℤ m.of_lowering *ℤ n.constant *ℤ d) (mul_assoc_ℤ m.of_raising p.constant d) ∙ ap (λ k. m.of_raising *ℤ (p.constant *ℤ d) +ℤ k) (mul_assoc_ℤ m.of_lowering n.constant d))
+        (sym (mul-add_ℤ m.of_raising (sum_at num p.terms) (p.constant *ℤ d)))
+        (sym (mul-add_ℤ m.of_lowering (sum_at num n.terms) (n.constant *ℤ d)))
 
 -- ---- bounds
 -- Over q times the denominator, with p for v, a row comes to at least 0: t is what its other terms come to, w the factor of v
@@ -149,16 +148,16 @@ HoldsAt f t w = pos 0 ≤ℤ (pos f.under *ℤ t +ℤ f.over *ℤ w)
 carried : (e f : Fraction) (t w : ℤ) → 0 < e.under → pos 0 ≤ℤ ((f.over *ℤ pos e.under -ℤ e.over *ℤ pos f.under) *ℤ w) → HoldsAt e t w → HoldsAt f t w
 carried e f t w pe h k =
     not_negative_from (pos e.under) (pos f.under *ℤ t +ℤ f.over *ℤ w) (omega (arith, ints))
-        (joined (pos e.under *ℤ (pos f.under *ℤ t +ℤ f.over *ℤ w)) (pos e.under *ℤ (pos f.under *ℤ t)) (pos e.under *ℤ (f.over *ℤ w)) (pos f.under *ℤ (pos e.under *ℤ t +ℤ e.over *ℤ w)) (pos f.under *ℤ (pos e.under *ℤ t)) (pos f.under *ℤ (e.over *ℤ w)) ((f.over *ℤ pos e.under -ℤ e.over *ℤ pos f.under) *ℤ w) (f.over *ℤ pos e.under *ℤ w) (neg_ℤ (e.over *ℤ pos f.under) *ℤ w) (e.over *ℤ pos f.under *ℤ w)
-            (mul-add_ℤ (pos e.under) (pos f.under *ℤ t) (f.over *ℤ w))
-            (mul-add_ℤ (pos f.under) (pos e.under *ℤ t) (e.over *ℤ w))
-            (product_not_negative (pos f.under) (pos e.under *ℤ t +ℤ e.over *ℤ w) (omega (arith, ints)) k)
-            (inner (pos e.under) (pos f.under) t)
-            (outer (pos e.under) f.over w)
-            (outer (pos f.under) e.over w)
-            (ap (λ z. z *ℤ w) (minus (f.over *ℤ pos e.under) (e.over *ℤ pos f.under)) ∙ add-mul_ℤ (f.over *ℤ pos e.under) (neg_ℤ (e.over *ℤ pos f.under)) w)
-            (neg-mul_ℤ (e.over *ℤ pos f.under) w)
-            h)
+    (joined (pos e.under *ℤ (pos f.under *ℤ t +ℤ f.over *ℤ w)) (pos e.under *ℤ (pos f.under *ℤ t)) (pos e.under *ℤ (f.over *ℤ w)) (pos f.under *ℤ (pos e.under *ℤ t +ℤ e.over *ℤ w)) (pos f.under *ℤ (pos e.under *ℤ t)) (pos f.under *ℤ (e.over *ℤ w)) ((f.over *ℤ pos e.under -ℤ e.over *ℤ pos f.under) *ℤ w) (f.over *ℤ pos e.under *ℤ w) (neg_ℤ (e.over *ℤ pos f.under) *ℤ w) (e.over *ℤ pos f.under *ℤ w)
+    (mul-add_ℤ (pos e.under) (pos f.under *ℤ t) (f.over *ℤ w))
+    (mul-add_ℤ (pos f.under) (pos e.under *ℤ t) (e.over *ℤ w))
+    (product_not_negative (pos f.under) (pos e.under *ℤ t +ℤ e.over *ℤ w) (omega (arith, ints)) k)
+    (inner (pos e.under) (pos f.under) t)
+    (outer (pos e.under) f.over w)
+    (outer (pos f.under) e.over w)
+    (ap (λ z. z *ℤ w) (minus (f.over *ℤ pos e.under) (e.over *ℤ pos f.under)) ∙ add-mul_ℤ (f.over *ℤ pos e.under) (neg_ℤ (e.over *ℤ pos f.under)) w)
+    (neg-mul_ℤ (e.over *ℤ pos f.under) w)
+    h)
   where
     minus : (a b : ℤ) → a -ℤ b ≡ a +ℤ neg_ℤ b
     minus a b = omega (arith, ints)
@@ -354,13 +353,13 @@ best_of_is better Sign s b v values num d ws z r rs result h e =
 crossed : (p : Fraction) (a c t u d : ℤ) (m : Multipliers) (g : ℕ) → 0 < g → 0 < p.under → pos 0 <ℤ c → pos g *ℤ m.of_raising ≡ neg_ℤ a → pos g *ℤ m.of_lowering ≡ c → IsNegatedOver p c u d → pos 0 ≤ℤ (m.of_raising *ℤ u +ℤ m.of_lowering *ℤ t) → HoldsAt p t (a *ℤ d)
 crossed p a c t u d m g pg pq pc ea ec w h =
     not_negative_from c (pos p.under *ℤ t +ℤ p.over *ℤ (a *ℤ d)) pc
-        (joined (c *ℤ (pos p.under *ℤ t +ℤ p.over *ℤ (a *ℤ d))) (c *ℤ (pos p.under *ℤ t)) (c *ℤ (p.over *ℤ (a *ℤ d))) (neg_ℤ a *ℤ (u *ℤ pos p.under)) (pos g *ℤ pos p.under *ℤ (m.of_raising *ℤ u +ℤ m.of_lowering *ℤ t)) (pos g *ℤ pos p.under *ℤ (m.of_raising *ℤ u)) (pos g *ℤ pos p.under *ℤ (m.of_lowering *ℤ t))
-            (mul-add_ℤ c (pos p.under *ℤ t) (p.over *ℤ (a *ℤ d)))
-            (ap (λ z. z *ℤ (pos p.under *ℤ t)) (sym ec) ∙ first (pos g) m.of_lowering (pos p.under) t)
-            (second c p.over a d ∙ ap (λ z. a *ℤ z) w.value ∙ times_neg a (u *ℤ pos p.under) ∙ sym (neg-mul_ℤ a (u *ℤ pos p.under)))
-            (ap (λ z. z *ℤ (u *ℤ pos p.under)) (sym ea) ∙ third (pos g) m.of_raising u (pos p.under))
-            (mul-add_ℤ (pos g *ℤ pos p.under) (m.of_raising *ℤ u) (m.of_lowering *ℤ t))
-            (product_not_negative (pos g *ℤ pos p.under) (m.of_raising *ℤ u +ℤ m.of_lowering *ℤ t) (product_not_negative (pos g) (pos p.under) (omega (arith, ints)) (omega (arith, ints))) h))
+    (joined (c *ℤ (pos p.under *ℤ t +ℤ p.over *ℤ (a *ℤ d))) (c *ℤ (pos p.under *ℤ t)) (c *ℤ (p.over *ℤ (a *ℤ d))) (neg_ℤ a *ℤ (u *ℤ pos p.under)) (pos g *ℤ pos p.under *ℤ (m.of_raising *ℤ u +ℤ m.of_lowering *ℤ t)) (pos g *ℤ pos p.under *ℤ (m.of_raising *ℤ u)) (pos g *ℤ pos p.under *ℤ (m.of_lowering *ℤ t))
+    (mul-add_ℤ c (pos p.under *ℤ t) (p.over *ℤ (a *ℤ d)))
+    (ap (λ z. z *ℤ (pos p.under *ℤ t)) (sym ec) ∙ first (pos g) m.of_lowering (pos p.under) t)
+    (second c p.over a d ∙ ap (λ z. a *ℤ z) w.value ∙ times_neg a (u *ℤ pos p.under) ∙ sym (neg-mul_ℤ a (u *ℤ pos p.under)))
+    (ap (λ z. z *ℤ (u *ℤ pos p.under)) (sym ea) ∙ third (pos g) m.of_raising u (pos p.under))
+    (mul-add_ℤ (pos g *ℤ pos p.under) (m.of_raising *ℤ u) (m.of_lowering *ℤ t))
+    (product_not_negative (pos g *ℤ pos p.under) (m.of_raising *ℤ u +ℤ m.of_lowering *ℤ t) (product_not_negative (pos g) (pos p.under) (omega (arith, ints)) (omega (arith, ints))) h))
   where
     first : (x y z k : ℤ) → x *ℤ y *ℤ (z *ℤ k) ≡ x *ℤ z *ℤ (y *ℤ k)
     first x y z k = same_in (x *ℤ y *ℤ (z *ℤ k)) (x *ℤ z *ℤ (y *ℤ k)) (simp (up_product, down_product) (omega arith))
@@ -504,7 +503,7 @@ lowering_sign d v rows pd r h =
 absent_holds : (num : ℕ → ℤ) (d : ℤ) (v : ℕ) (f : Fraction) (r : Row) → factor v r.terms ≡ pos 0 → pos 0 ≤ℤ total num d r → RowHoldsAt num d v f r
 absent_holds num d v f r z h =
     sum (pos f.under *ℤ total num d r) (f.over *ℤ (factor v r.terms *ℤ d)) (product_not_negative (pos f.under) (total num d r) (omega (arith, ints)) h)
-        (ap (λ k. f.over *ℤ (k *ℤ d)) z ∙ ap (λ k. f.over *ℤ k) (zero-*ℤ d) ∙ nothing f.over)
+    (ap (λ k. f.over *ℤ (k *ℤ d)) z ∙ ap (λ k. f.over *ℤ k) (zero-*ℤ d) ∙ nothing f.over)
   where
     nothing : (k : ℤ) → k *ℤ pos 0 ≡ pos 0
     nothing k = omega (arith, ints)
@@ -516,12 +515,12 @@ absent_holds num d v f r z h =
 lowered_holds : (num : ℕ → ℤ) (d : ℤ) (v : ℕ) (rows next : List Row) (f : Fraction) (p r : Row) → pos 0 <ℤ d → num v ≡ pos 0 → InForm (suc v) rows → Offered (without v rows) (combinations v (raising v rows) (lowering v rows)) next → AllHold num d next → In p (raising v rows) → In r (lowering v rows) → 0 < f.under → IsNegatedOver f (factor v p.terms) (total num d p) d → RowHoldsAt num d v f r
 lowered_holds num d v rows next f p r pd z form o all hp hr pf w =
     crossed f (factor v r.terms) (factor v p.terms) (total num d r) (total num d p) d (multipliers v p r) (gcd_of (unsigned_abs (factor v p.terms)) (unsigned_abs (factor v r.terms)))
-        (divisor_positive (gcd_of (unsigned_abs (factor v p.terms)) (unsigned_abs (factor v r.terms))) (unsigned_abs (factor v p.terms)) g.0 (size_positive (factor v p.terms) fp.1))
-        pf (positive (factor v p.terms) fp.1)
-        (ap pos (mul_comm (gcd_of (unsigned_abs (factor v p.terms)) (unsigned_abs (factor v r.terms))) (unsigned_abs (factor v r.terms) / gcd_of (unsigned_abs (factor v p.terms)) (unsigned_abs (factor v r.terms))) ∙ exact_ℕ (unsigned_abs (factor v r.terms)) (gcd_of (unsigned_abs (factor v p.terms)) (unsigned_abs (factor v r.terms))) g.1) ∙ abs_down (factor v r.terms) (not_positive (factor v r.terms) fr.1))
-        (ap pos (mul_comm (gcd_of (unsigned_abs (factor v p.terms)) (unsigned_abs (factor v r.terms))) (unsigned_abs (factor v p.terms) / gcd_of (unsigned_abs (factor v p.terms)) (unsigned_abs (factor v r.terms))) ∙ exact_ℕ (unsigned_abs (factor v p.terms)) (gcd_of (unsigned_abs (factor v p.terms)) (unsigned_abs (factor v r.terms))) g.0) ∙ abs_up (factor v p.terms) (not_negative (factor v p.terms) fp.1))
-        w
-        (subst (λ (k : ℤ). pos 0 ≤ℤ k) (combination_total num d v p r (form p fp.0).1 (form r fr.0).1 z) (offered_holds num d next (combination v p r) pd all (o.new (combination v p r) (in_combinations v (raising v rows) (lowering v rows) p r hp hr))))
+    (divisor_positive (gcd_of (unsigned_abs (factor v p.terms)) (unsigned_abs (factor v r.terms))) (unsigned_abs (factor v p.terms)) g.0 (size_positive (factor v p.terms) fp.1))
+    pf (positive (factor v p.terms) fp.1)
+    (ap pos (mul_comm (gcd_of (unsigned_abs (factor v p.terms)) (unsigned_abs (factor v r.terms))) (unsigned_abs (factor v r.terms) / gcd_of (unsigned_abs (factor v p.terms)) (unsigned_abs (factor v r.terms))) ∙ exact_ℕ (unsigned_abs (factor v r.terms)) (gcd_of (unsigned_abs (factor v p.terms)) (unsigned_abs (factor v r.terms))) g.1) ∙ abs_down (factor v r.terms) (not_positive (factor v r.terms) fr.1))
+    (ap pos (mul_comm (gcd_of (unsigned_abs (factor v p.terms)) (unsigned_abs (factor v r.terms))) (unsigned_abs (factor v p.terms) / gcd_of (unsigned_abs (factor v p.terms)) (unsigned_abs (factor v r.terms))) ∙ exact_ℕ (unsigned_abs (factor v p.terms)) (gcd_of (unsigned_abs (factor v p.terms)) (unsigned_abs (factor v r.terms))) g.0) ∙ abs_up (factor v p.terms) (not_negative (factor v p.terms) fp.1))
+    w
+    (subst (λ (k : ℤ). pos 0 ≤ℤ k) (combination_total num d v p r (form p fp.0).1 (form r fr.0).1 z) (offered_holds num d next (combination v p r) pd all (o.new (combination v p r) (in_combinations v (raising v rows) (lowering v rows) p r hp hr))))
   where
     g : (gcd_of (unsigned_abs (factor v p.terms)) (unsigned_abs (factor v r.terms)) ∣ unsigned_abs (factor v p.terms)) × (gcd_of (unsigned_abs (factor v p.terms)) (unsigned_abs (factor v r.terms)) ∣ unsigned_abs (factor v r.terms)) × ((k : ℕ) → k ∣ unsigned_abs (factor v p.terms) → k ∣ unsigned_abs (factor v r.terms) → k ∣ gcd_of (unsigned_abs (factor v p.terms)) (unsigned_abs (factor v r.terms)))
     g = gcd_is (unsigned_abs (factor v p.terms)) (unsigned_abs (factor v r.terms))
@@ -620,10 +619,10 @@ sum_raised num d v f (t ∷ ts) = by_test (v == t.0) (sum_raised num d v f ts)
     extra : (x y : ℤ) → t.1 *ℤ x ≡ f.over *ℤ (y *ℤ d) → sum_at (raised_to num d v f) ts ≡ q *ℤ sum_at num ts +ℤ f.over *ℤ (factor v ts *ℤ d) → t.1 *ℤ (num t.0 *ℤ q +ℤ x) +ℤ sum_at (raised_to num d v f) ts ≡ q *ℤ (t.1 *ℤ num t.0 +ℤ sum_at num ts) +ℤ f.over *ℤ ((y +ℤ factor v ts) *ℤ d)
     extra x y e ih =
         regroup (t.1 *ℤ (num t.0 *ℤ q +ℤ x)) (sum_at (raised_to num d v f) ts) (q *ℤ (t.1 *ℤ num t.0)) (f.over *ℤ (y *ℤ d)) (q *ℤ sum_at num ts) (f.over *ℤ (factor v ts *ℤ d)) (q *ℤ (t.1 *ℤ num t.0 +ℤ sum_at num ts)) (f.over *ℤ ((y +ℤ factor v ts) *ℤ d))
-            (mul-add_ℤ t.1 (num t.0 *ℤ q) x ∙ ap (λ z. z +ℤ t.1 *ℤ x) (inner t.1 (num t.0) q) ∙ ap (λ z. q *ℤ (t.1 *ℤ num t.0) +ℤ z) e)
-            ih
-            (mul-add_ℤ q (t.1 *ℤ num t.0) (sum_at num ts))
-            (ap (λ z. f.over *ℤ z) (add-mul_ℤ y (factor v ts) d) ∙ mul-add_ℤ f.over (y *ℤ d) (factor v ts *ℤ d))
+        (mul-add_ℤ t.1 (num t.0 *ℤ q) x ∙ ap (λ z. z +ℤ t.1 *ℤ x) (inner t.1 (num t.0) q) ∙ ap (λ z. q *ℤ (t.1 *ℤ num t.0) +ℤ z) e)
+        ih
+        (mul-add_ℤ q (t.1 *ℤ num t.0) (sum_at num ts))
+        (ap (λ z. f.over *ℤ z) (add-mul_ℤ y (factor v ts) d) ∙ mul-add_ℤ f.over (y *ℤ d) (factor v ts *ℤ d))
 
     by_test : (b : Bool) → sum_at (raised_to num d v f) ts ≡ q *ℤ sum_at num ts +ℤ f.over *ℤ (factor v ts *ℤ d) → t.1 *ℤ (num t.0 *ℤ q +ℤ (if b then f.over *ℤ d else pos 0)) +ℤ sum_at (raised_to num d v f) ts ≡ q *ℤ (t.1 *ℤ num t.0 +ℤ sum_at num ts) +ℤ f.over *ℤ (((if b then t.1 else pos 0) +ℤ factor v ts) *ℤ d)
     by_test true ih = extra (f.over *ℤ d) t.1 (outer t.1 f.over d) ih
@@ -632,7 +631,7 @@ sum_raised num d v f (t ∷ ts) = by_test (v == t.0) (sum_raised num d v f ts)
 raised_holds : (num : ℕ → ℤ) (d : ℤ) (v : ℕ) (f : Fraction) (r : Row) → RowHoldsAt num d v f r → pos 0 ≤ℤ total (raised_to num d v f) (d *ℤ pos f.under) r
 raised_holds num d v f r h =
     regroup (sum_at (raised_to num d v f) r.terms) (pos f.under *ℤ sum_at num r.terms) (f.over *ℤ (factor v r.terms *ℤ d)) (r.constant *ℤ (d *ℤ pos f.under)) (pos f.under *ℤ (r.constant *ℤ d)) (pos f.under *ℤ (sum_at num r.terms +ℤ r.constant *ℤ d))
-        (sum_raised num d v f r.terms) (outer r.constant d (pos f.under)) (mul-add_ℤ (pos f.under) (sum_at num r.terms) (r.constant *ℤ d)) h
+    (sum_raised num d v f r.terms) (outer r.constant d (pos f.under)) (mul-add_ℤ (pos f.under) (sum_at num r.terms) (r.constant *ℤ d)) h
   where
     outer : (x y z : ℤ) → x *ℤ (y *ℤ z) ≡ z *ℤ (x *ℤ y)
     outer x y z = same_in (x *ℤ (y *ℤ z)) (z *ℤ (x *ℤ y)) (simp (up_product, down_product) (omega arith))

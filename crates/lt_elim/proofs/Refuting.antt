@@ -1,10 +1,10 @@
 -- Where an elimination ends in a contradiction, lines refute the rows.
-use Rattle.std.proofs.Common.{arith, ◌≡◌, refl, sym, ◌∙◌, ap, subst, ℕ, suc, zero, ℤ, pos, negsuc, ◌+ℤ◌, ◌-ℤ◌, ◌*ℤ◌, ◌≤ℤ◌, ◌<ℤ◌, ◌+◌, ◌-◌, ◌*◌, ◌/◌, ◌^◌, ◌<◌, ◌≤◌, ◌≢◌, List, [], ◌∷◌, ◌++◌, length, ◌⊎◌, inl, inr, Bool, true, false, ◌&&◌, ◌||◌, not, Option, Some, None, mul_comm}
-use Rattle.std.specs.Prelude.{neg_ℤ, int_lt, nat_lt, ◌==◌, if◌then◌else◌, map, unsigned_abs, slice_get}
+use Rattle.std.proofs.Common.{arith, ◌≡◌, refl, sym, ◌∙◌, ap, subst, ℕ, suc, zero, ℤ, pos, negsuc, ◌+ℤ◌, ◌-ℤ◌, ◌*ℤ◌, ◌≤ℤ◌, ◌<ℤ◌, ◌+◌, ◌-◌, ◌*◌, ◌/◌, ◌^◌, ◌<◌, ◌≤◌, List, [], ◌∷◌, ◌++◌, length, ◌⊎◌, inl, inr, Bool, true, false, ◌&&◌, ◌||◌, Option, Some, None}
+use Rattle.std.specs.Prelude.{neg_ℤ, int_lt, nat_lt, if◌then◌else◌, map, unsigned_abs, slice_get}
 use Rattle.std.specs.Int.{◌∣◌}
 use Rattle.std.specs.Ordering.{int_eq}
 use Rattle.std.proofs.lemmas.Int.{ints}
-use Rattle.std.proofs.lemmas.Bool.{cases_lt, cases_order}
+use Rattle.std.proofs.lemmas.Bool.{cases_order}
 use Rattle.std.proofs.Math.IntN.{*ℤ_comm}
 use borrow.Author.Differences.{up, down, same_in, product_is}
 use Rattle.lt_model.proofs.Whole.{neg-mul_ℤ, abs_up, abs_down}
@@ -12,16 +12,16 @@ use Rattle.lt_lin.specs.declared.row.Row.{Row}
 use Rattle.lt_lin.specs.Terms.{Term, IsOrdered, factor, scaled, Fits}
 use Rattle.lt_lin.specs.Rows.{IsContradiction, HasContradiction}
 use Rattle.lt_lin.specs.Lines.{Lines, last, combination as combine_line, division as division_line}
-use Rattle.lt_lin.specs.Refutation.{SumsTo, IsSumOnto, zero_row, IsCombination, IsQuotient, IsDivision, RefutesAfter, Refutes}
+use Rattle.lt_lin.specs.Refutation.{SumsTo, IsCombination, IsQuotient, RefutesAfter, Refutes}
 use Rattle.lt_lin.proofs.Whole.{floor_low, floor_high}
 use Rattle.lt_lin.proofs.Factors.{AllBelow, factor_above}
 use Rattle.lt_elim.specs.Divisor.{gcd_of, content, quotient, passes}
-use Rattle.lt_elim.specs.Combination.{divided, normalised, terms_below, Multipliers, multipliers_of, multipliers, sum_of, combination, passes_in, any_below, is_wide}
-use Rattle.lt_elim.specs.Elimination.{Event, coeff, many_rows, refuted, Kept, keeps, ends, and_next, is_constant, is_contradiction, with_row, within_limit, row_limit, keep, keep_normalised, keep_all, keep_combination, combine_with, combine_all, without, raising, lowering, eliminated}
-use Rattle.lt_elim.proofs.Divisors.{gcd_is, divisor_positive, Divides, content_divides}
+use Rattle.lt_elim.specs.Combination.{divided, normalised, terms_below, Multipliers, multipliers, sum_of, combination, passes_in, any_below, is_wide}
+use Rattle.lt_elim.specs.Elimination.{coeff, many_rows, refuted, Kept, keeps, ends, and_next, is_constant, with_row, within_limit, row_limit, keep, keep_normalised, keep_all, keep_combination, combine_with, combine_all, without, raising, lowering, eliminated}
+use Rattle.lt_elim.proofs.Divisors.{gcd_is, Divides, content_divides}
 use Rattle.lt_elim.proofs.Ring.{exact_ℕ, exact_ℤ}
-use Rattle.lt_elim.proofs.Keeping.{In, filter_in, constant_terms, Joined, joined_of}
-use Rattle.lt_elim.proofs.Edges.{below_ordered, below_factor, above_factor, mark, Marks, marked, unmarked, marks, multipliers_one, IsLike}
+use Rattle.lt_elim.proofs.Keeping.{In, filter_in, constant_terms, joined_of}
+use Rattle.lt_elim.proofs.Edges.{below_ordered, below_factor, above_factor, mark, marked, unmarked, marks, multipliers_one}
 use Rattle.lt_elim.proofs.Walks.{IsSized}
 use Rattle.lt_elim.proofs.Differences.{AreEdges, Raising, raising_is, Lowering, lowering_is}
 use Rattle.lt_elim.proofs.Points.{InForm, next_form, first_form, elimination}
@@ -134,7 +134,7 @@ pub keep_all_traced : (rows base : List Row) (b : Bool) (v : ℕ) (kept offered 
 keep_all_traced rows base b v kept [] own t = t
 keep_all_traced rows base b v kept (r ∷ rs) own t =
     next_traced rows base (keep b v kept r) (λ more. keep_all b v more rs) (keep_row_traced rows base b v kept r t (t.given r (own r (inl refl))))
-        (λ more s. keep_all_traced rows base b v more rs (λ q h. own q (inr h)) s)
+    (λ more s. keep_all_traced rows base b v more rs (λ q h. own q (inr h)) s)
 
 in_known : (rows : List Row) → AllKnown rows rows
 in_known [] r h = absurd h
@@ -211,10 +211,21 @@ nothing_fits m a b e f = record {
     times_nothing z = omega (arith, ints)
 
 sums_two : (part : Row → ℤ) (known : List Row) (p n : Row) (i j : ℕ) (m : Multipliers) (s : ℤ) → slice_get known i ≡ Some p → slice_get known j ≡ Some n → pos 0 ≤ℤ m.of_raising → pos 0 ≤ℤ m.of_lowering → PartFits m (part p) (part n) → sum_of m (part p) (part n) ≡ s → SumsTo part known (pos 0) ((i, m.of_raising) ∷ (j, m.of_lowering) ∷ []) s
-sums_two part known p n i j m s gp gn pr pl f e =
-    (p, gp, pr, f.raising, subst Fits (left (m.of_raising *ℤ part p)) f.raising,
-    (n, gn, pl, f.lowering, subst (λ (z : ℤ). Fits (z +ℤ m.of_lowering *ℤ part n)) (left (m.of_raising *ℤ part p)) f.sum,
-    ap (λ z. z +ℤ m.of_lowering *ℤ part n) (sym (left (m.of_raising *ℤ part p))) ∙ e))
+sums_two part known p n i j m s gp gn pr pl f e = (
+  p,
+  gp,
+  pr,
+  f.raising,
+  subst Fits (left (m.of_raising *ℤ part p)) f.raising,
+  (
+    n,
+    gn,
+    pl,
+    f.lowering,
+    subst (λ (z : ℤ). Fits (z +ℤ m.of_lowering *ℤ part n)) (left (m.of_raising *ℤ part p)) f.sum,
+    ap (λ z. z +ℤ m.of_lowering *ℤ part n) (sym (left (m.of_raising *ℤ part p))) ∙ e,
+  ),
+)
   where
     left : (z : ℤ) → z ≡ pos 0 +ℤ z
     left z = omega (arith, ints)
@@ -223,8 +234,8 @@ sums_two part known p n i j m s gp gn pr pl f e =
 sum_at_own : (v : ℕ) (p n : Row) → int_lt (pos 0) (factor v p.terms) ≡ true → int_lt (factor v n.terms) (pos 0) ≡ true → sum_of (multipliers v p n) (factor v p.terms) (factor v n.terms) ≡ pos 0
 sum_at_own v p n hp hn =
     cancel (pos (b_size / g) *ℤ a) (pos (a_size / g) *ℤ b) (pos (b_size / g) *ℤ pos (a_size / g) *ℤ pos g)
-        (ap (λ z. pos (b_size / g) *ℤ z) (sym (abs_up a (more a hp)) ∙ ap pos (sym (exact_ℕ a_size g gs.0))) ∙ first (pos (b_size / g)) (pos (a_size / g)) (pos g))
-        (ap (λ z. pos (a_size / g) *ℤ z) (twice b (pos b_size) (abs_down b (less b hn)) ∙ ap (λ (k : ℕ). neg_ℤ (pos k)) (sym (exact_ℕ b_size g gs.1))) ∙ times_neg (pos (a_size / g)) (pos (b_size / g) *ℤ pos g) ∙ ap neg_ℤ (second (pos (a_size / g)) (pos (b_size / g)) (pos g)))
+    (ap (λ z. pos (b_size / g) *ℤ z) (sym (abs_up a (more a hp)) ∙ ap pos (sym (exact_ℕ a_size g gs.0))) ∙ first (pos (b_size / g)) (pos (a_size / g)) (pos g))
+    (ap (λ z. pos (a_size / g) *ℤ z) (twice b (pos b_size) (abs_down b (less b hn)) ∙ ap (λ (k : ℕ). neg_ℤ (pos k)) (sym (exact_ℕ b_size g gs.1))) ∙ times_neg (pos (a_size / g)) (pos (b_size / g) *ℤ pos g) ∙ ap neg_ℤ (second (pos (a_size / g)) (pos (b_size / g)) (pos g)))
   where
     a : ℤ
     a = factor v p.terms
@@ -328,13 +339,13 @@ combined_with_traced : (rows base : List Row) (b : Bool) (v : ℕ) (p : Row) (ke
 combined_with_traced rows base b v p kept [] h t = t
 combined_with_traced rows base b v p kept (n ∷ ns) h t =
     next_traced rows base (keep_combination b v p kept n) (λ more. combine_with b v p more ns) (combination_traced rows base b v kept p n (h n (inl refl)) t)
-        (λ more s. combined_with_traced rows base b v p more ns (λ q k. h q (inr k)) s)
+    (λ more s. combined_with_traced rows base b v p more ns (λ q k. h q (inr k)) s)
 
 combined_all_traced : (rows base : List Row) (b : Bool) (v : ℕ) (kept ps ns : List Row) → ((p n : Row) → In p ps → In n ns → Pairing base b v p n) → Tracked rows base kept → Traced rows base (combine_all b v kept ps ns)
 combined_all_traced rows base b v kept [] ns h t = t
 combined_all_traced rows base b v kept (p ∷ ps) ns h t =
     next_traced rows base (combine_with b v p kept ns) (λ more. combine_all b v more ps ns) (combined_with_traced rows base b v p kept ns (λ n k. h p n (inl refl) k) t)
-        (λ more s. combined_all_traced rows base b v more ps ns (λ q n k l. h q n (inr k) l) s)
+    (λ more s. combined_all_traced rows base b v more ps ns (λ q n k l. h q n (inr k) l) s)
 
 -- a variable
 pub eliminated_traced : (rows base : List Row) (b : Bool) (v : ℕ) → ((r : Row) → In r base → AllBelow (suc v) r.terms) → (b ≡ false → (p n : Row) → In p (raising v base) → In n (lowering v base) → CombinationFits v p n) → Tracked rows base base → Traced rows base (eliminated b v base)

@@ -1,12 +1,12 @@
 -- Products of whole numbers, and what may be cancelled.
-use Rattle.std.proofs.Common.{arith, ◌≡◌, refl, sym, ◌∙◌, ap, ℕ, suc, zero, ℤ, pos, negsuc, ◌+ℤ◌, ◌-ℤ◌, ◌*ℤ◌, ◌≤ℤ◌, ◌<ℤ◌, ◌+◌, ◌-◌, ◌*◌, ◌/◌, ◌%◌, ◌<◌, ◌≤◌, div-add-mod', mul_comm}
+use Rattle.std.proofs.Common.{arith, ◌≡◌, sym, ◌∙◌, ap, ℕ, suc, zero, ℤ, pos, negsuc, ◌+ℤ◌, ◌*ℤ◌, ◌≤ℤ◌, ◌<ℤ◌, ◌+◌, ◌*◌, ◌/◌, ◌%◌, ◌<◌, div-add-mod', mul_comm}
 use Rattle.std.specs.Prelude.{neg_ℤ, unsigned_abs}
 use Rattle.std.specs.Int.{◌∣◌}
 use Rattle.std.proofs.lemmas.Int.{ints, by_lt_z}
 use Rattle.std.proofs.lemmas.Nat.Gcd.{mod-eq-zero_of_dvd}
 use Rattle.std.proofs.Math.IntN.{*ℤ_comm}
-use borrow.Author.Differences.{up, down, same_in, product_is, neg_is, sum_is_lem}
-use Rattle.lt_model.proofs.Whole.{mul_assoc_ℤ, mul-add_ℤ, add-mul_ℤ, mul-≤ℤ, neg-mul_ℤ}
+use borrow.Author.Differences.{up, down, same_in, product_is}
+use Rattle.lt_model.proofs.Whole.{mul_assoc_ℤ, mul-≤ℤ}
 use Rattle.lt_lin.proofs.Whole.{exact_is, exact_gives, floor_unique}
 use Rattle.lt_elim.specs.Divisor.{quotient}
 
@@ -36,8 +36,8 @@ product_not_negative a b h k = low (a *ℤ pos 0) (a *ℤ b) (mul-≤ℤ (pos 0)
 pub not_negative_from : (k x : ℤ) → pos 0 <ℤ k → pos 0 ≤ℤ (k *ℤ x) → pos 0 ≤ℤ x
 not_negative_from k x h p = by_lt_z x (pos 0)
     (λ less. absurd (
-      let m : (k *ℤ x) ≤ℤ (k *ℤ negsuc 0) = mul-≤ℤ x (negsuc 0) k (omega (arith, ints)) (omega (arith, ints)) in
-      clash (k *ℤ x) (k *ℤ negsuc 0) m p (minus k)
+    let m : (k *ℤ x) ≤ℤ (k *ℤ negsuc 0) = mul-≤ℤ x (negsuc 0) k (omega (arith, ints)) (omega (arith, ints)) in
+    clash (k *ℤ x) (k *ℤ negsuc 0) m p (minus k)
     ))
     (λ more. more)
   where

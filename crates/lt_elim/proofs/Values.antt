@@ -1,16 +1,16 @@
 -- What the fractions of a point are worth, over a common denominator.
-use Rattle.std.proofs.Common.{arith, ◌≡◌, refl, sym, ◌∙◌, ap, subst, ℕ, suc, zero, ℤ, pos, negsuc, ◌+ℤ◌, ◌-ℤ◌, ◌*ℤ◌, ◌≤ℤ◌, ◌<ℤ◌, ◌+◌, ◌-◌, ◌*◌, ◌/◌, ◌%◌, ◌<◌, ◌≤◌, Bool, true, false, ◌&&◌, ◌||◌, List, [], ◌∷◌, Option, Some, None, zero-mul, inl, inr, ◌⊎◌}
+use Rattle.std.proofs.Common.{arith, ◌≡◌, refl, sym, ◌∙◌, ap, subst, ℕ, suc, zero, ℤ, pos, negsuc, ◌+ℤ◌, ◌*ℤ◌, ◌≤ℤ◌, ◌+◌, ◌*◌, ◌/◌, ◌<◌, Bool, true, false, ◌&&◌, ◌||◌, List, [], ◌∷◌, Option, Some, None, zero-mul}
 use Rattle.std.specs.Prelude.{neg_ℤ, unsigned_abs, int_lt, if◌then◌else◌, ◌==◌, slice_index_or}
 use Rattle.std.specs.Int.{◌∣◌}
-use Rattle.std.proofs.lemmas.Int.{ints, by_lt_z}
+use Rattle.std.proofs.lemmas.Int.{ints}
 use Rattle.std.proofs.lemmas.Bool.{eqb-true}
 use Rattle.std.proofs.Math.IntN.{*ℤ_comm}
 use borrow.Author.Differences.{up, down, same_in, product_is}
-use Rattle.lt_model.proofs.Whole.{mul_assoc_ℤ, mul-add_ℤ, add-mul_ℤ, neg-mul_ℤ, abs_up, abs_down}
+use Rattle.lt_model.proofs.Whole.{mul_assoc_ℤ, add-mul_ℤ, neg-mul_ℤ, abs_up, abs_down}
 use Rattle.lt_lin.specs.declared.row.Row.{Row}
 use Rattle.lt_lin.specs.Terms.{Term, factor, sum_at}
 use Rattle.lt_elim.specs.Divisor.{gcd_of, quotient, passes}
-use Rattle.lt_elim.specs.Fraction.{Fraction, fraction, whole, limited_to, times_by, times, reduced_by, reduced, sum_over, plus_by, plus, negated_over_by, negated_over}
+use Rattle.lt_elim.specs.Fraction.{Fraction, fraction, whole, limited_to, times, reduced_by, reduced, sum_over, plus_by, plus, negated_over}
 use Rattle.lt_elim.specs.Decision.{if_some, terms_added, bound}
 use Rattle.lt_elim.proofs.Divisors.{gcd_is, divisor_positive}
 use Rattle.lt_elim.proofs.Ring.{cancelled, exact_ℕ, exact_ℤ, swap_right}
@@ -119,7 +119,7 @@ positive_product (suc a) zero h k = absurd (omega arith)
 plus_by_worth : (b : Bool) (e f h : Fraction) (g : ℕ) (n m d : ℤ) → g ∣ e.under → g ∣ f.under → IsWorth e n d → IsWorth f m d → plus_by g b e f ≡ Some h → IsWorth h (n +ℤ m) d
 plus_by_worth b e f h g n m d ge gf we wf is =
     subst (λ (x : Fraction). IsWorth x (n +ℤ m) d) (sum_is b (e.over *ℤ pos u) (f.over *ℤ pos t) (t * f.under) h is)
-        (reduced_worth (e.over *ℤ pos u +ℤ f.over *ℤ pos t) (t * f.under) (n +ℤ m) d (positive_product t f.under (positive_part t g e.under t_is we.positive) wf.positive) total)
+    (reduced_worth (e.over *ℤ pos u +ℤ f.over *ℤ pos t) (t * f.under) (n +ℤ m) d (positive_product t f.under (positive_part t g e.under t_is we.positive) wf.positive) total)
   where
     t : ℕ
     t = e.under / g

@@ -1,8 +1,8 @@
 -- Walks of a weighted graph: what eliminating a vertex does to edges.
-use Rattle.std.proofs.Common.{arith, ◌≡◌, refl, sym, ◌∙◌, ap, subst, ℕ, suc, zero, ℤ, pos, ◌+ℤ◌, ◌≤ℤ◌, ◌+◌, ◌<◌, ◌≤◌, List, [], ◌∷◌, ◌++◌, length, ◌⊎◌, inl, inr}
+use Rattle.std.proofs.Common.{arith, ◌≡◌, refl, sym, ap, subst, ℕ, suc, zero, ℤ, pos, ◌+ℤ◌, ◌≤ℤ◌, ◌+◌, ◌<◌, ◌≤◌, List, [], ◌∷◌, ◌++◌, length, ◌⊎◌, inl, inr}
 use Rattle.std.specs.Prelude.{neg_ℤ}
 use Rattle.std.proofs.lemmas.Int.{ints}
-use Rattle.lt_elim.proofs.Paths.{Absent, Distinct, Apart, Above, UpTo, same_or_not, above_append, above_left, above_right, above_less, upto_append, upto_left, upto_right, absent_above, Place, absent, at, place_of, Meeting, apart, meet, meeting_of, distinct_join, distinct_length}
+use Rattle.lt_elim.proofs.Paths.{Distinct, Above, UpTo, same_or_not, above_append, above_left, above_right, above_less, upto_append, absent_above, Meeting, apart, meet, meeting_of, distinct_join, distinct_length}
 
 -- a walk from i to j over the vertices of a path, with the sum of the weights of its edges
 abbrev pub Walk : (ℕ → ℕ → ℤ → Type 0) → ℕ → List ℕ → ℕ → ℤ → Type 0
@@ -121,12 +121,13 @@ next_walks edge kept next n v in_n s t i j c k = by_origin (t.from i j c k)
         tie d c m x y z = omega (arith, ints)
 
     by_meeting : (a b : ℤ) → kept i (suc v) a → kept (suc v) j b → c ≡ a +ℤ b → (p q : List ℕ) → Walk edge i p (suc v) a → Above (suc v) p → UpTo n p → Distinct p → Walk edge (suc v) q j b → Above (suc v) q → UpTo n q → Distinct q → Meeting p q → (r : List ℕ) × Walk edge i r j c × Above v r × UpTo n r × Distinct r
-    by_meeting a b ka kb e p q wp ap up dp wq aq uq dq (apart o) =
-        (p ++ suc v ∷ q,
-        subst (λ (z : ℤ). Walk edge i (p ++ suc v ∷ q) j z) (sym e) (joined edge i (suc v) j p q a b wp wq),
-        above_append v p (suc v ∷ q) (above_less v (suc v) p (omega arith) ap) (omega arith, above_less v (suc v) q (omega arith) aq),
-        upto_append n p (suc v ∷ q) up (in_n, uq),
-        distinct_join p q (suc v) dp dq o (absent_above (suc v) p ap) (absent_above (suc v) q aq))
+    by_meeting a b ka kb e p q wp ap up dp wq aq uq dq (apart o) = (
+      p ++ suc v ∷ q,
+      subst (λ (z : ℤ). Walk edge i (p ++ suc v ∷ q) j z) (sym e) (joined edge i (suc v) j p q a b wp wq),
+      above_append v p (suc v ∷ q) (above_less v (suc v) p (omega arith) ap) (omega arith, above_less v (suc v) q (omega arith) aq),
+      upto_append n p (suc v ∷ q) up (in_n, uq),
+      distinct_join p q (suc v) dp dq o (absent_above (suc v) p ap) (absent_above (suc v) q aq),
+    )
     by_meeting a b ka kb e p q wp ap up dp wq aq uq dq (meet u p₁ p₂ q₁ q₂ ep eq) =
         let hp = halves edge i u (suc v) p₁ p₂ a (subst (λ (z : List ℕ). Walk edge i z (suc v) a) ep wp) in
         let hq = halves edge (suc v) u j q₁ q₂ b (subst (λ (z : List ℕ). Walk edge (suc v) z j b) eq wq) in

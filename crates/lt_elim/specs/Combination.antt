@@ -1,5 +1,5 @@
 -- Normalised rows, and the combination of two rows without a variable.
-use Rattle.std.specs.Prelude.{ℕ, zero, suc, ℤ, pos, ◌+ℤ◌, ◌*ℤ◌, ◌/◌, Bool, true, false, ◌||◌, if◌then◌else◌, unsigned_abs, List, [], ◌∷◌, ◌++◌, map}
+use Rattle.std.specs.Prelude.{ℕ, zero, suc, ℤ, pos, ◌+ℤ◌, ◌*ℤ◌, ◌/◌, Bool, false, ◌||◌, if◌then◌else◌, unsigned_abs, List, [], ◌∷◌, ◌++◌, map}
 use Rattle.std.specs.Ordering.{int_eq}
 use Rattle.lt_lin.specs.declared.row.Row.{Row}
 use Rattle.lt_lin.specs.Terms.{Term, factor}

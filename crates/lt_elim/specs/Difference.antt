@@ -1,5 +1,5 @@
 -- Difference systems.
-use Rattle.std.specs.Prelude.{ℤ, pos, neg_ℤ, ◌+ℤ◌, ◌==◌, Bool, true, false, ◌&&◌, unsigned_abs, List, [], ◌∷◌}
+use Rattle.std.specs.Prelude.{pos, ◌+ℤ◌, ◌==◌, Bool, true, false, ◌&&◌, unsigned_abs, List, [], ◌∷◌}
 use Rattle.std.specs.Ordering.{int_eq}
 use Rattle.lt_lin.specs.declared.row.Row.{Row}
 use Rattle.lt_lin.specs.Terms.{Term}

@@ -1,5 +1,5 @@
 -- Fractions in lowest terms, as long as their numbers are within the limit.
-use Rattle.std.specs.Prelude.{ℕ, zero, suc, ℤ, pos, neg_ℤ, ◌+ℤ◌, ◌*ℤ◌, ◌*◌, ◌/◌, int_lt, int_le, Bool, ◌&&◌, ◌||◌, if◌then◌else◌, unsigned_abs, Option, Some, None}
+use Rattle.std.specs.Prelude.{ℕ, ℤ, pos, neg_ℤ, ◌+ℤ◌, ◌*ℤ◌, ◌*◌, ◌/◌, int_lt, int_le, Bool, ◌&&◌, ◌||◌, if◌then◌else◌, unsigned_abs, Option, Some, None}
 use Rattle.lt_elim.specs.Divisor.{gcd_of, quotient, passes}
 
 -- a numerator over a positive denominator

@@ -1,11 +1,11 @@
 -- What holds of verdicts.
-use Rattle.std.specs.Prelude.{◌≡◌, ℕ, suc, ℤ, pos, neg_ℤ, ◌*◌, ◌^◌, ◌≤◌, ◌≤ℤ◌, true, false, Bool, List, [], ◌∷◌, All, length}
+use Rattle.std.specs.Prelude.{◌≡◌, ℕ, suc, ℤ, pos, neg_ℤ, ◌*◌, ◌^◌, ◌≤◌, ◌≤ℤ◌, true, false, List, [], All, length}
 use Rattle.lt_lin.specs.declared.row.Row.{Row}
 use Rattle.lt_lin.specs.Terms.{IsOrdered}
 use Rattle.lt_lin.specs.Rows.{Satisfies}
 use Rattle.lt_lin.specs.Lines.{Lines}
 use Rattle.lt_lin.specs.Refutation.{Refutes}
-use Rattle.lt_elim.specs.Elimination.{refuted, Kept, keeps, keep_all, eliminated}
+use Rattle.lt_elim.specs.Elimination.{refuted, keeps, keep_all, eliminated}
 use Rattle.lt_elim.specs.Fraction.{Fraction}
 use Rattle.lt_elim.specs.Decision.{Verdict, stops, point, variables, verdict, IsSolution}
 use Rattle.lt_elim.specs.Difference.{are_differences}

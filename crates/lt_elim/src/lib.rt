@@ -3,4 +3,6 @@
 
 mod law;
 
-pub use law::{differences_are_whole, differences_stay_small, points_satisfy, refutations_have_lines};
+pub use law::{
+    differences_are_whole, differences_stay_small, points_satisfy, refutations_have_lines,
+};
