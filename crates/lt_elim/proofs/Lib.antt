@@ -8,4 +8,5 @@ pub mod Edges
 pub mod Points
 pub mod Differences
 pub mod Refuting
+pub mod Sizes
 pub mod Laws

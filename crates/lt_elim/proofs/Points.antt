@@ -585,6 +585,26 @@ value_holds b v values rows next num d f pd ws z form o all e = by_lists (raisin
         by_sort r (raises h) = k.holds r (subst (In r) el h)
         by_sort r (lowers h) = lowered_holds num d v rows next f k.row r pd z form o all (subst (In k.row) (sym el) k.is_in) h k.positive k.bound_is
 
+-- what sets the value of v: nothing, or the bound of a row
+pub data ValueOrigin (num : ℕ → ℤ) (d : ℤ) (v : ℕ) (rows : List Row) (f : Fraction) : Type 0 where
+  free : f ≡ whole (pos 0) → ValueOrigin num d v rows f
+  bound_of : (r : Row) → In r rows → IsNegatedOver f (factor v r.terms) (total num d r) d → (factor v r.terms ≡ pos 0 → ⊥) → ValueOrigin num d v rows f
+
+pub value_origin : (b : Bool) (v : ℕ) (values : List Fraction) (rows : List Row) (num : ℕ → ℤ) (d : ℤ) (f : Fraction) → pos 0 <ℤ d → AreWorth values num d → num v ≡ pos 0 → value_of b v values rows ≡ Some f → ValueOrigin num d v rows f
+unfolding value_of
+value_origin b v values rows num d f pd ws z e = by_lists (raising v rows) (lowering v rows) refl refl e
+  where
+    by_lists : (lower upper : List Row) → raising v rows ≡ lower → lowering v rows ≡ upper → least_allowed b v values lower upper ≡ Some f → ValueOrigin num d v rows f
+    by_lists [] [] el eu e = free (let is : whole (pos 0) ≡ f = cc in sym is)
+    by_lists [] (u ∷ us) el eu e =
+        let k = best_of_is lesser NotPositive lesser_betters b v values num d ws z u us f (subst (HaveSign d v NotPositive) eu (lowering_sign d v rows pd)) e in
+        let g : In k.row (lowering v rows) = subst (In k.row) (sym eu) k.is_in in
+        bound_of k.row (filter_in (λ q. int_lt (factor v q.terms) (pos 0)) k.row rows g).0 k.bound_is (lowering_sign d v rows pd k.row g).0
+    by_lists (l ∷ ls) upper el eu e =
+        let k = best_of_is greater NotNegative greater_betters b v values num d ws z l ls f (subst (HaveSign d v NotNegative) el (raising_sign d v rows pd)) e in
+        let g : In k.row (raising v rows) = subst (In k.row) (sym el) k.is_in in
+        bound_of k.row (filter_in (λ q. int_lt (pos 0) (factor v q.terms)) k.row rows g).0 k.bound_is (raising_sign d v rows pd k.row g).0
+
 -- the numerators over d times q, where v is p / q
 raised_to : (ℕ → ℤ) → ℤ → ℕ → Fraction → ℕ → ℤ
 raised_to num d v f x = num x *ℤ pos f.under +ℤ (if v == x then f.over *ℤ d else pos 0)
@@ -681,7 +701,7 @@ raised_worth values num d v f l pf ws z x = by_place (eqb_tells v x)
 length_push : (values : List Fraction) (f : Fraction) (n : ℕ) → length values ≡ n → length (values ++ f ∷ []) ≡ suc n
 length_push values f n e = let k : length (values ++ f ∷ []) ≡ length values + 1 = length-append values (f ∷ []) in omega arith
 
-value_past : (values : List Fraction) (num : ℕ → ℤ) (d : ℤ) (v : ℕ) → length values ≡ v → AreWorth values num d → num v ≡ pos 0
+pub value_past : (values : List Fraction) (num : ℕ → ℤ) (d : ℤ) (v : ℕ) → length values ≡ v → AreWorth values num d → num v ≡ pos 0
 value_past values num d v l ws =
     let w : IsWorth (whole (pos 0)) (num v) d = subst (λ (g : Fraction). IsWorth g (num v) d) (get_or_past values v (whole (pos 0)) (omega arith)) (ws v) in
     sym (once (num v)) ∙ w.value ∙ zero-*ℤ d
@@ -724,7 +744,7 @@ pub elimination : (b : Bool) (v : ℕ) (rows next : List Row) → eliminated b v
 unfolding eliminated
 elimination b v rows next e = offered_of b v (without v rows) (combinations v (raising v rows) (lowering v rows)) next (combined_all b v (without v rows) (raising v rows) (lowering v rows) next e)
 
-decided_solved : (b : Bool) (n : ℕ) (rows : List Row) (values : List Fraction) → InForm n rows → decided b n rows ≡ point values → Solved n values rows
+pub decided_solved : (b : Bool) (n : ℕ) (rows : List Row) (values : List Fraction) → InForm n rows → decided b n rows ≡ point values → Solved n values rows
 decided_solved b zero rows values form e =
     let is : [] ≡ values = cc in
     subst (λ (vs : List Fraction). Solved zero vs rows) is (record {
