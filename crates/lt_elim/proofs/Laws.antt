@@ -36,7 +36,7 @@ pub all_in : (P : Row → Type 0) (rows : List Row) → ((r : Row) → In r rows
 all_in P [] h = All-nil P
 all_in P (q ∷ qs) h = All-cons P q qs (h q (inl refl)) (all_in P qs (λ r k. h r (inr k)))
 
-steps_times : (m n : ℕ) → steps m n ≡ n * m
+pub steps_times : (m n : ℕ) → steps m n ≡ n * m
 steps_times m zero = sym (zero-mul m)
 steps_times m (suc n) = ap (λ k. m + k) (steps_times m n) ∙ add_comm m (n * m) ∙ sym (suc-mul n m)
 
@@ -104,7 +104,7 @@ eliminated_unlimited v rows = combine_all_unlimited v (without v rows) (raising 
 
 -- ---- whole values
 -- a value that there is and that is whole
-abbrev GivesWhole : Option Fraction → Type 0
+abbrev pub GivesWhole : Option Fraction → Type 0
 GivesWhole o = (f : Fraction) × (o ≡ Some f) × (f.under ≡ 1)
 
 gcd_with_one : (k : ℕ) → gcd_of k 1 ≡ 1
@@ -147,10 +147,10 @@ negated_whole f d u w = (fraction (if int_lt (pos 0) d then neg_ℤ (quotient f.
 if_some_whole : (o : Option Fraction) (next : Fraction → Option Fraction) → GivesWhole o → ((f : Fraction) → f.under ≡ 1 → GivesWhole (next f)) → GivesWhole (if_some o next)
 if_some_whole o next h k = subst (λ (z : Option Fraction). GivesWhole (if_some z next)) (sym h.1) (k h.0 h.2)
 
-abbrev AllWhole : List Fraction → Type 0
+abbrev pub AllWhole : List Fraction → Type 0
 AllWhole values = All (λ f. f.under ≡ 1) values
 
-value_at : (values : List Fraction) → AllWhole values → (x : ℕ) → (slice_index_or values x (whole (pos 0))).under ≡ 1
+pub value_at : (values : List Fraction) → AllWhole values → (x : ℕ) → (slice_index_or values x (whole (pos 0))).under ≡ 1
 value_at values h x = by_place (cases_lt x (length values))
   where
     by_place : (x < length values) ⊎ (length values ≤ x) → (slice_index_or values x (whole (pos 0))).under ≡ 1
@@ -217,7 +217,7 @@ touched_unit v r i j (starts a b c) o = ap unsigned_abs c
 touched_unit v r i j (stops a b c) o = ap unsigned_abs c
 touched_unit v r i j (leaves a b c) o = absurd (o c)
 
-value_whole : (v : ℕ) (values : List Fraction) (rows : List Row) → AreEdges (suc v) rows → AllWhole values → GivesWhole (value_of false v values rows)
+pub value_whole : (v : ℕ) (values : List Fraction) (rows : List Row) → AreEdges (suc v) rows → AllWhole values → GivesWhole (value_of false v values rows)
 unfolding value_of
 value_whole v values rows edges h = allowed_whole v values (raising v rows) (lowering v rows) h raise lower
   where
@@ -249,7 +249,7 @@ and_value_whole : (v : ℕ) (rows : List Row) (rest : Verdict) → AreEdges (suc
 and_value_whole v rows rest edges is_refuted = is_refuted
 and_value_whole v rows rest edges (is_whole values h) = with_value_whole v values (value_of false v values rows) h (value_whole v values rows edges h)
 
-decided_whole : (edge : ℕ → ℕ → ℤ → Type 0) (n v : ℕ) (rows : List Row) → v ≤ n → IsKept edge n v rows → IsWholeVerdict (decided false v rows)
+pub decided_whole : (edge : ℕ → ℕ → ℤ → Type 0) (n v : ℕ) (rows : List Row) → v ≤ n → IsKept edge n v rows → IsWholeVerdict (decided false v rows)
 decided_whole edge n zero rows l k = is_whole [] (All-nil (λ f. f.under ≡ 1))
 decided_whole edge n (suc v) rows l k = by_kept (eliminated false v rows) refl (eliminated_unlimited v rows) (λ next h. decided_whole edge n v next (omega arith) h)
   where

@@ -10,3 +10,4 @@ pub mod Differences
 pub mod Refuting
 pub mod Sizes
 pub mod Laws
+pub mod PointSizes

@@ -54,7 +54,7 @@ record Ladder (value : ℕ → ℤ) (n top : ℕ) (count : ℕ) : Type 0 where
   positive : Above 0 vertices
   below : (w : ℕ) → pos top <ℤ value w → Absent w vertices
 
-abbrev times : ℕ → ℕ → ℕ
+abbrev pub times : ℕ → ℕ → ℕ
 times m zero = 0
 times m (suc k) = times m k + m
 
