@@ -312,12 +312,12 @@ one_factor x y c e = elim (own_factor x y c) [ inl h ↦ h.1 ∙ e ∙ sym h.0 |
 minus_factor : (x y : ℕ) (c : ℤ) → c ≡ negsuc 0 → (if x == y then c else pos 0) ≡ neg_ℤ (mark x (suc y))
 minus_factor x y c e = elim (own_factor x y c) [ inl h ↦ h.1 ∙ e ∙ ap neg_ℤ (sym h.0) | inr h ↦ h.1 ∙ ap neg_ℤ (sym h.0) ]
 
-record LikeUpTo (r : Row) (n : ℕ) : Type 0 where
-  start : ℕ
-  end : ℕ
-  like : IsLike r start end
-  start_upto : start ≤ n
-  end_upto : end ≤ n
+pub record LikeUpTo (r : Row) (n : ℕ) : Type 0 where
+  pub start : ℕ
+  pub end : ℕ
+  pub like : IsLike r start end
+  pub start_upto : start ≤ n
+  pub end_upto : end ≤ n
 
 abbrev of_terms : List Term → ℤ → Row
 of_terms ts c = record { terms = ts; constant = c }
@@ -359,7 +359,7 @@ difference_like (s ∷ t ∷ []) c o d =
     up a b m n e f = omega (arith, ints)
 difference_like (s ∷ t ∷ u ∷ ts) c o d = absurd (cc)
 
-row_like : (rows : List Row) → ((r : Row) → In r rows → IsOrdered r.terms) → are_differences rows ≡ true → (r : Row) → In r rows → LikeUpTo r (variables rows)
+pub row_like : (rows : List Row) → ((r : Row) → In r rows → IsOrdered r.terms) → are_differences rows ≡ true → (r : Row) → In r rows → LikeUpTo r (variables rows)
 row_like [] o d r h = absurd h
 row_like (q ∷ qs) o d r (inl e) =
     let both = and_parts (is_difference q.terms) (are_differences qs) d in

@@ -3,7 +3,7 @@ use Rattle.std.proofs.Common.{arith, ◌≡◌, refl, sym, ◌∙◌, ap, subst,
 use Rattle.std.specs.Prelude.{neg_ℤ, ◌==◌, if◌then◌else◌, slice_index_or, All}
 use Rattle.std.proofs.lemmas.Int.{ints, by_lt_z}
 use Rattle.std.proofs.lemmas.Bool.{cases_lt}
-use Rattle.std.proofs.lemmas.List.{get_or_append_left, get_or_push, get_or_past}
+use Rattle.std.proofs.lemmas.List.{get_or_append_left, get_or_default, get_or_push, get_or_past}
 use Rattle.std.proofs.Math.IntN.{*ℤ_comm, zero-*ℤ}
 use Rattle.lt_model.proofs.Whole.{add-mul_ℤ, neg-mul_ℤ, mul_assoc_ℤ}
 use Rattle.lt_lin.specs.declared.row.Row.{Row}
@@ -14,15 +14,15 @@ use Rattle.lt_elim.specs.Elimination.{Kept, keeps, ends, keep_all, eliminated}
 use Rattle.lt_elim.specs.Fraction.{Fraction, whole}
 use Rattle.lt_elim.specs.Difference.{are_differences}
 use Rattle.lt_elim.specs.Decision.{Verdict, stops, point, value_of, with_value, and_value, unless_ended, decided, variables, verdict_within, verdict}
-use Rattle.lt_elim.specs.Law.{AreOrdered, IsWholeVerdict, is_refuted, is_whole, AreSized}
+use Rattle.lt_elim.specs.Law.{AreOrdered, IsWholeVerdict, is_refuted, is_whole, AreSized, DifferencePointsStaySmall}
 use Rattle.lt_elim.proofs.Ring.{cancelled, not_negative_from}
 use Rattle.lt_elim.proofs.Values.{IsWorth, IsNegatedOver, AreWorth, total}
 use Rattle.lt_elim.proofs.Keeping.{In}
 use Rattle.lt_elim.proofs.Paths.{UpTo}
 use Rattle.lt_elim.proofs.Walks.{Walk, IsStage, IsSized}
-use Rattle.lt_elim.proofs.Edges.{mark, Marks, marked, unmarked, marks, mark_own, mark_other, IsLike, Touch, starts, stops as stops_at, leaves, touch}
-use Rattle.lt_elim.proofs.Differences.{HasEdge, AreEdges, IsKept, kept_first, kept_next}
-use Rattle.lt_elim.proofs.Points.{InForm, next_form, first_form, elimination, Solved, decided_solved, value_past, ValueOrigin, free, bound_of, value_origin, verdict_solved}
+use Rattle.lt_elim.proofs.Edges.{mark, Marks, marked, unmarked, marks, mark_own, mark_other, IsLike, Touch, starts, stops as stops_at, leaves, touch, same_ends}
+use Rattle.lt_elim.proofs.Differences.{HasEdge, AreEdges, IsKept, kept_first, kept_next, LikeUpTo, row_like}
+use Rattle.lt_elim.proofs.Points.{InForm, next_form, first_form, elimination, Solved, decided_solved, value_past, ValueOrigin, free, bound_of, value_origin, verdict_solved, row_below}
 use Rattle.lt_elim.proofs.Laws.{in_all, Sized, AllWhole, value_at, value_whole, decided_whole, differences_are_whole}
 use Rattle.lt_elim.proofs.Sizes.{Chain, at_zero, leads_on, times, chain_sized, EdgesHold, chain_back, chain_on}
 
@@ -221,3 +221,53 @@ decided_determined edge n (suc v) rows values l k form e w h = by_kept (eliminat
     by_kept : (x : Kept) → eliminated false v rows ≡ x → unless_ended x (λ next. and_value false v rows (decided false v next)) ≡ point values → ((next : List Row) (vs : List Fraction) → IsKept edge n v next → InForm v next → decided false v next ≡ point vs → (u : ℕ) → u < v → Determined edge n (vertex_value vs) u) → Determined edge n (vertex_value values) w
     by_kept (keeps next) q e rest = by_verdict next q (decided false v next) refl e rest
     by_kept (ends event) q e rest = absurd (cc)
+
+-- ---- the whole system
+times_is : (m n : ℕ) → times m n ≡ n * m
+times_is m zero = sym (zero-mul m)
+times_is m (suc n) = ap (λ k. k + m) (times_is m n) ∙ sym (suc-mul n m)
+
+edges_hold : (rows : List Row) (values : List Fraction) → ((r : Row) → In r rows → IsOrdered r.terms) → are_differences rows ≡ true → AllWhole values → Solved (variables rows) values rows → EdgesHold (HasEdge rows) (vertex_value values)
+edges_hold rows values ordered diff w s i j c h =
+    let l = row_like rows ordered diff h.0 h.1 in
+    let e = same_ends h.0 i j l.start l.end h.2 l.like h.3 in
+    let li : i ≤ variables rows = subst (λ (z : ℕ). z ≤ variables rows) (sym e.0) l.start_upto in
+    let lj : j ≤ variables rows = subst (λ (z : ℕ). z ≤ variables rows) (sym e.1) l.end_upto in
+    let t : total s.num s.d h.0 ≡ (vertex_value values i -ℤ vertex_value values j +ℤ h.0.constant) *ℤ s.d = edge_total values s.num s.d (variables rows) i j h.0 w s.worth h.2 (row_below rows h.0 h.1) li lj in
+    let p : pos 0 ≤ℤ (s.d *ℤ (vertex_value values i -ℤ vertex_value values j +ℤ h.0.constant)) = subst (λ (z : ℤ). pos 0 ≤ℤ z) (t ∙ *ℤ_comm (vertex_value values i -ℤ vertex_value values j +ℤ h.0.constant) s.d) (s.holds h.0 h.1) in
+    subst (λ (z : ℤ). pos 0 ≤ℤ (vertex_value values i -ℤ vertex_value values j +ℤ z)) h.4 (not_negative_from s.d (vertex_value values i -ℤ vertex_value values j +ℤ h.0.constant) s.positive p)
+
+pub difference_points_stay_small : DifferencePointsStaySmall
+unfolding verdict
+difference_points_stay_small rows o diff m small values e = λ x f h. sized x f h
+  where
+    ordered : (r : Row) → In r rows → IsOrdered r.terms
+    ordered r h = in_all (λ q. IsOrdered q.terms) rows o r h
+
+    s : Solved (variables rows) values rows
+    s = verdict_solved rows values ordered e
+
+    all_whole : AllWhole values
+    all_whole = point_whole values (subst IsWholeVerdict e (differences_are_whole rows o diff))
+
+    edge_sized : (i j : ℕ) (c : ℤ) → HasEdge rows i j c → IsSized m c
+    edge_sized i j c h = let k = in_all (Sized m) rows small h.0 h.1 in subst (IsSized m) h.4 (record { low = k.0; high = k.1 })
+
+    by_kept : (x : Kept) → keep_all false (variables rows - 1) [] rows ≡ x → unless_ended x (λ kept. decided false (variables rows) kept) ≡ point values → (w : ℕ) → w < variables rows → Determined (HasEdge rows) (variables rows) (vertex_value values) w
+    by_kept (ends event) q g w h = absurd (cc)
+    by_kept (keeps kept) q g w h = decided_determined (HasEdge rows) (variables rows) (variables rows) kept values (omega arith) (kept_first rows kept (variables rows - 1) ordered diff q) (first_form false (variables rows - 1) rows kept ordered q) g w h
+
+    determined : (w : ℕ) → w < variables rows → Determined (HasEdge rows) (variables rows) (vertex_value values) w
+    determined = by_kept (keep_all false (variables rows - 1) [] rows) refl (subst (λ (b : Bool). verdict_within (not b) rows ≡ point values) diff e)
+
+    vertex_sized : (x : ℕ) → x < variables rows → IsSized (variables rows * m) (vertex_value values (suc x))
+    vertex_sized x h =
+        subst (λ (n : ℕ). IsSized n (vertex_value values (suc x))) (times_is m (variables rows))
+            (chain_sized (vertex_value values) (variables rows) m (suc x) refl
+                (chain_upto (HasEdge rows) (vertex_value values) (variables rows) m edge_sized (edges_hold rows values ordered diff all_whole s) refl determined (variables rows) (omega arith) (suc x) h))
+
+    sized : (x : ℕ) (f : Fraction) → x < length values → (neg_ℤ (pos (variables rows * m)) ≤ℤ (slice_index_or values x f).over) × ((slice_index_or values x f).over ≤ℤ pos (variables rows * m))
+    sized x f h =
+        let k = vertex_sized x (let l : length values ≡ variables rows = s.length_is in omega arith) in
+        let same : slice_index_or values x (whole (pos 0)) ≡ slice_index_or values x f = get_or_default values x (whole (pos 0)) f h in
+        subst (λ (g : Fraction). (neg_ℤ (pos (variables rows * m)) ≤ℤ g.over) × (g.over ≤ℤ pos (variables rows * m))) same (k.low, k.high)

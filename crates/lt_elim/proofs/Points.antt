@@ -789,7 +789,7 @@ below_variables : (ts : List Term) → AllBelow (variables_in ts) ts
 below_variables [] = tt
 below_variables (t ∷ ts) = (omega arith, AllBelow-mono (variables_in ts) (variables_in (t ∷ ts)) ts (omega arith) (below_variables ts))
 
-row_below : (rows : List Row) (r : Row) → In r rows → AllBelow (variables rows) r.terms
+pub row_below : (rows : List Row) (r : Row) → In r rows → AllBelow (variables rows) r.terms
 row_below [] r h = absurd h
 row_below (q ∷ qs) r (inl e) = subst (λ (z : Row). AllBelow (variables (q ∷ qs)) z.terms) e (AllBelow-mono (variables_in q.terms) (variables (q ∷ qs)) q.terms (omega arith) (below_variables q.terms))
 row_below (q ∷ qs) r (inr h) = AllBelow-mono (variables qs) (variables (q ∷ qs)) r.terms (omega arith) (row_below qs r h)

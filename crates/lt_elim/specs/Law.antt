@@ -38,6 +38,13 @@ DifferencesStaySmall =
     (rows : List Row) → AreOrdered rows → are_differences rows ≡ true → (m : ℕ) → AreSized m rows →
     (v : ℕ) (kept : List Row) → Reaches rows v kept → AreSized (suc (variables rows) * m) kept
 
+-- Values of a point of a difference system are the sums of no more of its constants than there are variables.
+abbrev pub DifferencePointsStaySmall : Type 0
+DifferencePointsStaySmall =
+    (rows : List Row) → AreOrdered rows → are_differences rows ≡ true → (m : ℕ) → AreSized m rows →
+    (values : List Fraction) → verdict rows ≡ point values →
+    All (λ f. (neg_ℤ (pos (variables rows * m)) ≤ℤ f.over) × (f.over ≤ℤ pos (variables rows * m))) values
+
 -- ---- points
 -- A point has a value for each variable, and makes every row true.
 abbrev pub PointsSatisfy : Type 0

@@ -1,5 +1,5 @@
 // Laws of the definitions: nothing to run.
-ghost use Rattle.lt_elim.specs.Law.{DifferencesAreWhole, DifferencesStaySmall, PointsSatisfy, RefutationsHaveLines};
+ghost use Rattle.lt_elim.specs.Law.{DifferencePointsStaySmall, DifferencesAreWhole, DifferencesStaySmall, PointsSatisfy, RefutationsHaveLines};
 
 /// On a difference system neither limit comes, and a point is whole.
 pub fn differences_are_whole()
@@ -20,3 +20,9 @@ pub fn points_satisfy()
 pub fn refutations_have_lines()
     ensures { RefutationsHaveLines }
 {}
+
+/// Values of a point of a difference system stay small.
+pub fn difference_points_stay_small()
+    ensures { DifferencePointsStaySmall }
+{
+}

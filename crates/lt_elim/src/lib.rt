@@ -4,5 +4,6 @@
 mod law;
 
 pub use law::{
-    differences_are_whole, differences_stay_small, points_satisfy, refutations_have_lines,
+    difference_points_stay_small, differences_are_whole, differences_stay_small, points_satisfy,
+    refutations_have_lines,
 };
