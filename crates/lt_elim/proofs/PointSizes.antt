@@ -60,7 +60,7 @@ upto_mark num (suc n) i h = by_mark (marks n i) (upto_mark num n i)
     by_mark : Marks n i → (i ≤ n → upto num n (λ x. mark x i) ≡ at num i) → mark n i *ℤ num n +ℤ upto num n (λ x. mark x i) ≡ at num i
     by_mark (marked e q) rest =
         first (mark n i *ℤ num n) (upto num n (λ x. mark x i)) (at num i) (ap (λ z. z *ℤ num n) q ∙ once (num n) ∙ ap (at num) e)
-            (upto_zero num n (λ x. mark x i) (λ x l. mark_other x i (λ k. omega arith)))
+        (upto_zero num n (λ x. mark x i) (λ x l. mark_other x i (λ k. omega arith)))
     by_mark (unmarked o q) rest = second (mark n i *ℤ num n) (upto num n (λ x. mark x i)) (at num i) (ap (λ z. z *ℤ num n) q ∙ zero-*ℤ (num n)) (rest (omega arith))
 
 sub-mul : (a b c : ℤ) → (a -ℤ b) *ℤ c ≡ a *ℤ c -ℤ b *ℤ c
@@ -146,11 +146,11 @@ bound_determined : (edge : ℕ → ℕ → ℤ → Type 0) (n v : ℕ) (values :
 bound_determined edge n v values num d f r i j p bel pd l w fw ws like o li lj wk up b nz (leaves x y z) = absurd (nz z)
 bound_determined edge n v values num d f r i j p bel pd l w fw ws like o li lj wk up b nz (starts x y z) =
     onward j p r.constant (omega arith) (subst (λ (k : ℕ). Walk edge k p j r.constant) x wk) up
-        (ap (λ k. k -ℤ vertex_value (values ++ f ∷ []) j +ℤ r.constant) (vertex_last values f v l)
-        ∙ ap (λ k. f.over -ℤ k +ℤ r.constant) (sym (vertex_same values f v l j (omega arith)))
-        ∙ linear (f.over *ℤ factor v r.terms) f.over (vertex_value values i) (vertex_value values j) r.constant
-            (cancelled d (f.over *ℤ factor v r.terms) (neg_ℤ (vertex_value values i -ℤ vertex_value values j +ℤ r.constant)) pd (value_is f (factor v r.terms) (vertex_value values i -ℤ vertex_value values j +ℤ r.constant) d (total num d r) pd fw (edge_total values num d (suc v) i j r w ws like bel li lj) b))
-            (ap (λ k. f.over *ℤ k) z ∙ once f.over) (ap (vertex_value values) x ∙ value_beyond values v l))
+    (ap (λ k. k -ℤ vertex_value (values ++ f ∷ []) j +ℤ r.constant) (vertex_last values f v l)
+    ∙ ap (λ k. f.over -ℤ k +ℤ r.constant) (sym (vertex_same values f v l j (omega arith)))
+    ∙ linear (f.over *ℤ factor v r.terms) f.over (vertex_value values i) (vertex_value values j) r.constant
+    (cancelled d (f.over *ℤ factor v r.terms) (neg_ℤ (vertex_value values i -ℤ vertex_value values j +ℤ r.constant)) pd (value_is f (factor v r.terms) (vertex_value values i -ℤ vertex_value values j +ℤ r.constant) d (total num d r) pd fw (edge_total values num d (suc v) i j r w ws like bel li lj) b))
+    (ap (λ k. f.over *ℤ k) z ∙ once f.over) (ap (vertex_value values) x ∙ value_beyond values v l))
   where
     once : (k : ℤ) → k *ℤ pos 1 ≡ k
     once k = omega (arith, ints)
@@ -159,11 +159,11 @@ bound_determined edge n v values num d f r i j p bel pd l w fw ws like o li lj w
     linear q s a c e f g h = omega (arith, ints)
 bound_determined edge n v values num d f r i j p bel pd l w fw ws like o li lj wk up b nz (stops_at x y z) =
     backward i p r.constant (omega arith) (subst (λ (k : ℕ). Walk edge i p k r.constant) y wk) up
-        (ap (λ k. k -ℤ vertex_value (values ++ f ∷ []) (suc v) +ℤ r.constant) (sym (vertex_same values f v l i (omega arith)))
-        ∙ ap (λ k. vertex_value values i -ℤ k +ℤ r.constant) (vertex_last values f v l)
-        ∙ linear (f.over *ℤ factor v r.terms) f.over (vertex_value values i) (vertex_value values j) r.constant
-            (cancelled d (f.over *ℤ factor v r.terms) (neg_ℤ (vertex_value values i -ℤ vertex_value values j +ℤ r.constant)) pd (value_is f (factor v r.terms) (vertex_value values i -ℤ vertex_value values j +ℤ r.constant) d (total num d r) pd fw (edge_total values num d (suc v) i j r w ws like bel li lj) b))
-            (ap (λ k. f.over *ℤ k) z ∙ minus f.over) (ap (vertex_value values) y ∙ value_beyond values v l))
+    (ap (λ k. k -ℤ vertex_value (values ++ f ∷ []) (suc v) +ℤ r.constant) (sym (vertex_same values f v l i (omega arith)))
+    ∙ ap (λ k. vertex_value values i -ℤ k +ℤ r.constant) (vertex_last values f v l)
+    ∙ linear (f.over *ℤ factor v r.terms) f.over (vertex_value values i) (vertex_value values j) r.constant
+    (cancelled d (f.over *ℤ factor v r.terms) (neg_ℤ (vertex_value values i -ℤ vertex_value values j +ℤ r.constant)) pd (value_is f (factor v r.terms) (vertex_value values i -ℤ vertex_value values j +ℤ r.constant) d (total num d r) pd fw (edge_total values num d (suc v) i j r w ws like bel li lj) b))
+    (ap (λ k. f.over *ℤ k) z ∙ minus f.over) (ap (vertex_value values) y ∙ value_beyond values v l))
   where
     minus : (k : ℤ) → k *ℤ negsuc 0 ≡ neg_ℤ k
     minus k = omega (arith, ints)
@@ -263,8 +263,8 @@ difference_points_stay_small rows o diff m small values e = λ x f h. sized x f 
     vertex_sized : (x : ℕ) → x < variables rows → IsSized (variables rows * m) (vertex_value values (suc x))
     vertex_sized x h =
         subst (λ (n : ℕ). IsSized n (vertex_value values (suc x))) (times_is m (variables rows))
-            (chain_sized (vertex_value values) (variables rows) m (suc x) refl
-                (chain_upto (HasEdge rows) (vertex_value values) (variables rows) m edge_sized (edges_hold rows values ordered diff all_whole s) refl determined (variables rows) (omega arith) (suc x) h))
+        (chain_sized (vertex_value values) (variables rows) m (suc x) refl
+        (chain_upto (HasEdge rows) (vertex_value values) (variables rows) m edge_sized (edges_hold rows values ordered diff all_whole s) refl determined (variables rows) (omega arith) (suc x) h))
 
     sized : (x : ℕ) (f : Fraction) → x < length values → (neg_ℤ (pos (variables rows * m)) ≤ℤ (slice_index_or values x f).over) × ((slice_index_or values x f).over ≤ℤ pos (variables rows * m))
     sized x f h =

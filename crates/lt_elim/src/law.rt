@@ -24,5 +24,4 @@ pub fn refutations_have_lines()
 /// Values of a point of a difference system stay small.
 pub fn difference_points_stay_small()
     ensures { DifferencePointsStaySmall }
-{
-}
+{}
