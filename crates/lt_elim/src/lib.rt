@@ -1,6 +1,7 @@
 //! Elimination of variables from linear rows; specs/Decision.antt says what is decided.
 #![tactic(auto)]
 
+mod divisor;
 mod law;
 
 pub use law::{
