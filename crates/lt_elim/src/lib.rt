@@ -3,6 +3,7 @@
 
 mod divisor;
 mod law;
+mod normal;
 
 pub use law::{
     difference_points_stay_small, differences_are_whole, differences_stay_small, points_satisfy,
