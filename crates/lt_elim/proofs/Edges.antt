@@ -181,7 +181,7 @@ pub quotient_one : (z : ℤ) → quotient z 1 ≡ z
 quotient_one (pos a) = ap pos (div-one a)
 quotient_one (negsuc a) = ap negsuc (div-one a)
 
-divided_one : (r : Row) → divided 1 r ≡ r
+pub divided_one : (r : Row) → divided 1 r ≡ r
 divided_one r = ap (λ (ts : List Term). record { terms = ts; constant = quotient r.constant 1 }) (terms_one r.terms) ∙ ap (λ (c : ℤ). record { terms = r.terms; constant = c }) (quotient_one r.constant)
   where
     terms_one : (ts : List Term) → map (λ t. (t.0, quotient t.1 1)) ts ≡ ts

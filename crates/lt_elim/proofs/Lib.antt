@@ -5,6 +5,7 @@ pub mod Paths
 pub mod Walks
 pub mod Keeping
 pub mod Edges
+pub mod Dividing
 pub mod Points
 pub mod Differences
 pub mod Refuting
