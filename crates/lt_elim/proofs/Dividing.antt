@@ -1,7 +1,5 @@
 -- What dividing a row by the greatest common divisor of its factors gives.
-use Rattle.std.proofs.Common.{arith, ◌≡◌, refl, sym, ◌∙◌, ap, ℕ, suc, zero, ℤ, pos, ◌<◌, ◌≤◌, List}
-use Rattle.std.specs.Prelude.{map}
-use Rattle.std.specs.Int.{int_div_euclid}
+use Rattle.std.proofs.Common.{arith, ◌≡◌, refl, sym, ◌∙◌, ap, ℕ, suc, zero, ℤ, ◌≤◌, List}
 use Rattle.lt_lin.specs.declared.row.Row.{Row}
 use Rattle.lt_lin.specs.Terms.{Term}
 use Rattle.lt_elim.specs.Divisor.{content}

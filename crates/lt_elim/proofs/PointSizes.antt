@@ -1,30 +1,30 @@
 -- A point of a difference system stays as small as its constants and the count of its variables let it.
-use Rattle.std.proofs.Common.{arith, ◌≡◌, refl, sym, ◌∙◌, ap, subst, ℕ, suc, zero, ℤ, pos, negsuc, ◌+ℤ◌, ◌-ℤ◌, ◌*ℤ◌, ◌≤ℤ◌, ◌<ℤ◌, ◌+◌, ◌-◌, ◌*◌, ◌<◌, ◌≤◌, ◌≢◌, List, [], ◌∷◌, ◌++◌, length, ◌⊎◌, inl, inr, Bool, true, false, not, Option, Some, None, suc-mul, zero-mul}
-use Rattle.std.specs.Prelude.{neg_ℤ, ◌==◌, if◌then◌else◌, slice_index_or, All}
-use Rattle.std.proofs.lemmas.Int.{ints, by_lt_z}
+use Rattle.std.proofs.Common.{arith, ◌≡◌, refl, sym, ◌∙◌, ap, subst, ℕ, suc, zero, ℤ, pos, negsuc, ◌+ℤ◌, ◌-ℤ◌, ◌*ℤ◌, ◌≤ℤ◌, ◌<ℤ◌, ◌+◌, ◌-◌, ◌*◌, ◌<◌, ◌≤◌, List, [], ◌∷◌, ◌++◌, length, ◌⊎◌, inl, inr, Bool, true, false, not, Option, Some, None, suc-mul, zero-mul}
+use Rattle.std.specs.Prelude.{neg_ℤ, slice_index_or}
+use Rattle.std.proofs.lemmas.Int.{ints}
 use Rattle.std.proofs.lemmas.Bool.{cases_lt}
 use Rattle.std.proofs.lemmas.List.{get_or_append_left, get_or_default, get_or_push, get_or_past}
 use Rattle.std.proofs.Math.IntN.{*ℤ_comm, zero-*ℤ}
 use Rattle.lt_model.proofs.Whole.{add-mul_ℤ, neg-mul_ℤ, mul_assoc_ℤ}
 use Rattle.lt_lin.specs.declared.row.Row.{Row}
-use Rattle.lt_lin.specs.Terms.{Term, IsOrdered, factor, sum_at}
+use Rattle.lt_lin.specs.Terms.{IsOrdered, factor, sum_at}
 use Rattle.lt_lin.proofs.Factors.{AllBelow}
 use Rattle.lt_lin.proofs.Soundness.{upto, upto_same, upto_zero, sum_by_variable}
 use Rattle.lt_elim.specs.Elimination.{Kept, keeps, ends, keep_all, eliminated}
 use Rattle.lt_elim.specs.Fraction.{Fraction, whole}
 use Rattle.lt_elim.specs.Difference.{are_differences}
 use Rattle.lt_elim.specs.Decision.{Verdict, stops, point, value_of, with_value, and_value, unless_ended, decided, variables, verdict_within, verdict}
-use Rattle.lt_elim.specs.Law.{AreOrdered, IsWholeVerdict, is_refuted, is_whole, AreSized, DifferencePointsStaySmall}
+use Rattle.lt_elim.specs.Law.{IsWholeVerdict, is_whole, DifferencePointsStaySmall}
 use Rattle.lt_elim.proofs.Ring.{cancelled, not_negative_from}
-use Rattle.lt_elim.proofs.Values.{IsWorth, IsNegatedOver, AreWorth, total}
+use Rattle.lt_elim.proofs.Values.{IsNegatedOver, AreWorth, total}
 use Rattle.lt_elim.proofs.Keeping.{In}
 use Rattle.lt_elim.proofs.Paths.{UpTo}
-use Rattle.lt_elim.proofs.Walks.{Walk, IsStage, IsSized}
-use Rattle.lt_elim.proofs.Edges.{mark, Marks, marked, unmarked, marks, mark_own, mark_other, IsLike, Touch, starts, stops as stops_at, leaves, touch, same_ends}
-use Rattle.lt_elim.proofs.Differences.{HasEdge, AreEdges, IsKept, kept_first, kept_next, LikeUpTo, row_like}
+use Rattle.lt_elim.proofs.Walks.{Walk, IsSized}
+use Rattle.lt_elim.proofs.Edges.{mark, Marks, marked, unmarked, marks, mark_other, IsLike, Touch, starts, stops as stops_at, leaves, touch, same_ends}
+use Rattle.lt_elim.proofs.Differences.{HasEdge, IsKept, kept_first, kept_next, row_like}
 use Rattle.lt_elim.proofs.Points.{InForm, next_form, first_form, elimination, Solved, decided_solved, value_past, ValueOrigin, free, bound_of, value_origin, verdict_solved, row_below}
 use Rattle.lt_elim.proofs.Laws.{in_all, Sized, AllWhole, value_at, value_whole, decided_whole, differences_are_whole}
-use Rattle.lt_elim.proofs.Sizes.{Chain, at_zero, leads_on, times, chain_sized, EdgesHold, chain_back, chain_on}
+use Rattle.lt_elim.proofs.Sizes.{Chain, at_zero, times, chain_sized, EdgesHold, chain_back, chain_on}
 
 -- ---- values of vertices
 abbrev at : (ℕ → ℤ) → ℕ → ℤ

@@ -1,24 +1,9 @@
 -- Values of a point of a difference system are small: each is led to 0 by rows that hold with nothing to spare.
-use Rattle.std.proofs.Common.{arith, ◌≡◌, refl, sym, ◌∙◌, ap, subst, ℕ, suc, zero, ℤ, pos, negsuc, ◌+ℤ◌, ◌-ℤ◌, ◌*ℤ◌, ◌≤ℤ◌, ◌<ℤ◌, ◌+◌, ◌-◌, ◌*◌, ◌<◌, ◌≤◌, ◌≢◌, List, [], ◌∷◌, ◌++◌, length, ◌⊎◌, inl, inr, Bool, true, false, Option, Some, None}
-use Rattle.std.specs.Prelude.{neg_ℤ, ◌==◌, if◌then◌else◌, slice_index_or}
+use Rattle.std.proofs.Common.{arith, ◌≡◌, refl, sym, ap, subst, ℕ, suc, zero, ℤ, pos, ◌+ℤ◌, ◌-ℤ◌, ◌≤ℤ◌, ◌<ℤ◌, ◌+◌, ◌<◌, ◌≤◌, List, [], ◌∷◌, length}
+use Rattle.std.specs.Prelude.{neg_ℤ}
 use Rattle.std.proofs.lemmas.Int.{ints, by_lt_z}
-use Rattle.std.proofs.lemmas.Bool.{cases_lt}
-use Rattle.std.proofs.lemmas.List.{get_or_append_left, get_or_push}
-use Rattle.std.proofs.Math.IntN.{*ℤ_comm}
-use Rattle.lt_model.proofs.Whole.{add-mul_ℤ, neg-mul_ℤ}
-use Rattle.lt_lin.specs.declared.row.Row.{Row}
-use Rattle.lt_lin.specs.Terms.{Term, factor, sum_at}
-use Rattle.lt_lin.proofs.Factors.{AllBelow}
-use Rattle.lt_lin.proofs.Soundness.{upto, upto_same, sum_by_variable}
-use Rattle.lt_elim.specs.Elimination.{Kept, keeps, ends, eliminated}
-use Rattle.lt_elim.specs.Fraction.{Fraction, whole}
-use Rattle.lt_elim.specs.Decision.{Verdict, stops, point, value_of, with_value, and_value, unless_ended, decided}
-use Rattle.lt_elim.proofs.Ring.{cancelled}
-use Rattle.lt_elim.proofs.Values.{IsWorth, IsNegatedOver, AreWorth, total}
-use Rattle.lt_elim.proofs.Keeping.{In}
 use Rattle.lt_elim.proofs.Paths.{Absent, Distinct, Above, UpTo, distinct_length}
 use Rattle.lt_elim.proofs.Walks.{Walk, IsSized}
-use Rattle.lt_elim.proofs.Edges.{mark, Marks, marked, unmarked, marks, mark_own, mark_other, IsLike}
 
 -- ---- chains of vertices
 -- Vertices up to n lead from u to one of the value 0, each at most m from the next.

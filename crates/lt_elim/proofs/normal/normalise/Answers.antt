@@ -1,6 +1,4 @@
-use Rattle.std.proofs.Common.{arith, rules, ◌≡◌, sym, ◌∙◌, ap}
-use mir.Val.{SFits}
-use mir.Syntax.{w128}
+use Rattle.std.proofs.Common.{◌≡◌, sym, ◌∙◌, ap}
 use Rattle.std.proofs.lemmas.Int.{to_z-of_z}
 use Rattle.lt_elim.specs.Divisor.{content}
 use Rattle.lt_elim.proofs.Dividing.{undivided}
