@@ -41,3 +41,13 @@ circle_is_refuted = refl
 pub fifths_have_a_point : verdict (row ((0, pos 1) ∷ []) (pos 0) ∷ row ((0, neg_ℤ (pos 1)) ∷ []) (pos 1) ∷ row ((1, pos 1) ∷ []) (pos 0) ∷ row ((1, neg_ℤ (pos 1)) ∷ []) (pos 1) ∷ row ((0, pos 3) ∷ (1, pos 5) ∷ []) (neg_ℤ (pos 7)) ∷ row ((0, neg_ℤ (pos 3)) ∷ (1, neg_ℤ (pos 5)) ∷ []) (pos 7) ∷ []) ≡ point (whole (pos 1) ∷ fraction (pos 4) 5 ∷ [])
 unfolding verdict eliminated combination is_wide gcd_of value_of
 fifths_have_a_point = refl
+
+-- x is at least 2, y at least 3 more, and at most 10: each takes the least value that it may.
+pub differences_have_a_point : verdict (row ((0, pos 1) ∷ []) (neg_ℤ (pos 2)) ∷ row ((0, neg_ℤ (pos 1)) ∷ (1, pos 1) ∷ []) (neg_ℤ (pos 3)) ∷ row ((1, neg_ℤ (pos 1)) ∷ []) (pos 10) ∷ []) ≡ point (whole (pos 2) ∷ whole (pos 5) ∷ [])
+unfolding verdict eliminated combination is_wide gcd_of value_of
+differences_have_a_point = refl
+
+-- The first variable is at most 4, the second stands nowhere, the third is at least 1.
+pub greatest_else_nothing : verdict (row ((0, neg_ℤ (pos 1)) ∷ []) (pos 4) ∷ row ((2, pos 1) ∷ []) (neg_ℤ (pos 1)) ∷ []) ≡ point (whole (pos 4) ∷ whole (pos 0) ∷ whole (pos 1) ∷ [])
+unfolding verdict eliminated combination is_wide gcd_of value_of
+greatest_else_nothing = refl
