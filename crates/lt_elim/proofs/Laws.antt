@@ -274,6 +274,7 @@ points_satisfy rows o values e =
         denominator = s.d;
         numerators = s.num;
         positive = s.positive;
+        unders_positive = λ x. (s.worth x).positive;
         values_are = λ x. (s.worth x).value;
         rows_hold = all_in (λ r. pos 0 ≤ℤ total s.num s.d r) rows s.holds;
       },

@@ -1,5 +1,5 @@
 -- What a system is decided to be: refuted, satisfied by a point, or left at a limit.
-use Rattle.std.specs.Prelude.{◌≡◌, ℕ, zero, suc, ◌+◌, ◌-◌, max, ℤ, pos, ◌+ℤ◌, ◌*ℤ◌, ◌≤ℤ◌, ◌<ℤ◌, Bool, not, ◌==◌, if◌then◌else◌, List, [], ◌∷◌, ◌++◌, slice_index_or, Option, Some, None, All}
+use Rattle.std.specs.Prelude.{◌≡◌, ◌<◌, ℕ, zero, suc, ◌+◌, ◌-◌, max, ℤ, pos, ◌+ℤ◌, ◌*ℤ◌, ◌≤ℤ◌, ◌<ℤ◌, Bool, not, ◌==◌, if◌then◌else◌, List, [], ◌∷◌, ◌++◌, slice_index_or, Option, Some, None, All}
 use Rattle.lt_lin.specs.declared.row.Row.{Row}
 use Rattle.lt_lin.specs.Terms.{Term, factor, sum_at}
 use Rattle.lt_elim.specs.Elimination.{Event, coeff, Kept, keeps, ends, keep_all, eliminated, raising, lowering}
@@ -93,5 +93,6 @@ pub record IsSolution (values : List Fraction) (rows : List Row) : Type 0 where
   pub denominator : ℤ
   pub numerators : ℕ → ℤ
   pub positive : pos 0 <ℤ denominator
+  pub unders_positive : (x : ℕ) → 0 < (slice_index_or values x (whole (pos 0))).under
   pub values_are : (x : ℕ) → numerators x *ℤ pos (slice_index_or values x (whole (pos 0))).under ≡ (slice_index_or values x (whole (pos 0))).over *ℤ denominator
   pub rows_hold : All (λ r. pos 0 ≤ℤ (sum_at numerators r.terms +ℤ r.constant *ℤ denominator)) rows

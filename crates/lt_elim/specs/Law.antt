@@ -57,5 +57,6 @@ PointsSatisfy =
 -- the lines of a difference system, which has no limit.
 abbrev pub RefutationsHaveLines : Type 0
 RefutationsHaveLines =
-    (rows : List Row) → AreOrdered rows → (m : ℕ) → AreSized m rows → suc (variables rows) * m ≤ 2 ^ 125 → verdict rows ≡ stops refuted →
+    (rows : List Row) → AreOrdered rows → (m : ℕ) → AreSized m rows → suc (variables rows) * m ≤ 2 ^ 125 →
+    verdict rows ≡ stops refuted →
     ((lines : Lines) × Refutes rows lines) × ((numbers : ℕ → ℤ) → Satisfies numbers rows → ⊥)
