@@ -12,3 +12,6 @@ pub mod Refuting
 pub mod Sizes
 pub mod Laws
 pub mod PointSizes
+pub mod KeptRows
+pub mod Combining
+pub mod Eliminating

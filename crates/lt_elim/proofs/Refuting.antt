@@ -159,17 +159,17 @@ fits_within : (z : ℤ) → passes z ≡ false → Fits z
 fits_within (pos n) e = let l : n ≤ 2 ^ 120 = grind arith in (omega (arith, ints), omega (arith, ints))
 fits_within (negsuc n) e = let l : suc n ≤ 2 ^ 120 = grind arith in (omega (arith, ints), omega (arith, ints))
 
-either_false : (a b : Bool) → (a || b) ≡ false → (a ≡ false) × (b ≡ false)
+pub either_false : (a b : Bool) → (a || b) ≡ false → (a ≡ false) × (b ≡ false)
 either_false true b e = absurd (cc)
 either_false false b e = (refl, e)
 
-part_fits : (m : Multipliers) (a b : ℤ) → passes_in m a b ≡ false → PartFits m a b
+pub part_fits : (m : Multipliers) (a b : ℤ) → passes_in m a b ≡ false → PartFits m a b
 part_fits m a b e =
     let outer = either_false (passes (m.of_raising *ℤ a) || passes (m.of_lowering *ℤ b)) (passes (sum_of m a b)) e in
     let inner = either_false (passes (m.of_raising *ℤ a)) (passes (m.of_lowering *ℤ b)) outer.0 in
     record { raising = fits_within (m.of_raising *ℤ a) inner.0; lowering = fits_within (m.of_lowering *ℤ b) inner.1; sum = fits_within (sum_of m a b) outer.1 }
 
-none_below : (n : ℕ) (test : ℕ → Bool) → any_below n test ≡ false → (x : ℕ) → x < n → test x ≡ false
+pub none_below : (n : ℕ) (test : ℕ → Bool) → any_below n test ≡ false → (x : ℕ) → x < n → test x ≡ false
 none_below zero test e x h = absurd (omega arith)
 none_below (suc n) test e x h =
     let both = either_false (any_below n test) (test n) e in
@@ -231,7 +231,7 @@ sums_two part known p n i j m s gp gn pr pl f e = (
     left z = omega (arith, ints)
 
 -- the sum of the products of the factors of v is 0
-sum_at_own : (v : ℕ) (p n : Row) → int_lt (pos 0) (factor v p.terms) ≡ true → int_lt (factor v n.terms) (pos 0) ≡ true → sum_of (multipliers v p n) (factor v p.terms) (factor v n.terms) ≡ pos 0
+pub sum_at_own : (v : ℕ) (p n : Row) → int_lt (pos 0) (factor v p.terms) ≡ true → int_lt (factor v n.terms) (pos 0) ≡ true → sum_of (multipliers v p n) (factor v p.terms) (factor v n.terms) ≡ pos 0
 sum_at_own v p n hp hn =
     cancel (pos (b_size / g) *ℤ a) (pos (a_size / g) *ℤ b) (pos (b_size / g) *ℤ pos (a_size / g) *ℤ pos g)
     (ap (λ z. pos (b_size / g) *ℤ z) (sym (abs_up a (more a hp)) ∙ ap pos (sym (exact_ℕ a_size g gs.0))) ∙ first (pos (b_size / g)) (pos (a_size / g)) (pos g))

@@ -5,4 +5,6 @@ pub mod Fraction
 pub mod Decision
 pub mod Difference
 pub mod Law
+pub mod Progress
+pub mod Summing
 pub mod Examples

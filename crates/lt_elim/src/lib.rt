@@ -1,7 +1,13 @@
 //! Elimination of variables from linear rows; specs/Decision.antt says what is decided.
 #![tactic(auto)]
 
+mod combination;
 mod divisor;
+mod eliminate;
+mod event;
+mod factor;
+mod keep;
+mod kept;
 mod law;
 mod normal;
 

@@ -9,7 +9,7 @@ ghost use Rattle.lt_lin.specs.Adding.{CanAdd, IsAdded, first_factor, past_variab
 use std::vec::Vec;
 
 /// Adds `by` times the row to the sum, into `next`; false where a product or a sum doesn't fit.
-pub(crate) fn add_terms(
+pub fn add_terms(
     sum: &[(u32, i128)],
     by: i128,
     row: &[(u32, i128)],
@@ -73,7 +73,7 @@ fn push_factor(terms: &mut Vec<(u32, i128)>, x: u32, factor: i128)
 }
 
 /// The sum and `by` times the factor, where the product and the sum fit.
-pub(crate) fn add_product(sum: i128, by: i128, factor: i128) -> Option<i128>
+pub fn add_product(sum: i128, by: i128, factor: i128) -> Option<i128>
     ensures { SomeIff result (Fits (by *ℤ factor) × Fits (sum +ℤ by *ℤ factor)) (sum +ℤ by *ℤ factor) }
 {
     match product_of(by, factor) {

@@ -13,6 +13,7 @@ mod row;
 mod scratch;
 mod terms;
 
+pub use adding::{add_product, add_terms};
 pub use line::Line;
 pub use room::{Room, check_lines, reserve};
 pub use row::{Row, System};

@@ -34,6 +34,14 @@ impl Terms {
         }
     }
 
+    /// The terms of a list in order.
+    pub fn from_ordered(terms: Vec<(u32, i128)>) -> Terms
+        requires { IsOrdered terms.items }
+        ensures { result ≡ terms.items }
+    {
+        Terms { terms }
+    }
+
     /// The list of the terms.
     pub fn into_vec(self) -> Vec<(u32, i128)>
         ensures same { result.items ≡ self }
