@@ -1,9 +1,9 @@
 -- The combination of two rows, summed up part by part.
-use Rattle.std.proofs.Common.{arith, ◌≡◌, refl, sym, ◌∙◌, ap, subst, ℕ, zero, suc, ℤ, pos, negsuc, ◌+ℤ◌, ◌*ℤ◌, ◌+◌, ◌*◌, ◌^◌, ◌<◌, ◌≤◌, ◌/◌, List, [], ◌∷◌, Bool, true, false, ◌&&◌, ◌||◌, ◌⊎◌, inl, inr, Option, Some, None}
-use Rattle.std.specs.Prelude.{unsigned_abs, int_lt, nat_lt, ◌==◌}
+use Rattle.std.proofs.Common.{arith, ◌≡◌, refl, sym, ◌∙◌, ap, subst, ℕ, zero, suc, ℤ, pos, negsuc, ◌+ℤ◌, ◌*ℤ◌, ◌+◌, ◌^◌, ◌<◌, ◌≤◌, List, [], ◌∷◌, Bool, true, false, ◌&&◌, ◌||◌, ◌⊎◌, inl, inr, Option, Some, None}
+use Rattle.std.specs.Prelude.{unsigned_abs, int_lt, ◌==◌}
 use Rattle.std.proofs.lemmas.Int.{ints}
 use Rattle.std.proofs.lemmas.Bool.{cases_order}
-use Rattle.std.proofs.lemmas.Nat.Gcd.{le_of_dvd, dvd_trans}
+use Rattle.std.proofs.lemmas.Nat.Gcd.{le_of_dvd}
 use Rattle.lt_lin.specs.declared.row.Row.{Row}
 use Rattle.lt_lin.specs.Terms.{Term, IsOrderedFrom, IsOrdered, factor, Fits}
 use Rattle.lt_lin.specs.Adding.{CanAdd, IsAdded}
@@ -205,11 +205,11 @@ multiples limited v p n q raised lowered m k qt qc em ek r l = record {
 pub sum_wide : (limited : Bool) (v : ℕ) (p n raised lowered : Row) → CanCombine limited v p n → Multiples v p n raised lowered → (CanSum limited raised (pos 1) lowered → ⊥) → (limited && is_wide v p n) ≡ true
 sum_wide limited v p n raised lowered c u h =
     is_true (limited && is_wide v p n) (λ f. h (λ x.
-      let g = all_go limited v p n c f x in (
-        subst Fits (sym (u.of_lowered x) ∙ once (part x lowered)) g.fits.lowering,
-        subst Fits (sums_parts v p n raised lowered u x) g.fits.sum,
-        λ l. ap passes (sym (sums_parts v p n raised lowered u x)) ∙ (g.within l).2,
-      )))
+    let g = all_go limited v p n c f x in (
+      subst Fits (sym (u.of_lowered x) ∙ once (part x lowered)) g.fits.lowering,
+      subst Fits (sums_parts v p n raised lowered u x) g.fits.sum,
+      λ l. ap passes (sym (sums_parts v p n raised lowered u x)) ∙ (g.within l).2,
+    )))
 
 none_any : (n : ℕ) (test : ℕ → Bool) → ((x : ℕ) → test x ≡ false) → any_below n test ≡ false
 none_any zero test h = refl

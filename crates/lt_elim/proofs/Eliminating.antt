@@ -1,12 +1,11 @@
 -- Loops over rows that are combined.
-use Rattle.std.proofs.Common.{◌≡◌, refl, sym, ◌∙◌, ap, subst, ℕ, zero, suc, ◌+◌, ◌<◌, List, [], ◌∷◌, drop, drop-cons, add-one, length, Bool, true, false, ◌&&◌, Option, Some, None, arith}
-use Rattle.std.specs.Prelude.{slice_get, if◌then◌else◌}
+use Rattle.std.proofs.Common.{◌≡◌, sym, ◌∙◌, ap, ℕ, List, ◌∷◌, Bool, true, false, ◌&&◌, Option}
+use Rattle.std.specs.Prelude.{if◌then◌else◌}
 use Rattle.lt_lin.specs.declared.row.Row.{Row}
 use Rattle.lt_elim.specs.declared.event.Event as code
 use Rattle.lt_elim.specs.Combination.{combination, is_wide}
-use Rattle.lt_elim.specs.Elimination.{Kept, keeps, ends, coeff, and_next, keep, keep_combination, combine_with, combine_all}
-use Rattle.lt_elim.specs.Progress.{outcome, event_of}
-use Rattle.lt_elim.specs.Summing.{CombineWith, CombineAll, CanCombine}
+use Rattle.lt_elim.specs.Elimination.{Kept, ends, coeff, and_next, keep, keep_combination, combine_with, combine_all}
+use Rattle.lt_elim.specs.Progress.{outcome}
 
 -- a combination is kept
 pub combination_wide : (b : Bool) (v : ℕ) (p : Row) (kept : List Row) (n : Row) → (b && is_wide v p n) ≡ true → keep_combination b v p kept n ≡ ends (coeff v)

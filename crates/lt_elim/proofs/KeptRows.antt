@@ -1,19 +1,18 @@
 -- Rows that are kept in a map from terms to constants.
-use Rattle.std.proofs.Common.{◌≡◌, refl, zero, suc, length, ◌<◌, ◌≤◌, ◌⊎◌, inl, inr, sym, ◌∙◌, ap, ℕ, ℤ, pos, List, [], ◌∷◌, ◌+◌, ◌+ℤ◌, Bool, true, false, ◌&&◌, cond, arith, Option, Some, None}
-use Rattle.std.specs.Prelude.{int_lt, nat_lt, slice_get, nat_eq, ◌==◌, if◌then◌else◌, map}
+use Rattle.std.proofs.Common.{◌≡◌, refl, zero, suc, length, ◌<◌, ◌≤◌, ◌⊎◌, inl, inr, sym, ◌∙◌, ap, ℕ, ℤ, pos, List, [], ◌∷◌, ◌+◌, ◌+ℤ◌, Bool, true, false, ◌&&◌, cond, arith, Some}
+use Rattle.std.specs.Prelude.{int_lt, nat_lt, slice_get, nat_eq, ◌==◌, if◌then◌else◌}
 use Rattle.std.specs.Ordering.{int_eq}
 use Rattle.std.specs.List.{filter}
 use Rattle.std.specs.Map.{lookup}
 use Rattle.std.specs.Cmp.Lexicographic.{pointwise}
 use Rattle.std.specs.Global.{Vec}
 use Rattle.std.proofs.lemmas.Int.{ints}
-use Rattle.std.proofs.lemmas.Bool.Decides.{Decides-int_eq}
 use Rattle.indexmap.specs.IndexMap.{insert_entry}
 use Rattle.lt_lin.specs.declared.row.Row.{Row}
 use Rattle.lt_lin.specs.Terms.{Term, IsOrderedFrom, IsOrdered, factor}
-use Rattle.lt_lin.proofs.Factors.{factor_same, factor_other, factor_below}
+use Rattle.lt_lin.proofs.Factors.{factor_below}
 use Rattle.lt_elim.specs.Combination.{normalised}
-use Rattle.lt_elim.specs.Elimination.{Kept, keeps, ends, refuted, many_rows, row_limit, within_limit, keep, keep_normalised, same_terms, tighter, with_row, without}
+use Rattle.lt_elim.specs.Elimination.{keeps, ends, refuted, many_rows, row_limit, within_limit, keep, keep_normalised, same_terms, tighter, with_row, without}
 use Rattle.lt_elim.specs.Progress.{row_of, rows_of, least_of, found_factor, AllInOrder}
 use Rattle.lt_elim.proofs.Keeping.{same_terms_are}
 

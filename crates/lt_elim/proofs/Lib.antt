@@ -15,3 +15,5 @@ pub mod PointSizes
 pub mod KeptRows
 pub mod Combining
 pub mod Eliminating
+pub mod Staging
+pub mod Turns

@@ -7,4 +7,5 @@ pub mod Difference
 pub mod Law
 pub mod Progress
 pub mod Summing
+pub mod Stages
 pub mod Examples

@@ -1,8 +1,8 @@
 -- What the code keeps while it eliminates.
-use Rattle.std.specs.Prelude.{◌≡◌, ℕ, ℤ, pos, neg_ℤ, ◌<◌, ◌^◌, ◌+ℤ◌, ◌*ℤ◌, int_lt, Bool, true, false, ◌==◌, if◌then◌else◌, unsigned_abs, List, [], ◌∷◌, map, Option, Some, None}
+use Rattle.std.specs.Prelude.{ℕ, ℤ, pos, int_lt, ◌==◌, if◌then◌else◌, List, [], ◌∷◌, map, Option, Some, None}
 use Rattle.std.specs.Global.{Vec}
 use Rattle.lt_lin.specs.declared.row.Row.{Row}
-use Rattle.lt_lin.specs.Terms.{Term, IsOrdered, factor, Fits}
+use Rattle.lt_lin.specs.Terms.{Term, IsOrdered}
 use Rattle.lt_elim.specs.declared.event.Event as code
 use Rattle.lt_elim.specs.declared.event.Event.TheVariants as event
 use Rattle.lt_elim.specs.Elimination.{Event, coeff, refuted, many_rows, Kept, keeps, ends}

@@ -41,14 +41,37 @@ pub(crate) fn combine(
         constant: 0,
     };
     let terms = raising.terms.as_slice();
-    let Some(raised) = add_row(alloc, limited, &nothing, by.of_raising, terms, raising.constant)? else {
+    let Some(raised) = add_row(
+        alloc,
+        limited,
+        &nothing,
+        by.of_raising,
+        terms,
+        raising.constant,
+    )?
+    else {
         return Ok(None);
     };
     let terms = lowering.terms.as_slice();
-    let Some(lowered) = add_row(alloc, limited, &nothing, by.of_lowering, terms, lowering.constant)? else {
+    let Some(lowered) = add_row(
+        alloc,
+        limited,
+        &nothing,
+        by.of_lowering,
+        terms,
+        lowering.constant,
+    )?
+    else {
         return Ok(None);
     };
-    add_row(alloc, limited, &raised, 1, lowered.terms.as_slice(), lowered.constant)
+    add_row(
+        alloc,
+        limited,
+        &raised,
+        1,
+        lowered.terms.as_slice(),
+        lowered.constant,
+    )
 }
 
 // Two numbers of no common divisor by which rows are multiplied that have factors of these sizes.

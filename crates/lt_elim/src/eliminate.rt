@@ -8,11 +8,40 @@ use crate::combination::combine;
 use crate::event::Event;
 use crate::keep::keep;
 use crate::kept::Kept;
+use crate::stage::{Stage, stage_of};
 use lt_lin::Row;
 use std::alloc::{AllocError, Global};
 
-/// Keeps each combination of a row that raises the variable and one that lowers it.
-pub(crate) fn combine_all(
+/// The variable's stage of the elimination, and the event that ended it, if one came.
+#[derive(Drop)]
+pub(crate) struct Eliminated {
+    pub(crate) stage: Stage,
+    pub(crate) event: Option<Event>,
+}
+
+/// Leaves the rows without the variable and the combinations without it.
+pub(crate) fn eliminate(
+    alloc: Global,
+    limited: bool,
+    variable: u32,
+    kept: &mut Kept,
+) -> Result<Eliminated, AllocError>
+    requires order { AllInOrder kept.old }
+    requires combine { CombineAll limited variable (raising variable kept.old) (lowering variable kept.old) }
+    ensures kept { IfOk result (λ e. eliminated limited variable kept.old ≡ outcome e.event kept.new) }
+    ensures raising { IfOk result (λ e. e.stage.raising.items ≡ raising variable kept.old) }
+    ensures lowering { IfOk result (λ e. e.stage.lowering.items ≡ lowering variable kept.old) }
+{
+    let stage = stage_of(alloc, variable, kept)?;
+    kept.drop_variable(variable);
+    let raising = stage.raising.as_slice();
+    let lowering = stage.lowering.as_slice();
+    let event = combine_all(alloc, limited, variable, kept, raising, lowering)?;
+    Ok(Eliminated { stage, event })
+}
+
+// Keeps each combination of a row that raises the variable and one that lowers it.
+fn combine_all(
     alloc: Global,
     limited: bool,
     variable: u32,

@@ -27,7 +27,11 @@ pub(crate) fn keep(
 {
     let row = normalise(alloc, terms, constant)?;
     if row.terms.is_empty() {
-        return Ok(if row.constant < 0 { Some(Event::Refuted) } else { None });
+        return Ok(if row.constant < 0 {
+            Some(Event::Refuted)
+        } else {
+            None
+        });
     }
     kept.put(row.terms, row.constant)?;
     Ok(if limited && kept.len() > ROW_LIMIT {

@@ -10,6 +10,8 @@ mod keep;
 mod kept;
 mod law;
 mod normal;
+mod stage;
+mod stages;
 
 pub use law::{
     difference_points_stay_small, differences_are_whole, differences_stay_small, points_satisfy,

@@ -1,11 +1,11 @@
-use Rattle.std.proofs.Common.{rules, arith, ◌≡◌, sym, ◌∙◌, ap, subst, refl, List, ℕ, ℤ, pos, ◌<◌, ◌/◌, ◌^◌, Bool, true, false, Some, None, Option}
-use Rattle.std.specs.Prelude.{unsigned_abs, MatchOption, IfOk}
+use Rattle.std.proofs.Common.{rules, sym, ap, subst, refl, List, ℕ, ℤ, pos, ◌<◌, ◌^◌}
+use Rattle.std.specs.Prelude.{MatchOption, IfOk}
 use Rattle.std.proofs.lemmas.Int.{to_z-of_z}
 use mir.Val.{SFits}
 use mir.Syntax.{w128}
 use Rattle.lt_lin.specs.declared.row.Row.{Row}
-use Rattle.lt_lin.specs.Terms.{Term, factor}
-use Rattle.lt_elim.specs.Combination.{Multipliers, multipliers}
+use Rattle.lt_lin.specs.Terms.{Term}
+use Rattle.lt_elim.specs.Combination.{Multipliers}
 use Rattle.lt_elim.specs.Summing.{CanSum, IsSum}
 use Rattle.lt_elim.proofs.Combining.{sizes_positive, found_size, made_multipliers, raising_wide, lowering_wide, combined, if_ok_more}
 use Rattle.lt_elim.proofs.combination.combine.Goals as goal
@@ -75,7 +75,7 @@ returns c =
     let kd : SFits w128 c.in-Some-2.lowered.constant = search rules in
     let last = subst (λ (ts : List Term). IfOk c.add_row-3.result (λ o. MatchOption o (CanSum c.args.limited (row c.in-Some.raised.terms.items c.in-Some.raised.constant) (pos 1) (row ts c.in-Some-2.lowered.constant) → ⊥) (λ s. IsSum c.args.limited (row c.in-Some.raised.terms.items c.in-Some.raised.constant) (pos 1) (row ts c.in-Some-2.lowered.constant) (row s.terms.items s.constant)))) c.as_slice-3.ensures.value (simp to_z-of_z at c.add_row-3.ensures) in
     if_ok_more c.add_row-3.result (λ o h. combined c.args.limited c.args.variable c.args.raising.now c.args.lowering.now (row c.new.result.items (pos 0)) (row c.in-Some.raised.terms.items c.in-Some.raised.constant) (row c.in-Some-2.lowered.terms.items c.in-Some-2.lowered.constant)
-      (record { of_raising = c.multipliers_of-by.result.of_raising; of_lowering = c.multipliers_of-by.result.of_lowering }) o c.requires c.new.ensures.items refl m
-      (subst (λ (ts : List Term). IsSum c.args.limited (row c.new.result.items (pos 0)) c.multipliers_of-by.result.of_raising (row ts c.args.raising.now.constant) (row c.in-Some.raised.terms.items c.in-Some.raised.constant)) c.as_slice-terms.ensures.same some)
-      (subst (λ (ts : List Term). IsSum c.args.limited (row c.new.result.items (pos 0)) c.multipliers_of-by.result.of_lowering (row ts c.args.lowering.now.constant) (row c.in-Some-2.lowered.terms.items c.in-Some-2.lowered.constant)) c.as_slice-terms-2.ensures.same other)
-      h) last
+    (record { of_raising = c.multipliers_of-by.result.of_raising; of_lowering = c.multipliers_of-by.result.of_lowering }) o c.requires c.new.ensures.items refl m
+    (subst (λ (ts : List Term). IsSum c.args.limited (row c.new.result.items (pos 0)) c.multipliers_of-by.result.of_raising (row ts c.args.raising.now.constant) (row c.in-Some.raised.terms.items c.in-Some.raised.constant)) c.as_slice-terms.ensures.same some)
+    (subst (λ (ts : List Term). IsSum c.args.limited (row c.new.result.items (pos 0)) c.multipliers_of-by.result.of_lowering (row ts c.args.lowering.now.constant) (row c.in-Some-2.lowered.terms.items c.in-Some-2.lowered.constant)) c.as_slice-terms-2.ensures.same other)
+    h) last

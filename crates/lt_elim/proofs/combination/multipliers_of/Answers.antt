@@ -1,10 +1,9 @@
 use Rattle.std.proofs.Common.{rules, arith, ◌≡◌, sym, ◌∙◌, ap, subst, ℕ, ℤ, pos, ◌<◌, ◌≤◌, ◌/◌, ◌^◌}
 use Rattle.std.proofs.Math.Nat.{div-le_self}
-use Rattle.std.proofs.lemmas.Int.{ints, to_z-of_z}
-use mir.Val.{SFits, to_z, of_z}
+use Rattle.std.proofs.lemmas.Int.{to_z-of_z}
+use mir.Val.{SFits, to_z}
 use mir.Syntax.{w128}
-use Rattle.lt_elim.specs.Divisor.{gcd_of}
-use Rattle.lt_elim.specs.Combination.{Multipliers, multipliers_of}
+use Rattle.lt_elim.specs.Combination.{Multipliers}
 use Rattle.lt_elim.proofs.Combining.{divisor_of}
 use Rattle.lt_elim.proofs.combination.multipliers_of.Goals as goal
 

@@ -1,0 +1,11 @@
+use Rattle.std.proofs.Common.{◌≡◌, length, ◌+◌}
+use Rattle.lt_elim.specs.Decision.{decided}
+use Rattle.lt_elim.specs.Stages.{CanEliminate, under}
+use Rattle.lt_elim.proofs.stages.eliminate_all.Given as goal
+
+abbrev pub invariant-variables : goal.invariant-variables
+invariant-variables l = record {
+  decided : decided l.limited l.variables l.fn.kept ≡ under l.limited l.variables l.stages.items (decided l.limited l.variable l.kept);
+  left : length l.stages.items + l.variable ≡ l.variables;
+  can : CanEliminate l.limited l.variable l.kept;
+}
