@@ -1,6 +1,7 @@
 -- What the code keeps while it eliminates.
-use Rattle.std.specs.Prelude.{ℕ, ℤ, pos, int_lt, ◌==◌, if◌then◌else◌, List, [], ◌∷◌, map, Option, Some, None}
+use Rattle.std.specs.Prelude.{ℕ, ℤ, pos, int_lt, ◌<◌, ◌^◌, ◌==◌, if◌then◌else◌, List, [], ◌∷◌, map, Option, Some, None}
 use Rattle.std.specs.Global.{Vec}
+use Rattle.lt_elim.specs.Divisor.{content}
 use Rattle.lt_lin.specs.declared.row.Row.{Row}
 use Rattle.lt_lin.specs.Terms.{Term, IsOrdered}
 use Rattle.lt_elim.specs.declared.event.Event as code
@@ -37,3 +38,8 @@ event_of (event.Rows v) = many_rows v
 abbrev pub outcome : Option code.Event → List Row → Kept
 outcome None rows = keeps rows
 outcome (Some e) rows = ends (event_of e)
+
+-- the factors of each row have a common divisor that fits
+abbrev pub HaveContents : List Row → Type 0
+HaveContents [] = Unit {0}
+HaveContents (r ∷ rs) = (content r.terms < 2 ^ 127) × HaveContents rs

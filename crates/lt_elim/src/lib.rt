@@ -12,6 +12,7 @@ mod law;
 mod normal;
 mod stage;
 mod stages;
+mod system;
 
 pub use law::{
     difference_points_stay_small, differences_are_whole, differences_stay_small, points_satisfy,
