@@ -1,0 +1,4 @@
+pub mod Adding
+pub mod Arms
+pub mod PureRows
+pub mod Footprints

@@ -1,0 +1,57 @@
+//! Code of full expressions, C11 6.8, and of marks.
+
+ghost use Rattle.std.specs.Prelude.{◌≡◌, false};
+ghost use Rattle.lt_emit.specs.Emission.{Gives, HasPoint};
+ghost use Rattle.lt_emit.specs.Stands.{FullValueStands, FullTestStands, MarkStands};
+
+use crate::builder::Builder;
+use crate::calm::{Grade, is_of};
+use crate::expression::{test, value};
+use crate::fate::Fate;
+use lt_tree::typed::{Mark, Value};
+use std::alloc::AllocError;
+
+/// The code of a full expression, whose value goes to a register. Where nothing can clash it tracks no footprints.
+pub fn full_value(
+    b: &mut Builder,
+    fate: Fate,
+    v: &Value,
+    register: u32,
+    to: u32,
+) -> Result<u32, AllocError>
+    requires { HasPoint b.old to }
+    ensures { Gives b.old b.new result (FullValueStands fate v.now register to) }
+{
+    let outside = b.tracks;
+    b.tracks = !is_of(Grade::CannotClash, v);
+    let code = value(b, fate, v, register, to);
+    b.tracks = outside;
+    code
+}
+
+/// The code of a full expression as a test, which leads to one node or to the other.
+pub fn full_test(
+    b: &mut Builder,
+    v: &Value,
+    register: u32,
+    on: u32,
+    off: u32,
+) -> Result<u32, AllocError>
+    requires on { HasPoint b.old on }
+    requires off { HasPoint b.old off }
+    ensures { Gives b.old b.new result (FullTestStands v.now register on off) }
+{
+    let outside = b.tracks;
+    b.tracks = !is_of(Grade::CannotClash, v);
+    let code = test(b, v, register, on, off);
+    b.tracks = outside;
+    code
+}
+
+/// The code of a mark.
+pub fn mark(b: &mut Builder, m: &Mark, to: u32) -> Result<u32, AllocError>
+    requires { HasPoint b.old to }
+    ensures { Gives b.old b.new result (MarkStands m.now to) }
+{
+    Err(AllocError)
+}

@@ -1,0 +1,15 @@
+//! Code of expressions, emitted backwards; `specs/Emission.antt` says what is there of it, and `specs/Stands.antt` which code it is.
+#![tactic(auto)]
+
+mod builder;
+mod calm;
+mod expression;
+mod fate;
+mod full;
+mod pieces;
+mod pure;
+mod purity;
+
+pub use builder::Builder;
+pub use fate::Fate;
+pub use full::{full_test, full_value, mark};

@@ -1,0 +1,4 @@
+pub mod Flows
+pub mod Ends
+pub mod Items
+pub mod Cases

@@ -1,0 +1,19 @@
+use Rattle.std.proofs.Common.{Some, None, ap, sym, ◌∙◌}
+use Rattle.lt_tree.specs.Typing.TypedTree as e
+use Rattle.lt_tree.specs.Typing.ValueView.{value_of}
+use Rattle.lt_tree.specs.Typing.StatementView.{maybe_of}
+use Rattle.lt_emit.proofs.Adding.{also}
+use Rattle.lt_lower.proofs.Flows.{flow_arm}
+use Rattle.lt_lower.proofs.flow.simple.returns.Goals as goal
+
+pub returns-in-None : goal.returns-in-None
+returns-in-None c =
+    flow_arm (λ types. e.Return (maybe_of types c.args.value.now)) (λ types. e.Return None) c.args.x
+    (λ types. ap (λ o. e.Return (maybe_of types o)) c.in-None.is)
+    (also c.tick.ensures (λ from here it p known. p))
+
+pub returns-in-Some : goal.returns-in-Some
+returns-in-Some c =
+    flow_arm (λ types. e.Return (maybe_of types c.args.value.now)) (λ types. e.Return (Some (value_of types c.deref.result.now))) c.args.x
+    (λ types. ap (λ o. e.Return (maybe_of types o)) c.in-Some.is ∙ ap (λ v. e.Return (Some (value_of types v))) (sym c.deref.ensures))
+    c.gives_back.ensures

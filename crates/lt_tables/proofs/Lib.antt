@@ -1,0 +1,10 @@
+mod NamePlaces
+mod NumberPlaces
+mod ObjectNumbers
+mod LocalRows
+mod LabelRows
+mod BareRows
+mod BareNumbers
+mod PointerNumbers
+mod FactRows
+mod TablePlaces

@@ -1,0 +1,5 @@
+pub mod Lookups
+pub mod Views
+pub mod Objects
+pub mod BareTypes
+pub mod TypeNumbers

@@ -1,0 +1,15 @@
+//! What is looked up while a program is lowered, in tables that are made once; `specs/Lookups.antt` says what is looked up.
+#![tactic(auto)]
+
+mod bare;
+mod facts;
+mod locals;
+mod objects;
+mod places;
+mod pointers;
+mod site;
+mod tables;
+
+pub use facts::TypeFacts;
+pub use site::Site;
+pub use tables::{Tables, stops};
