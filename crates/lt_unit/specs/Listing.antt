@@ -1,9 +1,8 @@
 -- Types that are listed, each once, without qualifiers and behind those of which they are made.
-use Rattle.std.specs.Prelude.{◌≡◌, ◌<◌, Bool, List, length, map, slice_get, Some}
+use Rattle.std.specs.Prelude.{◌≡◌, Bool, List, length, map, slice_get, Some}
 use Rattle.std.specs.List.{list_any}
 use Rattle.lt_tree.specs.declared.typed.types.TypeId.{TypeId}
-use Rattle.lt_tree.specs.declared.typed.types.TypeRow.{TypeRow}
-use Rattle.lt_tree.specs.Typing.Types.{CType, Pointer, Array, Function, Qualified, same}
+use Rattle.lt_tree.specs.Typing.Types.{CType, same}
 use Rattle.lt_tree.specs.Typing.TypeRows.{type_in, types_of_rows}
 use Rattle.lt_tree.specs.Typing.TypeIds.{AreBelow}
 use Rattle.lt_tree.specs.Typing.Programs.{with_new}
