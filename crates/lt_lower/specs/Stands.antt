@@ -1,6 +1,8 @@
 -- What is promised of each piece of a statement's code: the relation's piece stands from its point.
-use Rattle.std.specs.Prelude.{◌≡◌, ℕ, suc, ◌+◌, List, [], ◌∷◌, map, reverse, length, true, Option, Some, None, unwrap_or, IfOk, IfSome, Result, slice_get}
+use Rattle.std.specs.Prelude.{◌≡◌, ◌≤◌, ℕ, ℤ, suc, ◌+◌, List, [], ◌∷◌, map, reverse, length, true, Option, Some, None, unwrap_or, IfOk, IfSome, Result, slice_get}
 use Rattle.std.specs.Borrow.{Bor}
+use Rattle.std.specs.Ordering.{int_cmp}
+use Rattle.std.specs.BTreeMap.{BTreeMap, get, btree_map_len}
 use Rattle.std.specs.Global.{Vec}
 use Rattle.std.specs.declared.alloc.AllocError.{AllocError}
 use Rattle.lt_tree.specs.declared.typed.tree.Value.{Value}
@@ -18,6 +20,7 @@ use Rattle.lt_tree.specs.Typing.StatementView.{statement_of, items_in, cases_in,
 use Rattle.lt_ir.specs.declared.code.Code.{Code}
 use Rattle.lt_ir.specs.declared.node.Arm.{Arm}
 use Rattle.lt_ir.specs.declared.node.Node.TheVariants as node
+use Rattle.lt_ir.specs.Tables.{arm_of}
 use Rattle.lt_code.specs.Pieces.{Piece, nothing, ◌▸◌}
 use Rattle.lt_meaning.specs.Expressions.{dropped}
 use Rattle.lt_code.specs.Code.{Site as CodeSite, mark, full_value}
@@ -240,6 +243,15 @@ pub record PutsCase (before after : Builder) (entered : Entered) (all : Entered)
   pub code : Emits before after all.from (FlowStands it.statement (record x { next = entered.from }) all.from)
   pub arms : reverse all.arms.items ≡ arms_at it.labels.items all.from (reverse entered.arms.items)
   pub default : all.default ≡ default_at it.labels.items all.from entered.default
+
+-- an entry of a map by value, as an arm
+abbrev pub entry_arm : ℤ × ℕ → Arm
+entry_arm entry = record { value = entry.0; next = entry.1 }
+
+-- In a map by value each number finds what it finds first among arms, and no more entries are in it.
+pub record FindsArms (nodes : BTreeMap ℤ ℕ) (arms : List Arm) : Type 0 where
+  pub finds : (default : ℕ) (z : ℤ) → unwrap_or (get int_cmp nodes z) default ≡ arm_of arms default z
+  pub fits : btree_map_len nodes ≤ length arms
 
 -- the choice of a `switch`
 abbrev pub ChoiceStands : List Arm → (default from : ℕ) → Here → Finished → Type 0
