@@ -1,10 +1,12 @@
 //! Texts of C with what has to come of them: the rows of the files that the arguments name. `docs/ROWS.md` says how rows are written.
 #![tactic(auto)]
 
+mod covers;
 mod escapes;
 mod expressions;
 mod known;
 mod numbers;
+mod pairs;
 mod printed;
 mod question;
 mod rules;

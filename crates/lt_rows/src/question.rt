@@ -1,7 +1,7 @@
 //! What is asked of the texts of rows.
 
 use crate::stop::Stop;
-use crate::{expressions, known, numbers, printed, rules, small, table, tokens, units};
+use crate::{covers, expressions, known, numbers, printed, rules, small, table, tokens, units};
 use lt_model::DataModel;
 use std::alloc::Global;
 
@@ -31,6 +31,8 @@ pub enum Question<'a> {
     Constant(DataModel),
     Small,
     Coverage,
+    CoverageFile,
+    CoverageMerge,
     Operator(DataModel),
     Conversion(DataModel),
     Promotion(DataModel),
@@ -84,6 +86,8 @@ impl<'a> Question<'a> {
             "purity" => Some(Question::Purity),
             "small" => Some(Question::Small),
             "coverage" => Some(Question::Coverage),
+            "coverage file" => Some(Question::CoverageFile),
+            "coverage merge" => Some(Question::CoverageMerge),
             "sum" => Some(Question::Sum),
             "product" => Some(Question::Product),
             "join" => Some(Question::Join),
@@ -140,6 +144,8 @@ impl<'a> Question<'a> {
             Question::Constant(model) => table::constant(alloc, text, model),
             Question::Small => small::is_read(alloc, text),
             Question::Coverage => small::coverage(alloc, text),
+            Question::CoverageFile => covers::rewritten(alloc, text),
+            Question::CoverageMerge => covers::merged(alloc, text),
             Question::Operator(model) => numbers::operator(alloc, text, model),
             Question::Conversion(model) => numbers::conversion(alloc, text, model),
             Question::Promotion(model) => numbers::promotion(alloc, text, model),

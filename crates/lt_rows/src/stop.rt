@@ -1,5 +1,6 @@
 //! Why a row has no answer.
 
+use lt_cover::CoverStop;
 use lt_expr::ParseStop;
 use lt_lex::LexStop;
 use lt_type::TypeStop;
@@ -21,8 +22,8 @@ pub enum Stop {
     NoSuchEscape,
     #[error("no such name in scope")]
     NoSuchName,
-    #[error("no suite behind the function")]
-    NoSuite,
+    #[error("no line of three hyphens between two texts")]
+    OneText,
     #[error("no such type")]
     NoSuchType,
     #[error("no such operator")]
@@ -47,6 +48,8 @@ pub enum Stop {
     NoSuchNode,
     #[error("rule {0}")]
     Broken(u8),
+    #[error("Row {0}")]
+    CoverageRow(u32),
     #[error("the canonical text isn't printed as it stands")]
     NotCanonical,
     #[error("a mark is left in the erasure")]
@@ -83,6 +86,15 @@ impl From<TypeStop> for Stop {
         match stop {
             TypeStop::Broken(rule, _) => Stop::Broken(rule.number()),
             TypeStop::NoMemory => Stop::NoMemory,
+        }
+    }
+}
+
+impl From<CoverStop> for Stop {
+    fn from(stop: CoverStop) -> Stop {
+        match stop {
+            CoverStop::Row(number) => Stop::CoverageRow(number),
+            CoverStop::NoMemory => Stop::NoMemory,
         }
     }
 }
