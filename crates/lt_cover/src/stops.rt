@@ -36,7 +36,7 @@ pub enum MergeStop {
     #[error("the tables don't agree on hyperlabel {0}")]
     Hyper(u32),
     /// The least name of a test that both have, with different ends.
-    #[error("a test has two ends")]
+    #[error("the tables don't agree on how tests end")]
     Test(Name),
     #[error("out of memory")]
     NoMemory,
