@@ -7,7 +7,7 @@ use Rattle.lt_model.specs.declared.scalar.DataModel.{DataModel}
 use Rattle.lt_model.specs.declared.scalar.Scalar.{Scalar}
 use Rattle.lt_model.specs.Operators.{is_value}
 use Rattle.lt_tree.specs.Typing.Types.{CType, Array, Function as FunctionType, is_scalar, is_integer, scalar_of, target_of}
-use Rattle.lt_token.specs.Words.{is_among, keywords, respelled, skipped, attributes, assemblers, unsupported}
+use Rattle.lt_token.specs.Words.{is_no_identifier}
 use Rattle.lt_tree.specs.Typing.Expressions.{has_floating, has_pointer_to_function}
 use Rattle.lt_tree.specs.Typing.Extents.{has_size, has_too_many_cells}
 use Rattle.lt_tree.specs.Typing.Entities.{Declared, Function}
@@ -127,17 +127,6 @@ names_stub name (stub_line other low high) = bytes_eq other name
 names_stub name line = false
 
 -- ---- blocks
-
--- the names of annotations
-unfoldable pub reserved : List (List ℕ)
-reserved = codes "pc_label" ∷ codes "pc_label_bind" ∷ codes "pc_decide" ∷ codes "pc_after" ∷ []
-
--- a word that has the form of an identifier and is none: a keyword of C11 6.4.1 in any of its spellings, a word that the lexer skips
--- or that isn't supported, or the name of an annotation
-abbrev pub is_no_identifier : List ℕ → Bool
-is_no_identifier word =
-    is_among word keywords || is_among word respelled || is_among word skipped || is_among word attributes || is_among word assemblers
-    || is_among word unsupported || is_among word reserved
 
 -- An array of this type may be made: an object may have the type of its elements.
 abbrev pub is_block : Program → Numeral → Option CType → Bool

@@ -10,9 +10,10 @@ ghost use Rattle.lt_lex.specs.declared.stop.LexStop.TheVariants as the_stop;
 use crate::cut::Lexeme;
 use crate::stop::LexStop;
 use crate::token::Token;
-use crate::words::{is_assembler, is_attribute, is_keyword, is_skipped, is_unsupported};
 use lt_model::Name;
-use lt_token::{Kind, Role, Sort};
+use lt_token::{
+    Kind, Role, Sort, is_assembler, is_attribute, is_keyword, is_skipped, is_unsupported,
+};
 use std::alloc::Global;
 
 fn opens(lexeme: &Lexeme) -> bool

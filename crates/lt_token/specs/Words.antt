@@ -1,5 +1,5 @@
 -- The words and punctuators of C11, and which words are read, skipped or refused.
-use Rattle.std.specs.Prelude.{ℕ, Bool, if◌then◌else◌, List, [], ◌∷◌, codes}
+use Rattle.std.specs.Prelude.{ℕ, Bool, ◌||◌, if◌then◌else◌, List, [], ◌∷◌, codes}
 use Rattle.std.specs.List.{list_any}
 use Rattle.std.specs.Str.{bytes_eq}
 
@@ -64,6 +64,17 @@ unsupported =
     codes "union" ∷ codes "goto" ∷ codes "_Atomic" ∷ codes "_Thread_local" ∷ codes "__thread" ∷ codes "_Complex" ∷ codes "__complex__"
     ∷ codes "_Imaginary" ∷ codes "_Generic" ∷ codes "_Alignas" ∷ codes "_Alignof" ∷ codes "__alignof__" ∷ codes "_Static_assert"
     ∷ codes "typeof" ∷ codes "__typeof__" ∷ codes "__builtin_va_arg" ∷ codes "__label__" ∷ codes "__int128" ∷ codes "_Float128" ∷ []
+
+-- the names of annotations
+unfoldable pub annotations : List (List ℕ)
+annotations = codes "pc_label" ∷ codes "pc_label_bind" ∷ codes "pc_decide" ∷ codes "pc_after" ∷ []
+
+-- a word that has the form of an identifier and is none: a keyword of C11 6.4.1 in any of its spellings, a word that the lexer skips
+-- or that isn't supported, or the name of an annotation
+abbrev pub is_no_identifier : List ℕ → Bool
+is_no_identifier word =
+    is_among word keywords || is_among word respelled || is_among word skipped || is_among word attributes || is_among word assemblers
+    || is_among word unsupported || is_among word annotations
 
 -- what stands behind the `#` of a line that is skipped, if no digit does
 unfoldable pub directives : List (List ℕ)

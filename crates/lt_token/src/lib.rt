@@ -5,6 +5,7 @@ mod kind;
 mod laws;
 mod lexeme;
 mod piece;
+mod words;
 
 pub use kind::Kind;
 pub use laws::{
@@ -12,3 +13,6 @@ pub use laws::{
 };
 pub use lexeme::{Role, Sort, Step};
 pub use piece::{Class, Form, Part};
+pub use words::{
+    is_among, is_assembler, is_attribute, is_keyword, is_no_identifier, is_skipped, is_unsupported,
+};

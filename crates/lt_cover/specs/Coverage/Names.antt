@@ -1,8 +1,8 @@
 -- The forms of names, tags and ids in a coverage file.
-use Rattle.std.specs.Prelude.{ℕ, ◌≤◌, ◌==◌, ◌||◌, Bool, not, IsTrue, List, [], ◌∷◌, length, slice_index, All, codes}
+use Rattle.std.specs.Prelude.{ℕ, ◌≤◌, ◌==◌, ◌||◌, Bool, not, IsTrue, List, length, slice_index, All}
 use Rattle.std.specs.Char.{is_ascii_alphanumeric, is_ascii_digit}
 use Rattle.lt_model.specs.Plain.{is_plain_byte}
-use Rattle.lt_token.specs.Words.{is_among, keywords, respelled, skipped, attributes, assemblers, unsupported}
+use Rattle.lt_token.specs.Words.{is_no_identifier}
 
 -- a letter, a digit or a low line
 abbrev pub is_name_byte : ℕ → Bool
@@ -13,17 +13,6 @@ pub record IsTestName (name : List ℕ) : Type 0 where
   pub some : 1 ≤ length name
   pub short : length name ≤ 64
   pub bytes : All (λ b. IsTrue (is_name_byte b)) name
-
--- the names of annotations
-unfoldable pub reserved : List (List ℕ)
-reserved = codes "pc_label" ∷ codes "pc_label_bind" ∷ codes "pc_decide" ∷ codes "pc_after" ∷ []
-
--- a word that has the form of an identifier and is none: a keyword of C11 6.4.1 in any of its spellings, a word that the lexer skips
--- or that isn't supported, or the name of an annotation
-abbrev pub is_no_identifier : List ℕ → Bool
-is_no_identifier word =
-    is_among word keywords || is_among word respelled || is_among word skipped || is_among word attributes || is_among word assemblers
-    || is_among word unsupported || is_among word reserved
 
 -- an identifier, C11 6.4.2.1: letters, digits and low lines, the first of which is no digit
 pub record IsIdentifier (name : List ℕ) : Type 0 where
