@@ -1,6 +1,7 @@
 //! The tests of either of two tables.
 
 ghost use Rattle.std.specs.Prelude.{◌≡◌, ◌↔◌, ◌⊎◌, ◌∷◌, ◌++◌, [], IsTrue, IfOk, IfErr, OnOk, Contains};
+ghost use Rattle.lt_model.specs.declared.run.End.TheVariants.{NoInput};
 ghost use Rattle.lt_cover.specs.declared.rows.TestRow.{TestRow};
 ghost use Rattle.lt_cover.specs.Coverage.Table.{NamesRise, names_of};
 ghost use Rattle.lt_cover.specs.Coverage.Keys.{IsTestsStop};
@@ -21,18 +22,24 @@ fn is_same_end(alloc: Global, a: &TestEnd, b: &TestEnd) -> Result<bool, AllocErr
     Ok(left.as_slice() == right.as_slice())
 }
 
+fn without_input(alloc: Global, stub: &Name) -> Result<End, AllocError>
+    ensures { IfOk result (λ end. end ≡ NoInput stub.now) }
+{
+    Ok(End::NoInput(Name::new(alloc, stub.as_slice())?))
+}
+
 fn copied_run(alloc: Global, end: &End) -> Result<End, AllocError>
     ensures { IfOk result (λ copy. copy ≡ end.now) }
 {
-    Ok(match end {
-        End::Returned => End::Returned,
-        End::Stopped => End::Stopped,
-        End::Undefined(kind) => End::Undefined(*kind),
-        End::NoInput(stub) => End::NoInput(Name::new(alloc, stub.as_slice())?),
-        End::Steps => End::Steps,
-        End::Deep => End::Deep,
-        End::Cells => End::Cells,
-    })
+    match end {
+        End::Returned => Ok(End::Returned),
+        End::Stopped => Ok(End::Stopped),
+        End::Undefined(kind) => Ok(End::Undefined(*kind)),
+        End::NoInput(stub) => without_input(alloc, stub),
+        End::Steps => Ok(End::Steps),
+        End::Deep => Ok(End::Deep),
+        End::Cells => Ok(End::Cells),
+    }
 }
 
 fn copied_end(alloc: Global, end: &TestEnd) -> Result<TestEnd, AllocError>
