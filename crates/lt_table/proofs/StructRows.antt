@@ -94,7 +94,7 @@ within_same a b same = elim (cases_lt a (2 ^ 64)) [
       cond-false (nat_lt a (2 ^ 64)) (Some a) None (le-ltb a (2 ^ 64) above) ∙ sym (cond-false (nat_lt b (2 ^ 64)) (Some b) None (le-ltb b (2 ^ 64) other))
 ]
 
-within_capped : (s n c : ℕ) → c ≡ min n (2 ^ 64) → within (s * min c (2 ^ 64)) ≡ within (s * n)
+pub within_capped : (s n c : ℕ) → c ≡ min n (2 ^ 64) → within (s * min c (2 ^ 64)) ≡ within (s * n)
 within_capped s n c is =
     within_same (s * min c (2 ^ 64)) (s * n)
     (ap (λ x. min (s * min x (2 ^ 64)) (2 ^ 64)) is ∙ ap (λ x. min (s * x) (2 ^ 64)) (twice n (2 ^ 64)) ∙ ap (λ p. min p (2 ^ 64)) (mul_comm s (min n (2 ^ 64)))

@@ -9,7 +9,9 @@ mod operations;
 pub use addresses::{constancy_as_pointer, moved_back, moved_by, moved_to, null_of};
 pub use literals::{TypedConstant, constant_of};
 pub use marks::{id_of, is_tag};
-pub use numbers::{constancy_as_number, converted, is_form, is_null_constant, is_number, is_zero};
+pub use numbers::{
+    constancy_as_number, converted, is_form, is_null_constant, is_number, is_zero, number_as,
+};
 pub use operations::{
     applied, chosen, complement, connected, negated, negative, operated, truth_of,
 };

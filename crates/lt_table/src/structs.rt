@@ -12,7 +12,9 @@ ghost use Rattle.lt_table.specs.TableRows.{Stays};
 ghost use Rattle.lt_table.specs.StructTables.{structs_in, IsPut, Suits, AreShared};
 
 use crate::table::TypeTable;
-pub use extent::Extent;
+pub use extent::{
+    Extent, member_offset, no_members, pointer_extent, repeated, scalar_extent, whole, with_member,
+};
 use indexmap::IndexMap;
 use lt_model::DataModel;
 use lt_tree::typed::{Member, StructType, TypeId};

@@ -46,8 +46,7 @@ pub fn is_null_constant(c: Constancy) -> bool
     }
 }
 
-// A number as a value of a type, C11 6.3.1.2 and 6.3.1.3.
-/// A constant as a number of an integer type.
+/// A number as a value of a type, C11 6.3.1.2 and 6.3.1.3.
 pub fn number_as(model: DataModel, ty: Scalar, z: i128) -> i128
     ensures is { result ≡ convert_of model ty z }
     ensures fits { IsValue model ty result }
