@@ -8,3 +8,11 @@ mod BareNumbers
 mod PointerNumbers
 mod FactRows
 mod TablePlaces
+mod StructExtents
+mod PartRows
+mod StretchCells
+mod FilledCells
+mod RowTypes
+mod PlacedRows
+mod StaticRows
+mod OpenedRows

@@ -100,7 +100,7 @@ module _ (types : List CType) where
   first_same (o ∷ objects) zero = refl
   first_same (o ∷ objects) (suc n) = first_same objects n
 
-  before_same : (objects : List Object) (n : ℕ) → statics_before n (map (object_of types) objects) ≡ count_by is_made_first (take n objects)
+  pub before_same : (objects : List Object) (n : ℕ) → statics_before n (map (object_of types) objects) ≡ count_by is_made_first (take n objects)
   before_same objects zero = refl
   before_same [] (suc n) = refl
   before_same (o ∷ objects) (suc n) =

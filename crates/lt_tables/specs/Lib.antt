@@ -3,3 +3,8 @@ pub mod Views
 pub mod Objects
 pub mod BareTypes
 pub mod TypeNumbers
+pub mod TypeParts
+pub mod PartTypes
+pub mod Layouts
+pub mod Stretches
+pub mod Filling

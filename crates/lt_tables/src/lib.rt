@@ -3,12 +3,16 @@
 
 mod bare;
 mod facts;
+mod filling;
+mod layouts;
 mod locals;
 mod objects;
+mod parts;
 mod places;
 mod pointers;
 mod site;
 mod tables;
+mod type_parts;
 
 pub use facts::TypeFacts;
 pub use site::Site;

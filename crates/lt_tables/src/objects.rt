@@ -1,11 +1,11 @@
 //! The objects of a program that are there from the start.
 
-ghost use Rattle.std.specs.Prelude.{◌≡◌, ◌+◌, ◌<◌, ◌^◌, ◌==◌, ◌&&◌, ℕ, Some, IfOk, OnOk, if◌then◌else◌};
+ghost use Rattle.std.specs.Prelude.{◌≡◌, ◌+◌, ◌<◌, ◌^◌, ◌==◌, ◌&&◌, ℕ, Some, IfOk, OnOk, slice_index_or, if◌then◌else◌};
 ghost use Rattle.std.specs.Ordering.{nat_cmp};
 ghost use Rattle.std.specs.BTreeMap.{get};
 ghost use Rattle.lt_tree.specs.Typing.Entities.{is_static};
 ghost use Rattle.lt_tree.specs.Typing.EntityView.{life_of};
-ghost use Rattle.lt_tables.specs.Objects.{number_of};
+ghost use Rattle.lt_tables.specs.Objects.{number_of, AreBlocksOf};
 
 use crate::places::place_of;
 use lt_tree::typed::{Life, Object};
@@ -52,4 +52,49 @@ fn with_number(
     let number = place_of(count)?;
     numbers.insert(place_of(place)?, number)?;
     Ok(count + 1)
+}
+
+/// The numbers of the blocks of objects that are there from the start.
+#[derive(Drop)]
+pub struct Blocks {
+    /// By the numbers of objects: how many before are there from the start.
+    before: Vec<u32>,
+    /// How many there are.
+    all: u32,
+}
+
+impl Blocks {
+    /// How many of the objects before this one are there from the start: its block, where it is one of them.
+    pub fn block(&self, number: u32) -> u32
+        ensures { result ≡ slice_index_or self.now.before.items number self.now.all }
+    {
+        match self.before.get(number as usize) {
+            None => self.all,
+            Some(block) => *block,
+        }
+    }
+}
+
+/// The blocks of these objects.
+pub fn blocks_of(alloc: Global, objects: &[Object]) -> Result<Blocks, AllocError>
+    ensures { IfOk result (AreBlocksOf objects.now) }
+{
+    let mut before = Vec::new(alloc);
+    let mut all = 0;
+    for object in objects {
+        before.push(all)?;
+        all = with_object(all, is_made_first(object.life))?;
+    }
+    Ok(Blocks { before, all })
+}
+
+// How many objects are there from the start, with one more or not; more than 2^32 have no memory.
+fn with_object(all: u32, is_first: bool) -> Result<u32, AllocError>
+    ensures { IfOk result (λ more. more ≡ all + (if is_first then 1 else 0)) }
+{
+    if is_first {
+        all.checked_add(1).ok_or(AllocError)
+    } else {
+        Ok(all)
+    }
 }

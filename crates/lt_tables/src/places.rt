@@ -34,6 +34,22 @@ pub fn places_of(alloc: Global, numbers: &[u32]) -> Result<BTreeMap<u32, u32>, A
     Ok(places)
 }
 
+/// The place of the first of these offsets that is this one.
+pub fn places_of_offsets(
+    alloc: Global,
+    offsets: &[u128],
+) -> Result<BTreeMap<u128, usize>, AllocError>
+    ensures { IfOk result (λ places. (n : ℕ) → get nat_cmp places n ≡ place_among 0 n offsets.now) }
+{
+    let mut places = BTreeMap::new(alloc);
+    let mut left = offsets.len();
+    'offsets: while 0 < left {
+        left -= 1;
+        places.insert(offsets[left], left)?;
+    }
+    Ok(places)
+}
+
 /// The place of the first of these names that is this one.
 pub fn places_of_names(alloc: Global, names: &[Name]) -> Result<IndexMap<Vec<u8>, u32>, AllocError>
     ensures { IfOk result (λ places. (name : List ℕ) → place_in places name ≡ name_among 0 name names.now) }

@@ -12,6 +12,7 @@ ghost use Rattle.lt_tables.specs.Views.{types_at, program_at, label_in_code};
 
 use crate::facts::{TypeFacts, facts_at, facts_of_rows, facts_of_void};
 use crate::objects::numbers_of;
+use crate::parts::Parts;
 use crate::places::{ids_of, names_of, names_without, places_of, places_of_names};
 use crate::pointers::pointer_numbers;
 use crate::tables::Tables;
@@ -36,6 +37,8 @@ impl<'p> Tables<'p> {
         let stubs = names_without(alloc, &program.declared, &functions)?;
         let stub_places = places_of_names(alloc, &stubs)?;
         let statics = numbers_of(alloc, &program.objects)?;
+        let parts = Parts::new(alloc, program.model, &program.table)?;
+        let layouts = parts.layouts(alloc, &program.structs)?;
         Ok(Tables {
             program,
             stubs,
@@ -45,11 +48,12 @@ impl<'p> Tables<'p> {
             functions,
             stub_places,
             statics,
+            layouts,
         })
     }
 
     // What is known of a type.
-    fn facts(&self, id: TypeId) -> TypeFacts
+    pub(super) fn facts(&self, id: TypeId) -> TypeFacts
         ensures { AreFactsOf (program_at self.now) (type_in (types_at self.now) id) result }
     {
         facts_at(&self.types, self.other, id)
@@ -83,13 +87,6 @@ impl<'p> Tables<'p> {
         self.facts(id).is_void
     }
 
-    /// The cells and the size of an object of a type.
-    pub fn shape(&self, alloc: Global, id: TypeId) -> Result<Shape, AllocError>
-        ensures { IfOk result (λ it. it ≡ shape (program_at self.now) (type_in (types_at self.now) id)) }
-    {
-        Err(AllocError)
-    }
-
     /// The cells and the size of an object of the program.
     pub fn object_shape(&self, alloc: Global, number: u32) -> Result<Shape, AllocError>
         ensures { IfOk result (λ it. it ≡ shape (program_at self.now) (type_of_object (program_at self.now) number)) }
@@ -120,7 +117,7 @@ impl<'p> Tables<'p> {
     {
         match self.program.objects.get(number as usize) {
             None => false,
-            Some(object) => object.life == Life::Literal || self.facts(object.ty).is_constant,
+            Some(object) => self.is_object_sealed(object),
         }
     }
 
@@ -132,13 +129,6 @@ impl<'p> Tables<'p> {
             None => Name::new(alloc, &[]),
             Some(object) => Name::new(alloc, object.name.as_slice()),
         }
-    }
-
-    /// The objects that are there from the start.
-    pub fn statics(&self, alloc: Global) -> Result<Vec<Static>, AllocError>
-        ensures { IfOk result (λ all. all.items ≡ initials (program_at self.now) (program_at self.now).objects) }
-    {
-        Err(AllocError)
     }
 
     /// The labels of the program, in order.
