@@ -1,5 +1,5 @@
 -- The extents of structs, as they follow from those that are known.
-use Rattle.std.proofs.Common.{◌≡◌, ◌<◌, ◌≤◌, ◌+◌, ◌-◌, ◌*◌, ℕ, zero, suc, Bool, true, false, cond, List, [], ◌∷◌, length, set, get_or, Option, Some, None, is_some, unwrap_or, true≢false, ◌⊎◌, inl, inr, ⊎_elim, refl, sym, ap, ◌∙◌, arith}
+use Rattle.std.proofs.Common.{◌≡◌, ◌<◌, ◌≤◌, ◌+◌, ◌-◌, ◌*◌, ℕ, zero, suc, Bool, true, false, cond, List, [], ◌∷◌, length, replicate, set, get_or, Option, Some, None, is_some, unwrap_or, true≢false, ◌⊎◌, inl, inr, ⊎_elim, refl, sym, ap, ◌∙◌, arith}
 use Rattle.lt_model.specs.declared.scalar.DataModel.{DataModel}
 use Rattle.lt_model.specs.declared.sizes.Extent.{Extent}
 use Rattle.lt_tree.specs.Typing.Types.{CType, Void, Num, Pointer, Array, Struct, Function, Floating, Qualified, element}
@@ -145,6 +145,14 @@ module _ (m : DataModel) (structs : Structs) where
   pub reached_none : (known : List (Option table.Extent)) → ((k : ℕ) → extent_among known k ≡ None) → AreReached m structs known
   reached_none known none k e x = absurd (none_some (sym (none k) ∙ x))
 
+none_blank : (n k : ℕ) → extent_among (replicate n None) k ≡ None
+none_blank zero k = refl
+none_blank (suc n) zero = refl
+none_blank (suc n) (suc k) = none_blank n k
+
+pub reached_blank : (m : DataModel) (structs : Structs) (n : ℕ) → AreReached m structs (replicate n None)
+reached_blank m structs n = reached_none m structs (replicate n None) (none_blank n)
+
 -- ---- rounds over the structs
 
 -- what is left falls
@@ -195,3 +203,10 @@ module _ (types : List CType) (structs : List StructType) where
       (λ below. settled k below none)
       (λ past. ap (whole_with m (extent_among known)) (slice_past structs k (omega (arith, whole, past))))
       (below_or_not k n)
+
+  -- the extent of a struct is taken down
+  pub reached_at : (m : DataModel) (known : List (Option table.Extent)) (place : ℕ) (it : StructType) (e : table.Extent) → length known ≡ length structs → place < length structs → it ≡ get_or structs place it
+      → extent_among known place ≡ None → whole_with m (extent_among known) (struct_of types it).members ≡ Some (extent_value e) → AreReached m (structs_of types structs) known
+      → AreReached m (structs_of types structs) (set known place (Some e))
+  reached_at m known place it e long within is none follows =
+      reached_set m (structs_of types structs) known place e (omega (arith, long, within)) none (ap (whole_with m (extent_among known)) (members_there place it within is) ∙ follows)

@@ -8,3 +8,4 @@ pub mod PartTypes
 pub mod Layouts
 pub mod Stretches
 pub mod Filling
+pub mod Apart

@@ -1,5 +1,6 @@
 //! What the types of a program are made of, in a data model: their extents and those of structs follow from it.
 mod layouts;
+mod order;
 mod structs;
 
 ghost use Rattle.lt_tree.specs.Typing.TypeRows.{types_of_rows};

@@ -1,14 +1,12 @@
 // The sizes of types and the offsets of members.
 
-ghost use Rattle.std.specs.Prelude.{◌≡◌, ℕ, [], IfOk, map, option_map, unwrap_or};
+ghost use Rattle.std.specs.Prelude.{◌≡◌, IfOk, map, option_map};
 ghost use Rattle.lt_model.specs.Layout.{no_members, placed_behind};
 ghost use Rattle.lt_tree.specs.Typing.TypeRows.{type_in};
-ghost use Rattle.lt_tree.specs.Typing.EntityView.{member_of, struct_of};
-ghost use Rattle.lt_tree.specs.Typing.Extents.{type_extent, members_in};
 ghost use Rattle.lt_table.specs.StructTables.{extent_value, pairs_in};
 ghost use Rattle.lt_tables.specs.TypeParts.{extent_among};
-ghost use Rattle.lt_tables.specs.PartTypes.{types_of, structs_with};
-ghost use Rattle.lt_tables.specs.Layouts.{AreLayoutsOf, pairs_of, members_among, placed_with, size_with, size_of_extent, step_with, step_value};
+ghost use Rattle.lt_tables.specs.PartTypes.{types_of, structs_with, members_with, type_extent_in, placed_in};
+ghost use Rattle.lt_tables.specs.Layouts.{AreLayoutsOf, pairs_of, members_among, size_with, size_of_extent, step_with, step_value};
 
 use crate::layouts::Layouts;
 use crate::parts::Parts;
@@ -53,7 +51,7 @@ impl<'r> Parts<'r> {
         known: &[Option<Extent>],
         structs: &[StructType],
     ) -> Result<Vec<Vec<PlacedMember>>, AllocError>
-        ensures { IfOk result (λ all. map (λ l. pairs_of (types_of self.now) l.items) all.items ≡ map (λ it. pairs_in (placed_with self.now.model (extent_among known.now) (struct_of (types_of self.now) it))) structs.now) }
+        ensures { IfOk result (λ all. map (λ l. pairs_of (types_of self.now) l.items) all.items ≡ map (λ it. pairs_in (placed_in self.now known.now it)) structs.now) }
     {
         let mut all = Vec::new(alloc);
         for it in structs {
@@ -69,7 +67,7 @@ impl<'r> Parts<'r> {
         known: &[Option<Extent>],
         it: &StructType,
     ) -> Result<Vec<PlacedMember>, AllocError>
-        ensures { IfOk result (λ all. pairs_of (types_of self.now) all.items ≡ pairs_in (placed_with self.now.model (extent_among known.now) (struct_of (types_of self.now) it.now))) }
+        ensures { IfOk result (λ all. pairs_of (types_of self.now) all.items ≡ pairs_in (placed_in self.now known.now it.now)) }
     {
         match &it.members {
             None => Ok(Vec::new(alloc)),
@@ -84,7 +82,7 @@ impl<'r> Parts<'r> {
         known: &[Option<Extent>],
         members: &[Member],
     ) -> Result<Vec<PlacedMember>, AllocError>
-        ensures { IfOk result (λ all. pairs_of (types_of self.now) all.items ≡ pairs_in (placed_behind (type_extent self.now.model (extent_among known.now)) no_members (map (member_of (types_of self.now)) members.now))) }
+        ensures { IfOk result (λ all. pairs_of (types_of self.now) all.items ≡ pairs_in (placed_behind (type_extent_in self.now known.now) no_members (members_with self.now members.now))) }
     {
         let mut all = Vec::new(alloc);
         let mut before = no_members();

@@ -1,13 +1,13 @@
 // The cells and the size of an object of a type.
 
-ghost use Rattle.std.specs.Prelude.{◌≡◌, ◌+◌, ◌-◌, ◌<◌, ◌++◌, List, IfOk, OnOk};
+ghost use Rattle.std.specs.Prelude.{◌≡◌, ◌+◌, ◌<◌, ◌++◌, List, IfOk, OnOk};
 ghost use Rattle.lt_tree.specs.Typing.TypeRows.{type_in};
-ghost use Rattle.lt_tree.specs.Typing.Extents.{size_of};
 ghost use Rattle.lt_meaning.specs.Expressions.{shape, cell_type};
 ghost use Rattle.lt_tree.specs.Typing.Types.{CType};
 ghost use Rattle.lt_tree.specs.Typing.Programs.{Program};
-ghost use Rattle.lt_tables.specs.Layouts.{pairs_of, members_among};
-ghost use Rattle.lt_tables.specs.Stretches.{cells_in, members_cells, stretch_cells, cells_left};
+ghost use Rattle.lt_tables.specs.Layouts.{pairs_of};
+ghost use Rattle.lt_tables.specs.Stretches.{members_cells, cells_left};
+ghost use Rattle.lt_tables.specs.Apart.{all_cells, first_cells, behind_first, Came};
 ghost use Rattle.lt_tables.specs.Views.{types_at, program_at};
 
 use crate::tables::Tables;
@@ -47,7 +47,7 @@ impl<'p> Tables<'p> {
     // The cells of objects of a type. What is left to be taken apart stands on a stack, what comes first last; so types may nest
     // however deep. More than 2^64 steps end as want of memory does.
     fn cells(&self, alloc: Global, whole: Stretch) -> Result<Vec<ShapeCell>, AllocError>
-        ensures { IfOk result (λ cells. cells.items ≡ stretch_cells (program_at self.now) (types_at self.now) whole) }
+        ensures { IfOk result (λ cells. cells.items ≡ all_cells self.now whole) }
     {
         let mut cells = Vec::new(alloc);
         let mut left = Vec::new(alloc);
@@ -68,7 +68,7 @@ impl<'p> Tables<'p> {
         left: &mut Vec<Stretch>,
         stretch: Stretch,
     ) -> Result<(), AllocError>
-        ensures { OnOk result (cells.new.items ++ cells_left (program_at self.now) (types_at self.now) left.new.items ≡ cells.old.items ++ (stretch_cells (program_at self.now) (types_at self.now) stretch ++ cells_left (program_at self.now) (types_at self.now) left.old.items)) }
+        ensures { OnOk result (Came self.now cells.old.items left.old.items cells.new.items left.new.items (all_cells self.now stretch)) }
     {
         if stretch.count > 1 {
             left.push(self.behind_first(stretch)?)?;
@@ -83,7 +83,7 @@ impl<'p> Tables<'p> {
     // What is behind the first object of a stretch. An offset past 64 bits is behind more than 2^32 cells.
     fn behind_first(&self, stretch: Stretch) -> Result<Stretch, AllocError>
         requires { 0 < stretch.count }
-        ensures { IfOk result (λ it. it ≡ record { ty = stretch.ty; offset = stretch.offset + size_of (program_at self.now).model (program_at self.now).structs (type_in (types_at self.now) stretch.ty); count = stretch.count - 1; depth = stretch.depth }) }
+        ensures { IfOk result (λ it. it ≡ behind_first self.now stretch) }
     {
         let offset = further(stretch.offset, self.layouts.size(stretch.ty))?;
         Ok(Stretch {
@@ -100,7 +100,7 @@ impl<'p> Tables<'p> {
         left: &mut Vec<Stretch>,
         stretch: Stretch,
     ) -> Result<(), AllocError>
-        ensures { OnOk result (cells.new.items ++ cells_left (program_at self.now) (types_at self.now) left.new.items ≡ cells.old.items ++ (cells_in (program_at self.now) stretch.depth (type_in (types_at self.now) stretch.ty) stretch.offset ++ cells_left (program_at self.now) (types_at self.now) left.old.items)) }
+        ensures { OnOk result (Came self.now cells.old.items left.old.items cells.new.items left.new.items (first_cells self.now stretch)) }
     {
         match self.program.table.get(stretch.ty.place as usize) {
             None => Ok(()),
