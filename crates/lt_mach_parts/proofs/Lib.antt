@@ -1,2 +1,4 @@
 pub mod Meeting
 pub mod Reading
+pub mod Stacked
+pub mod Scoped

@@ -2,10 +2,13 @@
 // has in its place, which stands in `lt_ir`.
 #![tactic(auto)]
 
+mod bounds;
 mod footprint;
 mod registers;
 mod scope;
+mod stacks;
 
+pub use bounds::{Bounds, HeldBound};
 pub use footprint::{CellName, Footprint};
 pub use registers::Registers;
-pub use scope::{HeldBound, Scope};
+pub use scope::Scope;

@@ -1,47 +1,35 @@
 //! The objects of the variables that are in scope.
 
-ghost use Rattle.std.specs.Prelude.{◌≡◌, ◌∷◌, ◌++◌, [], IfOk, OnOk};
-ghost use Rattle.lt_ir.specs.Running.{block_among, without, statics_of, same_variable, is_static};
+ghost use Rattle.std.specs.Prelude.{◌≡◌, ◌∷◌, true, false, IfOk, OnOk, OnErr};
+ghost use Rattle.lt_ir.specs.Running.{block_among, without, statics_of, is_static};
 ghost use Rattle.lt_ir.specs.Graph.{are_static};
-ghost use Rattle.lt_mach_parts.specs.Bindings.{scope_of};
 
+use crate::bounds::Bounds;
 use lt_ir::Variable;
 use std::alloc::{AllocError, Global};
 use std::marker::Model;
+use std::rc::Rc;
 
-/// A variable in scope, and its block.
-#[derive(Clone, Copy)]
-pub struct HeldBound {
-    pub variable: Variable,
-    pub block: u32,
-}
-
-/// The variables in scope. Contracts see them with their blocks, the innermost first.
+/// The variables in scope: those of a call, and those that are there from the start, which all calls share. Contracts see them with
+/// their blocks, the innermost first.
 #[derive(Drop)]
 pub struct Scope {
-    // The innermost last.
-    list: Vec<HeldBound>,
+    alloc: Global,
+    own: Bounds,
+    statics: Rc<Bounds>,
 }
 
 impl Model for Scope {
-    ghost use Rattle.std.specs.Prelude.{List};
+    ghost use Rattle.std.specs.Prelude.{◌≡◌, ◌++◌, true, List};
     ghost use Rattle.lt_ir.specs.Running.{Bound};
-    ghost use Rattle.lt_mach_parts.specs.Bindings.{scope_of};
+    ghost use Rattle.lt_ir.specs.Graph.{are_static};
+    ghost use Rattle.lt_mach_parts.specs.Bindings.{are_own};
 
     ghost Value = { List Bound };
 
-    ghost view = { λ s. scope_of s.list.items };
-}
+    ghost view = { λ s. s.own ++ s.statics.value };
 
-fn is_same(a: Variable, b: Variable) -> bool
-    ensures { result ≡ same_variable a b }
-{
-    match (a, b) {
-        (Variable::Parameter(m), Variable::Parameter(n)) => m == n,
-        (Variable::Local(m), Variable::Local(n)) => m == n,
-        (Variable::Static(m), Variable::Static(n)) => m == n,
-        _ => false,
-    }
+    ghost invariant = { λ s. (are_own s.own ≡ true) × (are_static s.statics.value ≡ true) };
 }
 
 fn is_static(v: Variable) -> bool
@@ -51,12 +39,66 @@ fn is_static(v: Variable) -> bool
 }
 
 impl Scope {
-    /// No variable. It takes no memory.
-    pub fn new(alloc: Global) -> Scope
-        ensures { result ≡ [] }
+    /// The scope of variables that are there from the start.
+    pub fn new(alloc: Global, statics: Bounds) -> Result<Scope, AllocError>
+        requires { are_static statics ≡ true }
+        ensures { IfOk result (λ scope. scope ≡ statics) }
     {
-        Scope {
-            list: Vec::new(alloc),
+        let statics = Rc::new(alloc, statics)?;
+        Ok(Scope {
+            alloc,
+            own: Bounds::new(alloc),
+            statics,
+        })
+    }
+
+    /// The scope of a call: of the caller's variables those that are there from the start. What it had before is forgotten.
+    pub fn enter(&mut self, caller: &Scope) -> Result<(), AllocError>
+        ensures { OnOk result (self.new ≡ statics_of caller.now) }
+    {
+        self.statics = caller.statics.clone()?;
+        self.own.clear();
+        Ok(())
+    }
+
+    /// The block of a variable.
+    pub fn block(&self, v: Variable) -> Option<u32>
+        ensures { result ≡ block_among self.now v }
+    {
+        if is_static(v) {
+            self.statics.block(v)
+        } else {
+            self.own.block(v)
         }
+    }
+
+    /// A variable of the call has a block, in front of all others. For want of memory nothing changes.
+    pub fn bind(&mut self, v: Variable, block: u32) -> Result<(), AllocError>
+        requires { is_static v ≡ false }
+        ensures done { OnOk result (self.new ≡ record { variable = v; block = block } ∷ self.old) }
+        ensures kept { OnErr result (self.new ≡ self.old) }
+    {
+        self.own.bind(v, block)
+    }
+
+    /// The innermost block of a variable isn't its block any more.
+    pub fn remove(&mut self, v: Variable) -> Result<(), AllocError>
+        ensures { OnOk result (self.new ≡ without self.old v) }
+    {
+        if is_static(v) {
+            let mut statics = self.statics.copy()?;
+            statics.remove(v);
+            self.statics = Rc::new(self.alloc, statics)?;
+        } else {
+            self.own.remove(v);
+        }
+        Ok(())
+    }
+
+    /// Whether all variables are there from the start.
+    pub fn are_static(&self) -> bool
+        ensures { result ≡ are_static self.now }
+    {
+        self.own.is_empty()
     }
 }
