@@ -1,4 +1,5 @@
 pub mod Answering
+pub mod Alive
 pub mod ShiftCounts
 pub mod CopiedStructs
 pub mod Halving

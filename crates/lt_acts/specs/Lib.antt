@@ -1,3 +1,4 @@
 pub mod Ends
 pub mod Acts
 pub mod Noting
+pub mod Placing

@@ -3,6 +3,7 @@
 ghost use Rattle.std.specs.Prelude.{◌≡◌};
 ghost use Rattle.lt_acts.specs.Ends.{end_of};
 
+use lt_mem::MemStop;
 use lt_model::{End, Ub};
 use std::alloc::AllocError;
 
@@ -66,5 +67,19 @@ impl From<AllocError> for Stop {
 
     fn from(_error: AllocError) -> Stop {
         Stop::NoMemory
+    }
+}
+
+impl From<MemStop> for Stop {
+    ghost use Rattle.std.specs.Prelude.{◌≡◌};
+    ghost use Rattle.lt_acts.specs.Ends.{stop_of};
+
+    ghost from_gives = { λ why stop. stop ≡ stop_of why };
+
+    fn from(why: MemStop) -> Stop {
+        match why {
+            MemStop::Cells => Stop::Over(Fault::Cells),
+            MemStop::NoMemory => Stop::NoMemory,
+        }
     }
 }
