@@ -13,7 +13,7 @@ use lt_mem::Memory;
 use lt_model::{Address, Content, DataModel, Op, Scalar, Ub, apply, is_value};
 
 // Whether some integer type has a number.
-fn is_integer(z: i128) -> bool
+pub fn is_integer(z: i128) -> bool
     ensures { result ≡ is_integer z }
 {
     -9_223_372_036_854_775_808 <= z && z <= 18_446_744_073_709_551_615

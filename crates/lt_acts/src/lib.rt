@@ -4,6 +4,7 @@
 mod arms;
 mod branching;
 mod computing;
+mod converting;
 mod copying;
 mod flow;
 mod loading;
@@ -15,6 +16,7 @@ mod tracking;
 
 pub use arms::follow;
 pub use branching::{number, truth};
+pub use converting::{convert_as, convert_to};
 pub use copying::copy;
 pub use flow::{Fault, Stop};
 pub use loading::load;
