@@ -1,3 +1,4 @@
 pub mod Cells
 pub mod Stacks
 pub mod Bindings
+pub mod Stubs

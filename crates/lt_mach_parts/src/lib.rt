@@ -7,8 +7,10 @@ mod footprint;
 mod registers;
 mod scope;
 mod stacks;
+mod stubs;
 
 pub use bounds::{Bounds, HeldBound};
 pub use footprint::{CellName, Footprint};
 pub use registers::Registers;
 pub use scope::Scope;
+pub use stubs::{Stubs, stub_places};
