@@ -5,4 +5,7 @@ pub mod CopiedStructs
 pub mod Halving
 pub mod Loads
 pub mod Noted
+pub mod PureRows
+pub mod Quiet
+pub mod Looks
 pub mod Stores

@@ -2,3 +2,5 @@ pub mod Ends
 pub mod Acts
 pub mod Noting
 pub mod Placing
+pub mod Values
+pub mod Looking
