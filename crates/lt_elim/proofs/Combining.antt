@@ -23,7 +23,7 @@ use Rattle.lt_elim.proofs.Refuting.{either_false, none_below, part_fits, sum_at_
 abbrev row : List Term → ℤ → Row
 row ts k = record { terms = ts; constant = k }
 
-same_factor : (x : ℕ) (t : Term) (ts : List Term) (m : ℕ) → IsOrderedFrom m (t ∷ ts) → ((x ≡ t.0) × (factor x (t ∷ ts) ≡ t.1)) ⊎ (factor x (t ∷ ts) ≡ factor x ts)
+pub same_factor : (x : ℕ) (t : Term) (ts : List Term) (m : ℕ) → IsOrderedFrom m (t ∷ ts) → ((x ≡ t.0) × (factor x (t ∷ ts) ≡ t.1)) ⊎ (factor x (t ∷ ts) ≡ factor x ts)
 same_factor x t ts m o = by_test (x == t.0) refl
   where
     by_test : (b : Bool) → (x == t.0) ≡ b → ((x ≡ t.0) × (factor x (t ∷ ts) ≡ t.1)) ⊎ (factor x (t ∷ ts) ≡ factor x ts)

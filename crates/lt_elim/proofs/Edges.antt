@@ -173,7 +173,7 @@ unfolding gcd_of
 gcd_one c (inl e) = subst (λ (k : ℕ). gcd_of 1 k ≡ 1) (sym e) refl
 gcd_one c (inr e) = subst (λ (k : ℕ). gcd_of 1 k ≡ 1) (sym e) refl
 
-content_units : (ts : List Term) → AllUnits ts → (content ts ≡ 0) ⊎ (content ts ≡ 1)
+pub content_units : (ts : List Term) → AllUnits ts → (content ts ≡ 0) ⊎ (content ts ≡ 1)
 content_units [] u = inl refl
 content_units (t ∷ ts) u = inr (ap (λ a. gcd_of a (content ts)) u.0 ∙ gcd_one (content ts) (content_units ts u.1))
 

@@ -17,3 +17,4 @@ pub mod Combining
 pub mod Eliminating
 pub mod Staging
 pub mod Turns
+pub mod Conditions

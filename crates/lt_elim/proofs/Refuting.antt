@@ -200,7 +200,7 @@ sum_nothing m a b e f = both (m.of_raising *ℤ a) (m.of_lowering *ℤ b) (ap (�
     both : (x y : ℤ) → x ≡ pos 0 → y ≡ pos 0 → x +ℤ y ≡ pos 0
     both x y e f = omega (arith, ints)
 
-nothing_fits : (m : Multipliers) (a b : ℤ) → a ≡ pos 0 → b ≡ pos 0 → PartFits m a b
+pub nothing_fits : (m : Multipliers) (a b : ℤ) → a ≡ pos 0 → b ≡ pos 0 → PartFits m a b
 nothing_fits m a b e f = record {
   raising = subst Fits (sym (ap (λ z. m.of_raising *ℤ z) e ∙ times_nothing m.of_raising)) zero_fits;
   lowering = subst Fits (sym (ap (λ z. m.of_lowering *ℤ z) f ∙ times_nothing m.of_lowering)) zero_fits;

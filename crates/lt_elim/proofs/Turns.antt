@@ -1,14 +1,14 @@
 -- Variables are eliminated one after another.
-use Rattle.std.proofs.Common.{◌≡◌, refl, sym, ◌∙◌, ap, subst, ℕ, zero, suc, ◌+◌, ◌-◌, ◌<◌, List, [], ◌∷◌, ◌++◌, length, Bool, true, false, Option, Some, None, arith}
+use Rattle.std.proofs.Common.{◌≡◌, refl, sym, ◌∙◌, ap, subst, ℕ, zero, suc, ◌+◌, ◌-◌, ◌<◌, List, [], ◌∷◌, ◌++◌, length, Bool, true, false, Option, Some, None, arith, append_assoc, append-nil}
 use Rattle.lt_lin.specs.declared.row.Row.{Row}
 use Rattle.lt_elim.specs.declared.event.Event as code
 use Rattle.lt_elim.specs.declared.stage.Stage.{Stage}
 use Rattle.lt_elim.specs.Elimination.{Event, Kept, keeps, eliminated, raising, lowering}
 use Rattle.lt_elim.specs.Decision.{Verdict, stops, point, least_allowed, value_of, with_value, and_value, unless_ended, decided}
-use Rattle.std.specs.Prelude.{is_some, MatchOption}
+use Rattle.std.specs.Prelude.{is_some, MatchOption, Result, Ok, Err, IfOk}
 use Rattle.lt_elim.specs.Progress.{outcome, event_of, AllInOrder}
 use Rattle.lt_elim.specs.Summing.{CombineAll}
-use Rattle.lt_elim.specs.Stages.{CanEliminate, staged, under}
+use Rattle.lt_elim.specs.Stages.{CanEliminate, AreStages, staged, under}
 
 pub under_more : (b : Bool) (n v : ℕ) (ss : List Stage) (s : Stage) (w : Verdict) → length ss + suc v ≡ n → under b n (ss ++ s ∷ []) w ≡ under b n ss (staged b v s w)
 under_more b zero v [] s w e = absurd (omega arith)
@@ -52,3 +52,27 @@ some_event P Q (Some e) h f = f e refl
 pub no_event : (o : Option code.Event) → is_some o ≡ false → o ≡ None
 no_event None h = refl
 no_event (Some e) h = absurd (cc)
+
+-- one stage more
+pub stages_more : (b : Bool) (n k v : ℕ) (first rows next : List Row) (ss : List Stage) (s : Stage) → k ≡ suc v → ((rest : List Stage) → AreStages b k rows rest → AreStages b n first (ss ++ rest)) → eliminated b v rows ≡ outcome None next → s.raising.items ≡ raising v rows → s.lowering.items ≡ lowering v rows → (all : List Stage) → all ≡ ss ++ s ∷ [] → (rest : List Stage) → AreStages b v next rest → AreStages b n first (all ++ rest)
+stages_more b n k v first rows next ss s is h e r l all a rest t =
+    subst (AreStages b n first) (sym (ap (λ (x : List Stage). x ++ rest) a ∙ append_assoc ss (s ∷ []) rest)) (h (s ∷ rest) (subst (λ (m : ℕ). AreStages b m rows (s ∷ rest)) (sym is) (r, l, λ other o. subst (λ (x : List Row). AreStages b v x rest) (same next other (sym e ∙ o)) t)))
+  where
+    same : (x y : List Row) → keeps x ≡ keeps y → x ≡ y
+    same x y e = cc
+
+pub stages_all : (b : Bool) (n k : ℕ) (first rows : List Row) (ss : List Stage) → k ≡ 0 → ((rest : List Stage) → AreStages b k rows rest → AreStages b n first (ss ++ rest)) → AreStages b n first ss
+stages_all b n k first rows ss is h = subst (AreStages b n first) (append-nil ss) (h [] tt)
+
+-- ---- answers that say more
+pub match_more : {T P A : Type 0} {Q B : T → Type 0} (o : Option T) → (P → A) → ((x : T) → Q x → B x) → MatchOption o P Q → MatchOption o A B
+match_more None f g h = f h
+match_more (Some x) f g h = g x h
+
+pub match_two : {T P A C : Type 0} {Q B D : T → Type 0} (o : Option T) → (P → A → C) → ((x : T) → Q x → B x → D x) → MatchOption o P Q → MatchOption o A B → MatchOption o C D
+match_two None f g h k = f h k
+match_two (Some x) f g h k = g x h k
+
+pub if_ok_two : {T E : Type 0} {P Q R : T → Type 0} (r : Result T E) → ((x : T) → P x → Q x → R x) → IfOk r P → IfOk r Q → IfOk r R
+if_ok_two (Ok x) f h k = f x h k
+if_ok_two (Err e) f h k = tt

@@ -8,4 +8,5 @@ pub mod Law
 pub mod Progress
 pub mod Summing
 pub mod Stages
+pub mod Condition
 pub mod Examples

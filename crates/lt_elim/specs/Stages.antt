@@ -1,9 +1,9 @@
 -- Variables that are eliminated in turn, and what a verdict on the rows that are left says of all rows.
-use Rattle.std.specs.Prelude.{◌≡◌, ℕ, zero, suc, Bool, List, [], ◌∷◌}
+use Rattle.std.specs.Prelude.{◌≡◌, ℕ, zero, suc, ◌-◌, Bool, List, [], ◌∷◌, length}
 use Rattle.lt_lin.specs.declared.row.Row.{Row}
 use Rattle.lt_elim.specs.declared.stage.Stage.{Stage}
-use Rattle.lt_elim.specs.Elimination.{keeps, eliminated, raising, lowering}
-use Rattle.lt_elim.specs.Decision.{Verdict, stops, point, least_allowed, with_value}
+use Rattle.lt_elim.specs.Elimination.{keeps, keep_all, eliminated, raising, lowering}
+use Rattle.lt_elim.specs.Decision.{Verdict, stops, point, least_allowed, with_value, variables}
 use Rattle.lt_elim.specs.Progress.{AllInOrder}
 use Rattle.lt_elim.specs.Summing.{CombineAll}
 
@@ -24,3 +24,18 @@ abbrev pub under : Bool → ℕ → List Stage → Verdict → Verdict
 under limited n [] verdict = verdict
 under limited zero (s ∷ ss) verdict = verdict
 under limited (suc v) (s ∷ ss) verdict = staged limited v s (under limited v ss verdict)
+
+-- They are stages of variables below n, the first of which is the last variable, as long as no event came.
+abbrev pub AreStages : Bool → ℕ → List Row → List Stage → Type 0
+AreStages limited n rows [] = Unit {0}
+AreStages limited zero rows (s ∷ ss) = ⊥
+AreStages limited (suc v) rows (s ∷ ss) =
+    (s.raising.items ≡ raising v rows) × (s.lowering.items ≡ lowering v rows)
+    × ((next : List Row) → eliminated limited v rows ≡ keeps next → AreStages limited v next ss)
+
+-- the stages of all variables of a system
+pub record AreStagesOf (limited : Bool) (rows : List Row) (ss : List Stage) : Type 0 where
+  pub kept : List Row
+  pub first : keep_all limited (variables rows - 1) [] rows ≡ keeps kept
+  pub count : length ss ≡ variables rows
+  pub stages : AreStages limited (variables rows) kept ss

@@ -1,13 +1,17 @@
 // The variables are eliminated in turn.
-ghost use Rattle.std.specs.Prelude.{◌≡◌, [], length, IfOk, MatchOption};
-ghost use Rattle.lt_elim.specs.Decision.{decided, stops, point};
+ghost use Rattle.std.specs.Prelude.{◌≡◌, [], length, not, IfOk, MatchOption};
+ghost use Rattle.lt_elim.specs.Condition.{CanDecide};
+ghost use Rattle.lt_elim.specs.Decision.{decided, stops, point, variables, verdict};
+ghost use Rattle.lt_elim.specs.Difference.{are_differences};
 ghost use Rattle.lt_elim.specs.Progress.{event_of};
-ghost use Rattle.lt_elim.specs.Stages.{CanEliminate, under};
+ghost use Rattle.lt_elim.specs.Stages.{CanEliminate, AreStages, AreStagesOf, under};
 
 use crate::eliminate::eliminate;
 use crate::event::Event;
 use crate::kept::Kept;
 use crate::stage::Stage;
+use crate::system::{keep_rows, variables};
+use lt_lin::Row;
 use std::alloc::{AllocError, Global};
 use std::vec::Vec;
 
@@ -16,6 +20,27 @@ use std::vec::Vec;
 pub(crate) struct Stages {
     pub(crate) stages: Vec<Stage>,
     pub(crate) event: Option<Event>,
+}
+
+/// Keeps a system's own rows and eliminates its variables; there is a limit unless it is a difference system.
+pub(crate) fn stages_of(alloc: Global, limited: bool, rows: &[Row]) -> Result<Stages, AllocError>
+    requires decide { CanDecide rows.now }
+    requires limited { limited ≡ not (are_differences rows.now) }
+    ensures verdict { IfOk result (λ s. MatchOption s.event (verdict rows.now ≡ under limited (variables rows.now) s.stages.items (point [])) (λ e. verdict rows.now ≡ stops (event_of e))) }
+    ensures stages { IfOk result (λ s. MatchOption s.event (AreStagesOf limited rows.now s.stages.items) (λ e. Unit {0})) }
+{
+    let Ok(count) = u32::try_from(variables(rows)) else {
+        return Err(AllocError);
+    };
+    let mut kept = Kept::new(alloc);
+    let event = keep_rows(alloc, limited, count.saturating_sub(1), &mut kept, rows)?;
+    if event.is_some() {
+        return Ok(Stages {
+            stages: Vec::new(alloc),
+            event,
+        });
+    }
+    eliminate_all(alloc, limited, count, kept)
 }
 
 /// Eliminates the variables below a number, from the last to the first.
@@ -28,6 +53,7 @@ pub(crate) fn eliminate_all(
     requires { CanEliminate limited variables kept }
     ensures verdict { IfOk result (λ s. MatchOption s.event (decided limited variables kept ≡ under limited variables s.stages.items (point [])) (λ e. decided limited variables kept ≡ stops (event_of e))) }
     ensures all { IfOk result (λ s. MatchOption s.event (length s.stages.items ≡ variables) (λ e. Unit {0})) }
+    ensures stages { IfOk result (λ s. MatchOption s.event (AreStages limited variables kept s.stages.items) (λ e. Unit {0})) }
 {
     let mut kept = kept;
     let mut stages = Vec::new(alloc);

@@ -4,7 +4,7 @@ ghost use Rattle.lt_elim.specs.Divisor.{content};
 ghost use Rattle.lt_elim.specs.Decision.{variables_in, variables};
 ghost use Rattle.lt_elim.specs.Difference.{is_difference, are_differences};
 ghost use Rattle.lt_elim.specs.Elimination.{keep, keep_all};
-ghost use Rattle.lt_elim.specs.Progress.{outcome, HaveContents};
+ghost use Rattle.lt_elim.specs.Progress.{outcome, AllInOrder, HaveContents};
 
 use crate::event::Event;
 use crate::keep::keep;
@@ -52,6 +52,7 @@ fn keep_row(
 pub(crate) fn variables(rows: &[Row]) -> u64
     ensures count { result ≡ variables rows.now }
     ensures bound { result ≤ 2 ^ 32 }
+    ensures order { AllInOrder rows.now }
 {
     let mut count = 0;
     let mut i = rows.len();

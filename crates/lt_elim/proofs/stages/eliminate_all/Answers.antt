@@ -4,7 +4,7 @@ use Rattle.lt_elim.specs.declared.stage.Stage.{Stage}
 use Rattle.lt_elim.specs.Decision.{decided, point, stops}
 use Rattle.lt_elim.specs.Progress.{outcome, event_of}
 use Rattle.lt_elim.specs.Stages.{under}
-use Rattle.lt_elim.proofs.Turns.{can_now, some_event, no_event, turn_ends, turn_goes}
+use Rattle.lt_elim.proofs.Turns.{can_now, some_event, no_event, turn_ends, turn_goes, stages_more, stages_all}
 use Rattle.lt_elim.proofs.stages.eliminate_all.Goals as goal
 
 pub eliminate-requires-clause-order : goal.eliminate-requires-clause-order
@@ -38,4 +38,12 @@ variables-preserved c =
           ∙ ap (λ (ss : List Stage). under c.args.limited c.args.variables ss (decided c.args.limited (c.variables.variable - 1) c.eliminate.new.kept)) (sym c.in_ok-push.ensures.items);
       left = (let p : length c.push.new.self.items ≡ length (c.variables.stages.items ++ c.in_ok-eliminated.eliminated.stage ∷ []) = ap (λ (ss : List Stage). length ss) c.in_ok-push.ensures.items in omega arith);
       can = (can_now c.args.limited c.variables.variable c.variables.kept c.variables-test.true c.variables.invariant.can).2 c.eliminate.new.kept kept;
+      stages =
+          stages_more c.args.limited c.args.variables c.variables.variable (c.variables.variable - 1) c.args.kept c.variables.kept c.eliminate.new.kept c.variables.stages.items c.in_ok-eliminated.eliminated.stage is c.variables.invariant.stages kept
+          c.in_ok-eliminated.ensures.raising c.in_ok-eliminated.ensures.lowering c.push.new.self.items c.in_ok-push.ensures.items;
     }
+
+pub returns-clause-stages : goal.returns-clause-stages
+returns-clause-stages c =
+    let h = c.variables-test.false in
+    stages_all c.args.limited c.args.variables c.variables.variable c.args.kept c.variables.kept c.variables.stages.items (omega arith) c.variables.invariant.stages

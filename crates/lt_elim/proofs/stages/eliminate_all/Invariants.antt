@@ -1,6 +1,7 @@
-use Rattle.std.proofs.Common.{◌≡◌, length, ◌+◌}
+use Rattle.std.proofs.Common.{◌≡◌, length, ◌+◌, List, ◌++◌}
+use Rattle.lt_elim.specs.declared.stage.Stage.{Stage}
 use Rattle.lt_elim.specs.Decision.{decided}
-use Rattle.lt_elim.specs.Stages.{CanEliminate, under}
+use Rattle.lt_elim.specs.Stages.{CanEliminate, AreStages, under}
 use Rattle.lt_elim.proofs.stages.eliminate_all.Given as goal
 
 abbrev pub invariant-variables : goal.invariant-variables
@@ -8,4 +9,5 @@ invariant-variables l = record {
   decided : decided l.limited l.variables l.fn.kept ≡ under l.limited l.variables l.stages.items (decided l.limited l.variable l.kept);
   left : length l.stages.items + l.variable ≡ l.variables;
   can : CanEliminate l.limited l.variable l.kept;
+  stages : (rest : List Stage) → AreStages l.limited l.variable l.kept rest → AreStages l.limited l.variables l.fn.kept (l.stages.items ++ rest);
 }
