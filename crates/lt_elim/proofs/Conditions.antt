@@ -1,33 +1,32 @@
 -- What the condition on a system says of its rows, and of those that are kept of it.
 use Rattle.std.proofs.Common.{arith, ◌≡◌, refl, sym, ◌∙◌, ap, subst, ℕ, suc, zero, ℤ, pos, negsuc, ◌*ℤ◌, ◌≤ℤ◌, ◌+◌, ◌-◌, ◌*◌, ◌/◌, ◌^◌, ◌<◌, ◌≤◌, List, [], ◌∷◌, ◌++◌, length, ◌⊎◌, inl, inr, Bool, true, false, ◌&&◌, ◌||◌, not, Option, Some, None, suc-mul}
-use Rattle.std.specs.Prelude.{neg_ℤ, int_lt, nat_lt, if◌then◌else◌, map, max, unsigned_abs, All}
+use Rattle.std.specs.Prelude.{neg_ℤ, int_lt, nat_lt, if◌then◌else◌, map, unsigned_abs}
 use Rattle.std.specs.Ordering.{int_eq}
 use Rattle.std.proofs.Math.Nat.{div-le_self}
 use Rattle.std.proofs.lemmas.Int.{ints}
 use Rattle.std.proofs.lemmas.Bool.{cases_lt}
 use Rattle.lt_lin.specs.declared.row.Row.{Row}
 use Rattle.lt_lin.specs.Terms.{Term, IsOrderedFrom, IsOrdered, factor}
-use Rattle.lt_lin.proofs.Factors.{AllBelow, factor_above}
+use Rattle.lt_lin.proofs.Factors.{factor_above}
 use Rattle.lt_elim.specs.Divisor.{content, quotient, passes}
-use Rattle.lt_elim.specs.Combination.{divided, normalised, with_term, terms_below, multipliers, sum_of, combination, passes_in, any_below, is_wide}
+use Rattle.lt_elim.specs.Combination.{divided, normalised, terms_below, multipliers, sum_of, combination, passes_in, any_below, is_wide}
 use Rattle.lt_elim.specs.Elimination.{Kept, keeps, ends, coeff, and_next, is_constant, keep, keep_all, keep_combination, combine_with, combine_all, without, raising, lowering, eliminated}
 use Rattle.lt_elim.specs.Difference.{are_differences}
-use Rattle.lt_elim.specs.declared.event.Event as code
-use Rattle.lt_elim.specs.Decision.{Verdict, stops, unless_ended, decided, variables, verdict_within, verdict}
-use Rattle.lt_elim.specs.Progress.{AllInOrder, HaveContents, outcome, event_of}
+use Rattle.lt_elim.specs.Decision.{unless_ended, decided, variables, verdict_within, verdict}
+use Rattle.lt_elim.specs.Progress.{AllInOrder, HaveContents}
 use Rattle.lt_elim.specs.Summing.{part, PartsFit, CanCombine, CombineWith, CombineAll}
 use Rattle.lt_elim.specs.declared.stage.Stage.{Stage}
 use Rattle.lt_elim.specs.Stages.{CanEliminate, AreStages, AreStagesOf}
-use Rattle.lt_elim.specs.Law.{AreOrdered, AreSized}
+use Rattle.lt_elim.specs.Law.{AreSized}
 use Rattle.lt_elim.specs.Condition.{greatest_factor, greatest, CanDecide}
-use Rattle.lt_elim.proofs.Keeping.{In, filter_in, Offered, offered_of}
-use Rattle.lt_elim.proofs.Edges.{IsLike, like_units, content_units, combination_like}
-use Rattle.lt_elim.proofs.Walks.{IsSized, steps}
+use Rattle.lt_elim.proofs.Keeping.{In, filter_in, offered_of}
+use Rattle.lt_elim.proofs.Edges.{like_units, content_units, combination_like}
+use Rattle.lt_elim.proofs.Walks.{IsSized}
 use Rattle.lt_elim.proofs.Differences.{HasEdge, AreEdges, IsKept, kept_first, kept_next, kept_sized, raising_is, lowering_is, Raising, Lowering}
 use Rattle.lt_elim.proofs.Refuting.{either_false, none_below, CombinationFits, PartFits, nothing_fits, edges_fit}
 use Rattle.lt_elim.proofs.Points.{InForm, next_form, first_form, elimination}
 use Rattle.lt_elim.proofs.Combining.{same_factor, content_bound}
-use Rattle.lt_elim.proofs.Laws.{in_all, all_in, steps_times}
+use Rattle.lt_elim.proofs.Laws.{all_in, steps_times}
 
 -- ---- sizes
 -- no factor is greater than m

@@ -107,7 +107,7 @@ eliminated_unlimited v rows = combine_all_unlimited v (without v rows) (raising 
 abbrev pub GivesWhole : Option Fraction → Type 0
 GivesWhole o = (f : Fraction) × (o ≡ Some f) × (f.under ≡ 1)
 
-gcd_with_one : (k : ℕ) → gcd_of k 1 ≡ 1
+pub gcd_with_one : (k : ℕ) → gcd_of k 1 ≡ 1
 unfolding gcd_of
 gcd_with_one k = ap (λ (r : ℕ). gcd_by 1 1 r) (mod-one k)
 
@@ -212,7 +212,7 @@ allowed_whole v values [] [] h l u = (whole (pos 0), refl, refl)
 allowed_whole v values [] (r ∷ rs) h l u = best_of_whole lesser lesser_keeps v values r rs h u
 allowed_whole v values (r ∷ rs) upper h l u = best_of_whole greater greater_keeps v values r rs h l
 
-touched_unit : (v : ℕ) (r : Row) (i j : ℕ) → Touch r v i j → (factor v r.terms ≡ pos 0 → ⊥) → unsigned_abs (factor v r.terms) ≡ 1
+pub touched_unit : (v : ℕ) (r : Row) (i j : ℕ) → Touch r v i j → (factor v r.terms ≡ pos 0 → ⊥) → unsigned_abs (factor v r.terms) ≡ 1
 touched_unit v r i j (starts a b c) o = ap unsigned_abs c
 touched_unit v r i j (stops a b c) o = ap unsigned_abs c
 touched_unit v r i j (leaves a b c) o = absurd (o c)

@@ -18,3 +18,7 @@ pub mod Eliminating
 pub mod Staging
 pub mod Turns
 pub mod Conditions
+pub mod Reckoning
+pub mod Comparing
+pub mod Reckoned
+pub mod Bounding

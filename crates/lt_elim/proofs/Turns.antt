@@ -56,10 +56,7 @@ no_event (Some e) h = absurd (cc)
 -- one stage more
 pub stages_more : (b : Bool) (n k v : ℕ) (first rows next : List Row) (ss : List Stage) (s : Stage) → k ≡ suc v → ((rest : List Stage) → AreStages b k rows rest → AreStages b n first (ss ++ rest)) → eliminated b v rows ≡ outcome None next → s.raising.items ≡ raising v rows → s.lowering.items ≡ lowering v rows → (all : List Stage) → all ≡ ss ++ s ∷ [] → (rest : List Stage) → AreStages b v next rest → AreStages b n first (all ++ rest)
 stages_more b n k v first rows next ss s is h e r l all a rest t =
-    subst (AreStages b n first) (sym (ap (λ (x : List Stage). x ++ rest) a ∙ append_assoc ss (s ∷ []) rest)) (h (s ∷ rest) (subst (λ (m : ℕ). AreStages b m rows (s ∷ rest)) (sym is) (r, l, λ other o. subst (λ (x : List Row). AreStages b v x rest) (same next other (sym e ∙ o)) t)))
-  where
-    same : (x y : List Row) → keeps x ≡ keeps y → x ≡ y
-    same x y e = cc
+    subst (AreStages b n first) (sym (ap (λ (x : List Stage). x ++ rest) a ∙ append_assoc ss (s ∷ []) rest)) (h (s ∷ rest) (subst (λ (m : ℕ). AreStages b m rows (s ∷ rest)) (sym is) (r, l, (next, e, t))))
 
 pub stages_all : (b : Bool) (n k : ℕ) (first rows : List Row) (ss : List Stage) → k ≡ 0 → ((rest : List Stage) → AreStages b k rows rest → AreStages b n first (ss ++ rest)) → AreStages b n first ss
 stages_all b n k first rows ss is h = subst (AreStages b n first) (append-nil ss) (h [] tt)

@@ -9,4 +9,6 @@ pub mod Progress
 pub mod Summing
 pub mod Stages
 pub mod Condition
+pub mod Reckoning
+pub mod Values
 pub mod Examples

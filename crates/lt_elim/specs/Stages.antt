@@ -25,13 +25,13 @@ under limited n [] verdict = verdict
 under limited zero (s ∷ ss) verdict = verdict
 under limited (suc v) (s ∷ ss) verdict = staged limited v s (under limited v ss verdict)
 
--- They are stages of variables below n, the first of which is the last variable, as long as no event came.
+-- They are stages of the variables below n, from the last on, and no event came.
 abbrev pub AreStages : Bool → ℕ → List Row → List Stage → Type 0
 AreStages limited n rows [] = Unit {0}
 AreStages limited zero rows (s ∷ ss) = ⊥
 AreStages limited (suc v) rows (s ∷ ss) =
     (s.raising.items ≡ raising v rows) × (s.lowering.items ≡ lowering v rows)
-    × ((next : List Row) → eliminated limited v rows ≡ keeps next → AreStages limited v next ss)
+    × ((next : List Row) × (eliminated limited v rows ≡ keeps next) × AreStages limited v next ss)
 
 -- the stages of all variables of a system
 pub record AreStagesOf (limited : Bool) (rows : List Row) (ss : List Stage) : Type 0 where

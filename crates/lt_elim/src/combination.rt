@@ -12,7 +12,7 @@ use std::alloc::{AllocError, Global};
 use std::vec::Vec;
 
 /// The greatest size that a number may have where there is a limit.
-const LIMIT: u128 = 1 << 120;
+pub(crate) const LIMIT: u128 = 1 << 120;
 
 /// Terms in order, and a constant.
 #[derive(Drop)]
@@ -145,7 +145,8 @@ fn any_passes(terms: &[(u32, i128)]) -> bool
     false
 }
 
-fn passes(z: i128) -> bool
+/// Whether the size of a number passes the limit.
+pub(crate) fn passes(z: i128) -> bool
     ensures { result ≡ passes z }
 {
     z.unsigned_abs() > LIMIT

@@ -1,15 +1,19 @@
 //! Elimination of variables from linear rows; specs/Decision.antt says what is decided.
 #![tactic(auto)]
 
+mod arithmetic;
 mod combination;
+mod comparison;
 mod divisor;
 mod eliminate;
 mod event;
 mod factor;
+mod fraction;
 mod keep;
 mod kept;
 mod law;
 mod normal;
+mod point;
 mod stage;
 mod stages;
 mod system;

@@ -1,8 +1,8 @@
-use Rattle.std.proofs.Common.{◌≡◌, sym, ◌∙◌, ap, subst, ℕ, ◌-◌, List, [], Option, None}
+use Rattle.std.proofs.Common.{◌≡◌, sym, ◌∙◌, ap, subst, ℕ, List, [], Option}
 use Rattle.lt_lin.specs.declared.row.Row.{Row}
 use Rattle.lt_elim.specs.declared.event.Event as code
 use Rattle.lt_elim.specs.Decision.{variables, verdict, stops, point, decided, unless_ended}
-use Rattle.lt_elim.specs.Elimination.{Kept, keep_all, keeps}
+use Rattle.lt_elim.specs.Elimination.{keep_all, keeps}
 use Rattle.lt_elim.specs.Progress.{outcome, event_of}
 use Rattle.lt_elim.specs.Stages.{CanEliminate, under}
 use Rattle.lt_elim.proofs.Combining.{if_ok_more}
