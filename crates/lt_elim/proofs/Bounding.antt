@@ -22,6 +22,7 @@ use Rattle.lt_elim.proofs.Walks.{IsSized}
 use Rattle.lt_elim.proofs.Laws.{gcd_with_one, touched_unit}
 use Rattle.lt_elim.proofs.Reckoning.{step_is}
 use Rattle.lt_elim.proofs.Conditions.{IsReached, reached_next, reached_sized, factor_within}
+use Rattle.lt_elim.specs.Tracing.{bare}
 
 -- ---- rows that set bounds
 row_small : (limited : Bool) (rows : List Row) (v : ℕ) (kept : List Row) → IsReached limited rows (suc v) kept → (r : Row) → In r kept → unsigned_abs (factor v r.terms) < 2 ^ 127
@@ -284,7 +285,7 @@ can_reckon rows c n kept [] all i a e small = tt
 can_reckon rows c zero kept (s ∷ ss) all i a e small = absurd a
 can_reckon rows c (suc v) kept (s ∷ ss) all i a e small = by_rest (under false v ss (point [])) refl e (λ vs u k. can_reckon rows c v a.2.0 ss vs (reached_next false rows v kept a.2.0 i a.2.1) a.2.2 u k)
   where
-    bounds : (values : List Fraction) → AreSmall values → CanBoundAll v values s.raising.items × CanBoundAll v values s.lowering.items
+    bounds : (values : List Fraction) → AreSmall values → CanBoundAll v values (bare s.raising.items) × CanBoundAll v values (bare s.lowering.items)
     bounds values k = (
       subst (CanBoundAll v values) (sym a.0) (can_bound_all v values (raising v kept) (λ r h. let f = filter_in (λ q. int_lt (pos 0) (factor v q.terms)) r kept h in edge_bounds rows v kept values c i k r f.0 (not_zero_up (factor v r.terms) f.1))),
       subst (CanBoundAll v values) (sym a.1) (can_bound_all v values (lowering v kept) (λ r h. let f = filter_in (λ q. int_lt (factor v q.terms) (pos 0)) r kept h in edge_bounds rows v kept values c i k r f.0 (not_zero_down (factor v r.terms) f.1))),
@@ -297,8 +298,8 @@ can_reckon rows c (suc v) kept (s ∷ ss) all i a e small = by_rest (under false
     by_value vs u None q rest = absurd (cc)
     by_value vs u (Some f) q rest =
         let k = small_prefix vs f (subst AreSmall (sym (same (vs ++ f ∷ []) all q)) small) in
-        ((λ values g. subst (λ (x : List Fraction). CanBoundAll v x s.raising.items × CanBoundAll v x s.lowering.items) (same vs values (sym u ∙ g)) (bounds vs k)), rest vs u k)
+        ((λ values g. subst (λ (x : List Fraction). CanBoundAll v x (bare s.raising.items) × CanBoundAll v x (bare s.lowering.items)) (same vs values (sym u ∙ g)) (bounds vs k)), rest vs u k)
 
     by_rest : (w : Verdict) → under false v ss (point []) ≡ w → staged false v s w ≡ point all → ((vs : List Fraction) → under false v ss (point []) ≡ point vs → AreSmall vs → CanReckon v ss) → CanReckon (suc v) (s ∷ ss)
     by_rest (stops event) u q rest = absurd (cc)
-    by_rest (point vs) u q rest = by_value vs u (least_allowed false v vs s.raising.items s.lowering.items) q rest
+    by_rest (point vs) u q rest = by_value vs u (least_allowed false v vs (bare s.raising.items) (bare s.lowering.items)) q rest

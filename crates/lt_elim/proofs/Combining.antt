@@ -99,8 +99,8 @@ part_nothing : (p : Option ℕ) → part p nothing ≡ pos 0
 part_nothing None = refl
 part_nothing (Some x) = refl
 
-record PartGoes (limited : Bool) (m : Multipliers) (a b : ℤ) : Type 0 where
-  fits : PartsFit m a b
+pub record PartGoes (limited : Bool) (m : Multipliers) (a b : ℤ) : Type 0 where
+  pub fits : PartsFit m a b
   within : limited ≡ true → (passes (m.of_raising *ℤ a) ≡ false) × (passes (m.of_lowering *ℤ b) ≡ false) × (passes (sum_of m a b) ≡ false)
 
 within_three : (m : Multipliers) (a b : ℤ) → passes_in m a b ≡ false → (passes (m.of_raising *ℤ a) ≡ false) × (passes (m.of_lowering *ℤ b) ≡ false) × (passes (sum_of m a b) ≡ false)
@@ -140,7 +140,7 @@ part_not_wide v p n limited c e = by_part
     by_part None = both.1
     by_part (Some x) = by_place x (cases_order x (suc v))
 
-all_go : (limited : Bool) (v : ℕ) (p n : Row) → CanCombine limited v p n → (limited && is_wide v p n) ≡ false → (x : Option ℕ) → PartGoes limited (multipliers v p n) (part x p) (part x n)
+pub all_go : (limited : Bool) (v : ℕ) (p n : Row) → CanCombine limited v p n → (limited && is_wide v p n) ≡ false → (x : Option ℕ) → PartGoes limited (multipliers v p n) (part x p) (part x n)
 all_go true v p n c e x = goes_within true (multipliers v p n) (part x p) (part x n) (part_not_wide v p n true c e x)
 all_go false v p n c e x = record { fits = c.fits refl x; within = λ l. absurd (cc) }
 

@@ -318,7 +318,7 @@ can_eliminate limited rows c (suc v) kept i = (
 )
 
 -- ---- a system's run
-in_order : (rows : List Row) → AllInOrder rows → (r : Row) → In r rows → IsOrdered r.terms
+pub in_order : (rows : List Row) → AllInOrder rows → (r : Row) → In r rows → IsOrdered r.terms
 in_order [] o r h = absurd h
 in_order (q ∷ qs) o r (inl e) = subst (λ (z : Row). IsOrdered z.terms) e o.0
 in_order (q ∷ qs) o r (inr h) = in_order qs o.1 r h

@@ -1,6 +1,6 @@
 -- Rows that are kept in a map from terms to constants.
-use Rattle.std.proofs.Common.{◌≡◌, refl, zero, suc, length, ◌<◌, ◌≤◌, ◌⊎◌, inl, inr, sym, ◌∙◌, ap, ℕ, ℤ, pos, List, [], ◌∷◌, ◌+◌, ◌+ℤ◌, Bool, true, false, ◌&&◌, cond, arith, Some}
-use Rattle.std.specs.Prelude.{int_lt, nat_lt, slice_get, nat_eq, ◌==◌, if◌then◌else◌}
+use Rattle.std.proofs.Common.{◌≡◌, refl, zero, suc, subst, length, ◌<◌, ◌≤◌, ◌⊎◌, inl, inr, sym, ◌∙◌, ap, ℕ, ℤ, pos, List, [], ◌∷◌, ◌+◌, ◌+ℤ◌, Bool, true, false, ◌&&◌, cond, arith, Some}
+use Rattle.std.specs.Prelude.{int_lt, nat_lt, slice_get, nat_eq, ◌==◌, map, if◌then◌else◌}
 use Rattle.std.specs.Ordering.{int_eq}
 use Rattle.std.specs.List.{filter}
 use Rattle.std.specs.Map.{lookup}
@@ -13,27 +13,58 @@ use Rattle.lt_lin.specs.Terms.{Term, IsOrderedFrom, IsOrdered, factor}
 use Rattle.lt_lin.proofs.Factors.{factor_below}
 use Rattle.lt_elim.specs.Combination.{normalised}
 use Rattle.lt_elim.specs.Elimination.{keeps, ends, refuted, many_rows, row_limit, within_limit, keep, keep_normalised, same_terms, tighter, with_row, without}
-use Rattle.lt_elim.specs.Progress.{row_of, rows_of, least_of, found_factor, AllInOrder}
+use Rattle.lt_elim.specs.Progress.{row_of, rows_of, numbered_of, least_of, found_factor, AllInOrder}
+use Rattle.lt_elim.specs.Tracing.{IsKnownAs, AreKnown}
+use Rattle.lt_elim.specs.declared.kept.Held.{Held}
 use Rattle.lt_elim.proofs.Keeping.{same_terms_are}
 
 module _ (eq : Vec Term → Vec Term → Bool) (same : (a b : Vec Term) → eq a b ≡ same_terms b.items a.items) where
-  pub with_row_inserted : (es : List (Vec Term × ℤ)) (k : Vec Term) (c : ℤ) → rows_of (insert_entry eq es k (least_of c (lookup (eq k) es))) ≡ with_row (rows_of es) (row_of (k, c))
-  with_row_inserted [] k c = refl
-  with_row_inserted (e ∷ es) k c = by_test (same_terms e.0.items k.items) refl (with_row_inserted es k c)
+  pub with_row_inserted : (es : List (Vec Term × Held)) (k : Vec Term) (h : Held) → rows_of (insert_entry eq es k (least_of h (lookup (eq k) es))) ≡ with_row (rows_of es) (row_of (k, h))
+  with_row_inserted [] k h = refl
+  with_row_inserted (e ∷ es) k h = by_test (same_terms e.0.items k.items) refl (with_row_inserted es k h)
     where
-      chosen : (b : Bool) → e.0.items ≡ k.items → row_of (e.0, if b then c else e.1) ≡ (if b then row_of (k, c) else row_of e)
-      chosen true h = ap (λ (ts : List Term). record { terms = ts; constant = c }) h
-      chosen false h = refl
+      chosen : (b : Bool) → e.0.items ≡ k.items → row_of (e.0, if b then h else e.1) ≡ (if b then row_of (k, h) else row_of e)
+      chosen true g = ap (λ (ts : List Term). record { terms = ts; constant = h.constant }) g
+      chosen false g = refl
 
-      by_test : (b : Bool) → same_terms e.0.items k.items ≡ b → rows_of (insert_entry eq es k (least_of c (lookup (eq k) es))) ≡ with_row (rows_of es) (row_of (k, c)) → rows_of (insert_entry eq (e ∷ es) k (least_of c (lookup (eq k) (e ∷ es)))) ≡ with_row (rows_of (e ∷ es)) (row_of (k, c))
-      by_test true h rest =
-          ap (λ (t : Bool). rows_of (if t then (e.0, least_of c (cond t (Some e.1) (lookup (eq k) es))) ∷ es else e ∷ insert_entry eq es k (least_of c (cond t (Some e.1) (lookup (eq k) es))))) (same k e.0 ∙ h)
-          ∙ ap (λ (r : Row). r ∷ rows_of es) (chosen (int_lt c e.1) (same_terms_are e.0.items k.items h))
-          ∙ ap (λ (t : Bool). if t then tighter (row_of e) (row_of (k, c)) ∷ rows_of es else row_of e ∷ with_row (rows_of es) (row_of (k, c))) (sym h)
-      by_test false h rest =
-          ap (λ (t : Bool). rows_of (if t then (e.0, least_of c (cond t (Some e.1) (lookup (eq k) es))) ∷ es else e ∷ insert_entry eq es k (least_of c (cond t (Some e.1) (lookup (eq k) es))))) (same k e.0 ∙ h)
+      by_test : (b : Bool) → same_terms e.0.items k.items ≡ b → rows_of (insert_entry eq es k (least_of h (lookup (eq k) es))) ≡ with_row (rows_of es) (row_of (k, h)) → rows_of (insert_entry eq (e ∷ es) k (least_of h (lookup (eq k) (e ∷ es)))) ≡ with_row (rows_of (e ∷ es)) (row_of (k, h))
+      by_test true g rest =
+          ap (λ (t : Bool). rows_of (if t then (e.0, least_of h (cond t (Some e.1) (lookup (eq k) es))) ∷ es else e ∷ insert_entry eq es k (least_of h (cond t (Some e.1) (lookup (eq k) es))))) (same k e.0 ∙ g)
+          ∙ ap (λ (r : Row). r ∷ rows_of es) (chosen (int_lt h.constant e.1.constant) (same_terms_are e.0.items k.items g))
+          ∙ ap (λ (t : Bool). if t then tighter (row_of e) (row_of (k, h)) ∷ rows_of es else row_of e ∷ with_row (rows_of es) (row_of (k, h))) (sym g)
+      by_test false g rest =
+          ap (λ (t : Bool). rows_of (if t then (e.0, least_of h (cond t (Some e.1) (lookup (eq k) es))) ∷ es else e ∷ insert_entry eq es k (least_of h (cond t (Some e.1) (lookup (eq k) es))))) (same k e.0 ∙ g)
           ∙ ap (λ (rs : List Row). row_of e ∷ rs) rest
-          ∙ ap (λ (t : Bool). if t then tighter (row_of e) (row_of (k, c)) ∷ rows_of es else row_of e ∷ with_row (rows_of es) (row_of (k, c))) (sym h)
+          ∙ ap (λ (t : Bool). if t then tighter (row_of e) (row_of (k, h)) ∷ rows_of es else row_of e ∷ with_row (rows_of es) (row_of (k, h))) (sym g)
+
+  pub known_inserted : (known : List Row) (es : List (Vec Term × Held)) (k : Vec Term) (h : Held) → AreKnown known (map numbered_of es) → IsKnownAs known h.number (row_of (k, h)) → AreKnown known (map numbered_of (insert_entry eq es k (least_of h (lookup (eq k) es))))
+  known_inserted known [] k h a n = (n, tt)
+  known_inserted known (e ∷ es) k h a n = by_test (same_terms e.0.items k.items) refl (known_inserted known es k h a.1 n)
+    where
+      chosen : (b : Bool) → e.0.items ≡ k.items → IsKnownAs known (if b then h else e.1).number (row_of (e.0, if b then h else e.1))
+      chosen true g = subst (λ (ts : List Term). IsKnownAs known h.number (record { terms = ts; constant = h.constant })) (sym g) n
+      chosen false g = a.0
+
+      by_test : (b : Bool) → same_terms e.0.items k.items ≡ b → AreKnown known (map numbered_of (insert_entry eq es k (least_of h (lookup (eq k) es)))) → AreKnown known (map numbered_of (insert_entry eq (e ∷ es) k (least_of h (lookup (eq k) (e ∷ es)))))
+      by_test true g rest =
+          subst (λ (t : Bool). AreKnown known (map numbered_of (if t then (e.0, least_of h (cond t (Some e.1) (lookup (eq k) es))) ∷ es else e ∷ insert_entry eq es k (least_of h (cond t (Some e.1) (lookup (eq k) es)))))) (sym (same k e.0 ∙ g))
+          (chosen (int_lt h.constant e.1.constant) (same_terms_are e.0.items k.items g), a.1)
+      by_test false g rest =
+          subst (λ (t : Bool). AreKnown known (map numbered_of (if t then (e.0, least_of h (cond t (Some e.1) (lookup (eq k) es))) ∷ es else e ∷ insert_entry eq es k (least_of h (cond t (Some e.1) (lookup (eq k) es)))))) (sym (same k e.0 ∙ g))
+          (a.0, rest)
+
+pub known_filtered : (known : List Row) (test : Vec Term × Held → Bool) (es : List (Vec Term × Held)) → AreKnown known (map numbered_of es) → AreKnown known (map numbered_of (filter test es))
+known_filtered known test [] a = tt
+known_filtered known test (e ∷ es) a = by_test (test e) (known_filtered known test es a.1)
+  where
+    by_test : (b : Bool) → AreKnown known (map numbered_of (filter test es)) → AreKnown known (map numbered_of (cond b (e ∷ filter test es) (filter test es)))
+    by_test true rest = (a.0, rest)
+    by_test false rest = rest
+
+pub known_at : (known : List Row) (es : List (Vec Term × Held)) (place : ℕ) (p : Vec Term × Held) → Some p ≡ slice_get es place → AreKnown known (map numbered_of es) → IsKnownAs known p.1.number (row_of p)
+known_at known [] place p e a = absurd (cc)
+known_at known (q ∷ es) zero p e a = let is : q ≡ p = cc in subst (λ (x : Vec Term × Held). IsKnownAs known x.1.number (row_of x)) is a.0
+known_at known (q ∷ es) (suc place) p e a = known_at known es place p e a.1
 
 -- keys are equal where their terms are the same
 pub same_keys : (a b : List Term) → pointwise (λ (x y : Term). nat_eq x.0 y.0 && int_eq x.1 y.1) a b ≡ same_terms b a
@@ -70,7 +101,7 @@ found_from x m (t ∷ ts) o = by_test (x == t.0) refl (found_from x (t.0 + 1) ts
 pub found_is : (x : ℕ) (ts : List Term) → IsOrdered ts → found_factor x ts ≡ factor x ts
 found_is x ts o = found_from x 0 ts o
 
-pub dropped_rows : (v : ℕ) (es : List (Vec Term × ℤ)) → AllInOrder (rows_of es) → rows_of (filter (λ e. int_eq (found_factor v e.0.items) (pos 0)) es) ≡ without v (rows_of es)
+pub dropped_rows : (v : ℕ) (es : List (Vec Term × Held)) → AllInOrder (rows_of es) → rows_of (filter (λ e. int_eq (found_factor v e.0.items) (pos 0)) es) ≡ without v (rows_of es)
 dropped_rows v [] o = refl
 dropped_rows v (e ∷ es) o =
     ap (λ (z : ℤ). rows_of (cond (int_eq z (pos 0)) (e ∷ filter (λ e. int_eq (found_factor v e.0.items) (pos 0)) es) (filter (λ e. int_eq (found_factor v e.0.items) (pos 0)) es))) (found_is v e.0.items o.0)
@@ -80,9 +111,9 @@ dropped_rows v (e ∷ es) o =
     by_test true rest = ap (λ (rs : List Row). row_of e ∷ rs) rest
     by_test false rest = rest
 
-pub row_at : (es : List (Vec Term × ℤ)) (place : ℕ) (p : Vec Term × ℤ) → Some p ≡ slice_get es place → Some (row_of p) ≡ slice_get (rows_of es) place
+pub row_at : (es : List (Vec Term × Held)) (place : ℕ) (p : Vec Term × Held) → Some p ≡ slice_get es place → Some (row_of p) ≡ slice_get (rows_of es) place
 row_at [] place p e = absurd (cc)
-row_at (q ∷ es) zero p e = let is : p ≡ q = cc in ap (λ (z : Vec Term × ℤ). Some (row_of z)) is
+row_at (q ∷ es) zero p e = let is : p ≡ q = cc in ap (λ (z : Vec Term × Held). Some (row_of z)) is
 row_at (q ∷ es) (suc place) p e = row_at es place p e
 
 -- ---- one row more

@@ -22,3 +22,6 @@ pub mod Reckoning
 pub mod Comparing
 pub mod Reckoned
 pub mod Bounding
+pub mod Tracing
+pub mod Combined
+pub mod Answering

@@ -8,6 +8,7 @@ use Rattle.lt_elim.specs.Decision.{Verdict, stops, point, least_allowed, with_va
 use Rattle.lt_elim.specs.Reckoning.{CanBoundAll}
 use Rattle.lt_elim.specs.Stages.{staged, under}
 use Rattle.lt_elim.specs.Values.{HaveBounds, CanReckon}
+use Rattle.lt_elim.specs.Tracing.{bare}
 
 bounds_drop : (d k n : ℕ) (ss : List Stage) → n ≡ d + k → HaveBounds n ss → HaveBounds k (drop d ss)
 bounds_drop zero k n ss e h = let is : n ≡ k = omega arith in subst (λ (m : ℕ). HaveBounds m ss) is h
@@ -53,12 +54,12 @@ stage_can n k ss s i h =
     subst (CanReckon (suc k)) i.drop_is (can_drop (n - 1 - k) (suc k) n ss e h)
 
 -- where there is no value, a number passes the limit
-pub value_passes : (b : Bool) (n k : ℕ) (ss : List Stage) (s : Stage) (values : List Fraction) → IsStage n k ss s → (b ≡ false → CanReckon n ss) → under b k (drop (n - k) ss) (point []) ≡ point values → (b ≡ true → least_allowed b k values s.raising.items s.lowering.items ≡ None) → (b ≡ false → CanBoundAll k values s.raising.items → CanBoundAll k values s.lowering.items → ⊥) → under b n ss (point []) ≡ stops (coeff k)
+pub value_passes : (b : Bool) (n k : ℕ) (ss : List Stage) (s : Stage) (values : List Fraction) → IsStage n k ss s → (b ≡ false → CanReckon n ss) → under b k (drop (n - k) ss) (point []) ≡ point values → (b ≡ true → least_allowed b k values (bare s.raising.items) (bare s.lowering.items) ≡ None) → (b ≡ false → CanBoundAll k values (bare s.raising.items) → CanBoundAll k values (bare s.lowering.items) → ⊥) → under b n ss (point []) ≡ stops (coeff k)
 value_passes b n k ss s values i can e none unfit =
     let l : k < n = i.below in
     under_drop b (n - 1 - k) (suc k) n ss (point []) (coeff k) (omega arith) i.length_is (subst (λ (x : List Stage). under b (suc k) x (point []) ≡ stops (coeff k)) (sym i.drop_is) (ap (staged b k s) e ∙ ap (with_value k values) (by_limit b refl)))
   where
-    by_limit : (x : Bool) → b ≡ x → least_allowed b k values s.raising.items s.lowering.items ≡ None
+    by_limit : (x : Bool) → b ≡ x → least_allowed b k values (bare s.raising.items) (bare s.lowering.items) ≡ None
     by_limit true f = none f
     by_limit false f =
         let c = (stage_can n k ss s i (can f)).0 values (subst (λ (x : Bool). under x k (drop (n - k) ss) (point []) ≡ point values) f e) in

@@ -37,16 +37,16 @@ IsKnown known r = (i : ℕ) × (slice_get known i ≡ Some r)
 abbrev pub Leads : List Row → List Row → Type 0
 Leads rows known = (lines : Lines) → RefutesAfter false known lines → (all : Lines) × Refutes rows all
 
-known_more : (known : List Row) (r q : Row) (i : ℕ) → slice_get known i ≡ Some q → slice_get (known ++ r ∷ []) i ≡ Some q
+pub known_more : (known : List Row) (r q : Row) (i : ℕ) → slice_get known i ≡ Some q → slice_get (known ++ r ∷ []) i ≡ Some q
 known_more [] r q i e = absurd (cc)
 known_more (k ∷ ks) r q zero e = e
 known_more (k ∷ ks) r q (suc i) e = known_more ks r q i e
 
-known_last : (known : List Row) (r : Row) → slice_get (known ++ r ∷ []) (length known) ≡ Some r
+pub known_last : (known : List Row) (r : Row) → slice_get (known ++ r ∷ []) (length known) ≡ Some r
 known_last [] r = refl
 known_last (k ∷ ks) r = known_last ks r
 
-known_contradiction : (known : List Row) (i : ℕ) (r : Row) → slice_get known i ≡ Some r → IsContradiction r → HasContradiction known
+pub known_contradiction : (known : List Row) (i : ℕ) (r : Row) → slice_get known i ≡ Some r → IsContradiction r → HasContradiction known
 known_contradiction [] i r e c = absurd (cc)
 known_contradiction (k ∷ ks) zero r e c = let is : k ≡ r = cc in inl (subst IsContradiction (sym is) c)
 known_contradiction (k ∷ ks) (suc i) r e c = inr (known_contradiction ks i r e c)
@@ -59,7 +59,7 @@ pub record Knows (rows known : List Row) (r : Row) : Type 0 where
   pub is_known : IsKnown now r
   pub still : (q : Row) → IsKnown known q → IsKnown now q
 
-scaled_back : (k : ℕ) (ts : List Term) → 0 < k → Divides k ts → ts ≡ scaled (pos k) (map (λ t. (t.0, quotient t.1 k)) ts)
+pub scaled_back : (k : ℕ) (ts : List Term) → 0 < k → Divides k ts → ts ≡ scaled (pos k) (map (λ t. (t.0, quotient t.1 k)) ts)
 scaled_back k [] some h = refl
 scaled_back k (t ∷ ts) some h = ap (λ (c : ℤ). (t.0, c) ∷ ts) (sym (exact_ℤ t.1 k some h.0)) ∙ ap (λ (x : List Term). (t.0, pos k *ℤ quotient t.1 k) ∷ x) (scaled_back k ts some h.1)
 
@@ -98,7 +98,7 @@ abbrev pub Traced : List Row → List Row → Kept → Type 0
 Traced rows base (keeps kept) = Tracked rows base kept
 Traced rows base (ends event) = event ≡ refuted → (lines : Lines) × Refutes rows lines
 
-contradiction_is : (r : Row) → is_constant r ≡ true → int_lt r.constant (pos 0) ≡ true → IsContradiction r
+pub contradiction_is : (r : Row) → is_constant r ≡ true → int_lt r.constant (pos 0) ≡ true → IsContradiction r
 contradiction_is r c l = (constant_terms r c, less r.constant l)
   where
     less : (z : ℤ) → int_lt z (pos 0) ≡ true → z <ℤ pos 0
@@ -191,7 +191,7 @@ narrow_fits v p n e =
 zero_fits : Fits (pos 0)
 zero_fits = (omega (arith, ints), omega (arith, ints))
 
-sum_nothing : (m : Multipliers) (a b : ℤ) → a ≡ pos 0 → b ≡ pos 0 → sum_of m a b ≡ pos 0
+pub sum_nothing : (m : Multipliers) (a b : ℤ) → a ≡ pos 0 → b ≡ pos 0 → sum_of m a b ≡ pos 0
 sum_nothing m a b e f = both (m.of_raising *ℤ a) (m.of_lowering *ℤ b) (ap (λ z. m.of_raising *ℤ z) e ∙ times_nothing m.of_raising) (ap (λ z. m.of_lowering *ℤ z) f ∙ times_nothing m.of_lowering)
   where
     times_nothing : (z : ℤ) → z *ℤ pos 0 ≡ pos 0
@@ -210,7 +210,7 @@ nothing_fits m a b e f = record {
     times_nothing : (z : ℤ) → z *ℤ pos 0 ≡ pos 0
     times_nothing z = omega (arith, ints)
 
-sums_two : (part : Row → ℤ) (known : List Row) (p n : Row) (i j : ℕ) (m : Multipliers) (s : ℤ) → slice_get known i ≡ Some p → slice_get known j ≡ Some n → pos 0 ≤ℤ m.of_raising → pos 0 ≤ℤ m.of_lowering → PartFits m (part p) (part n) → sum_of m (part p) (part n) ≡ s → SumsTo part known (pos 0) ((i, m.of_raising) ∷ (j, m.of_lowering) ∷ []) s
+pub sums_two : (part : Row → ℤ) (known : List Row) (p n : Row) (i j : ℕ) (m : Multipliers) (s : ℤ) → slice_get known i ≡ Some p → slice_get known j ≡ Some n → pos 0 ≤ℤ m.of_raising → pos 0 ≤ℤ m.of_lowering → PartFits m (part p) (part n) → sum_of m (part p) (part n) ≡ s → SumsTo part known (pos 0) ((i, m.of_raising) ∷ (j, m.of_lowering) ∷ []) s
 sums_two part known p n i j m s gp gn pr pl f e = (
   p,
   gp,

@@ -11,4 +11,6 @@ pub mod Stages
 pub mod Condition
 pub mod Reckoning
 pub mod Values
+pub mod Tracing
+pub mod Deciding
 pub mod Examples

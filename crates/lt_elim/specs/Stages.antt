@@ -6,6 +6,7 @@ use Rattle.lt_elim.specs.Elimination.{keeps, keep_all, eliminated, raising, lowe
 use Rattle.lt_elim.specs.Decision.{Verdict, stops, point, least_allowed, with_value, variables}
 use Rattle.lt_elim.specs.Progress.{AllInOrder}
 use Rattle.lt_elim.specs.Summing.{CombineAll}
+use Rattle.lt_elim.specs.Tracing.{bare}
 
 -- The variables below n can be eliminated: rows are in order, and where there is no limit no combination is too great.
 abbrev pub CanEliminate : Bool → ℕ → List Row → Type 0
@@ -17,7 +18,7 @@ CanEliminate limited (suc v) rows =
 -- the verdict with a value for v, by the bounds that the stage's rows set
 abbrev pub staged : Bool → ℕ → Stage → Verdict → Verdict
 staged limited v stage (stops event) = stops event
-staged limited v stage (point values) = with_value v values (least_allowed limited v values stage.raising.items stage.lowering.items)
+staged limited v stage (point values) = with_value v values (least_allowed limited v values (bare stage.raising.items) (bare stage.lowering.items))
 
 -- the verdict with values for the variables of the stages, the first of which is that of the last variable below n
 abbrev pub under : Bool → ℕ → List Stage → Verdict → Verdict
@@ -30,7 +31,7 @@ abbrev pub AreStages : Bool → ℕ → List Row → List Stage → Type 0
 AreStages limited n rows [] = Unit {0}
 AreStages limited zero rows (s ∷ ss) = ⊥
 AreStages limited (suc v) rows (s ∷ ss) =
-    (s.raising.items ≡ raising v rows) × (s.lowering.items ≡ lowering v rows)
+    ((bare s.raising.items) ≡ raising v rows) × ((bare s.lowering.items) ≡ lowering v rows)
     × ((next : List Row) × (eliminated limited v rows ≡ keeps next) × AreStages limited v next ss)
 
 -- the stages of all variables of a system

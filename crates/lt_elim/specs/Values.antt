@@ -8,19 +8,20 @@ use Rattle.lt_elim.specs.Fraction.{Fraction}
 use Rattle.lt_elim.specs.Decision.{Verdict, stops, point}
 use Rattle.lt_elim.specs.Reckoning.{fractions_of, AreBounding, CanBoundAll}
 use Rattle.lt_elim.specs.Stages.{under}
+use Rattle.lt_elim.specs.Tracing.{bare}
 
 -- The rows of the stages of the variables below n set bounds to their variables.
 abbrev pub HaveBounds : ℕ → List Stage → Type 0
 HaveBounds n [] = Unit {0}
 HaveBounds zero (s ∷ ss) = ⊥
-HaveBounds (suc v) (s ∷ ss) = AreBounding v s.raising.items × AreBounding v s.lowering.items × HaveBounds v ss
+HaveBounds (suc v) (s ∷ ss) = AreBounding v (bare s.raising.items) × AreBounding v (bare s.lowering.items) × HaveBounds v ss
 
 -- Where there is no limit, the numbers of the bounds fit.
 abbrev pub CanReckon : ℕ → List Stage → Type 0
 CanReckon n [] = Unit {0}
 CanReckon zero (s ∷ ss) = ⊥
 CanReckon (suc v) (s ∷ ss) =
-    ((values : List Fraction) → under false v ss (point []) ≡ point values → CanBoundAll v values s.raising.items × CanBoundAll v values s.lowering.items)
+    ((values : List Fraction) → under false v ss (point []) ≡ point values → CanBoundAll v values (bare s.raising.items) × CanBoundAll v values (bare s.lowering.items))
     × CanReckon v ss
 
 abbrev pub reckoned : code.Reckoned → Verdict

@@ -132,7 +132,8 @@ fn quotient(z: i128, divisor: u128) -> i128
     z.div_euclid(signed(divisor))
 }
 
-fn signed(n: u128) -> i128
+/// The same number, with a sign.
+pub(crate) fn signed(n: u128) -> i128
     requires { n < 2 ^ 127 }
     ensures { result ≡ pos n }
 {

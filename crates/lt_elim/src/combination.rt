@@ -74,14 +74,15 @@ pub(crate) fn combine(
     )
 }
 
-// Two numbers of no common divisor by which rows are multiplied that have factors of these sizes.
+/// Two numbers of no common divisor by which rows are multiplied.
 #[derive(Clone, Copy)]
-struct Multipliers {
-    of_raising: i128,
-    of_lowering: i128,
+pub(crate) struct Multipliers {
+    pub(crate) of_raising: i128,
+    pub(crate) of_lowering: i128,
 }
 
-fn multipliers_of(up: u128, down: u128) -> Multipliers
+/// The multipliers of rows that have factors of these sizes.
+pub(crate) fn multipliers_of(up: u128, down: u128) -> Multipliers
     requires positive { 0 < up }
     requires up { up < 2 ^ 127 }
     requires down { down < 2 ^ 127 }

@@ -4,6 +4,8 @@
 mod arithmetic;
 mod combination;
 mod comparison;
+mod deciding;
+mod decision;
 mod divisor;
 mod eliminate;
 mod event;
@@ -12,12 +14,17 @@ mod fraction;
 mod keep;
 mod kept;
 mod law;
+mod log;
 mod normal;
+mod numbered;
+mod pair;
 mod point;
 mod stage;
 mod stages;
 mod system;
 
+pub use deciding::decide;
+pub use decision::Decision;
 pub use law::{
     difference_points_stay_small, differences_are_whole, differences_stay_small, points_satisfy,
     refutations_have_lines,

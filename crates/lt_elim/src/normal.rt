@@ -2,6 +2,7 @@
 ghost use Rattle.std.specs.Prelude.{◌≡◌, ◌<◌, ◌≤◌, ◌^◌, ℤ, pos, ◌<ℤ◌, map, length, [], IfOk};
 ghost use Rattle.std.specs.Int.{int_div_euclid};
 ghost use Rattle.std.specs.Vec.{vec_capacity};
+ghost use Rattle.lt_lin.specs.Refutation.{IsQuotient};
 ghost use Rattle.lt_elim.specs.Divisor.{content};
 ghost use Rattle.lt_elim.specs.Combination.{normalised};
 
@@ -24,7 +25,8 @@ pub(crate) fn normalise(
     constant: i128,
 ) -> Result<Normal, AllocError>
     requires { content terms.items < 2 ^ 127 }
-    ensures { IfOk result (λ n. record { terms = n.terms.items; constant = n.constant } ≡ normalised (record { terms = terms.items; constant = constant })) }
+    ensures row { IfOk result (λ n. record { terms = n.terms.items; constant = n.constant } ≡ normalised (record { terms = terms.items; constant = constant })) }
+    ensures quotient { IfOk result (λ n. IsQuotient (record { terms = terms.items; constant = constant }) n.divisor (record { terms = n.terms.items; constant = n.constant })) }
 {
     let divisor = content(terms.as_slice());
     if divisor <= 1 {

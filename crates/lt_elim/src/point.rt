@@ -4,12 +4,14 @@ ghost use Rattle.lt_elim.specs.Fraction.{fraction, whole};
 ghost use Rattle.lt_elim.specs.Decision.{point, terms_added, bound, best_of, least_allowed};
 ghost use Rattle.lt_elim.specs.Reckoning.{Gives, fractions_of, better_of, IsBounding, AreBounding, term_added, CanAddTerm, CanAddTerms, CanBound, CanBoundAll};
 ghost use Rattle.lt_elim.specs.Stages.{under};
+ghost use Rattle.lt_elim.specs.Tracing.{bare};
 ghost use Rattle.lt_elim.specs.Values.{HaveBounds, CanReckon, reckoned};
 
 use crate::arithmetic::{negated_over, plus, times, whole};
 use crate::comparison::{greater, lesser};
 use crate::factor::factor_of;
 use crate::fraction::Fraction;
+use crate::numbered::Numbered;
 use crate::stage::Stage;
 use lt_lin::Row;
 use std::alloc::{AllocError, Global};
@@ -49,10 +51,10 @@ pub(crate) fn values_of(
 
 /// The value of a variable, by the rows of its stage.
 fn value(limited: bool, variable: u32, values: &[Fraction], stage: &Stage) -> Option<Fraction>
-    requires raising { AreBounding variable stage.now.raising.items }
-    requires lowering { AreBounding variable stage.now.lowering.items }
-    ensures value { Gives limited result (least_allowed limited variable (fractions_of values.now) stage.now.raising.items stage.now.lowering.items) }
-    ensures unfit { IsNone result → limited ≡ false → CanBoundAll variable (fractions_of values.now) stage.now.raising.items → CanBoundAll variable (fractions_of values.now) stage.now.lowering.items → ⊥ }
+    requires raising { AreBounding variable (bare stage.now.raising.items) }
+    requires lowering { AreBounding variable (bare stage.now.lowering.items) }
+    ensures value { Gives limited result (least_allowed limited variable (fractions_of values.now) (bare stage.now.raising.items) (bare stage.now.lowering.items)) }
+    ensures unfit { IsNone result → limited ≡ false → CanBoundAll variable (fractions_of values.now) (bare stage.now.raising.items) → CanBoundAll variable (fractions_of values.now) (bare stage.now.lowering.items) → ⊥ }
 {
     if let Some((first, rest)) = stage.raising.as_slice().split_first() {
         return best_of(limited, true, variable, values, first, rest);
@@ -69,20 +71,20 @@ fn best_of(
     greatest: bool,
     variable: u32,
     values: &[Fraction],
-    first: &Row,
-    rest: &[Row],
+    first: &Numbered,
+    rest: &[Numbered],
 ) -> Option<Fraction>
-    requires first { IsBounding variable first.now }
-    requires rest { AreBounding variable rest.now }
-    ensures value { Gives limited result (best_of (better_of greatest) limited variable (fractions_of values.now) first.now rest.now) }
-    ensures unfit { IsNone result → limited ≡ false → CanBound variable (fractions_of values.now) first.now → CanBoundAll variable (fractions_of values.now) rest.now → ⊥ }
+    requires first { IsBounding variable first.now.row }
+    requires rest { AreBounding variable (bare rest.now) }
+    ensures value { Gives limited result (best_of (better_of greatest) limited variable (fractions_of values.now) first.now.row (bare rest.now)) }
+    ensures unfit { IsNone result → limited ≡ false → CanBound variable (fractions_of values.now) first.now.row → CanBoundAll variable (fractions_of values.now) (bare rest.now) → ⊥ }
 {
-    let Some(first) = bound(limited, variable, values, first) else {
+    let Some(first) = bound(limited, variable, values, &first.row) else {
         return None;
     };
     let mut best = first;
     'rows: for row in rest {
-        let Some(next) = bound(limited, variable, values, row) else {
+        let Some(next) = bound(limited, variable, values, &row.row) else {
             return None;
         };
         best = better(greatest, best, next);

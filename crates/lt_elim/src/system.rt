@@ -1,14 +1,17 @@
 // A system's own rows.
-ghost use Rattle.std.specs.Prelude.{◌≡◌, ◌≤◌, ◌<◌, ◌^◌, ◌==◌, unsigned_abs, IfOk};
+ghost use Rattle.std.specs.Prelude.{◌≡◌, ◌≤◌, ◌<◌, ◌^◌, ◌==◌, [], ◌∷◌, unsigned_abs, IfOk};
 ghost use Rattle.lt_elim.specs.Divisor.{content};
 ghost use Rattle.lt_elim.specs.Decision.{variables_in, variables};
 ghost use Rattle.lt_elim.specs.Difference.{is_difference, are_differences};
 ghost use Rattle.lt_elim.specs.Elimination.{keep, keep_all};
 ghost use Rattle.lt_elim.specs.Progress.{outcome, AllInOrder, HaveContents};
+ghost use Rattle.lt_elim.specs.Tracing.{Traces, Traced, TracedOn};
 
+use crate::combination::Sum;
 use crate::event::Event;
 use crate::keep::keep;
 use crate::kept::Kept;
+use crate::log::Log;
 use lt_lin::Row;
 use std::alloc::{AllocError, Global};
 use std::vec::Vec;
@@ -19,13 +22,19 @@ pub(crate) fn keep_rows(
     limited: bool,
     variable: u32,
     kept: &mut Kept,
+    log: &mut Log,
     rows: &[Row],
 ) -> Result<Option<Event>, AllocError>
     requires { HaveContents rows.now }
-    ensures { IfOk result (λ e. keep_all limited variable kept.old rows.now ≡ outcome e kept.new) }
+    ensures kept { IfOk result (λ e. keep_all limited variable kept.old.rows rows.now ≡ outcome e kept.new.rows) }
+    ensures traced { IfOk result (λ e. Traces rows.now rows.now log.old kept.old.numbered → Traced rows.now rows.now e log.new kept.new.numbered) }
 {
-    'rows: for row in rows {
-        let event = keep_row(alloc, limited, variable, kept, row)?;
+    let Ok(count) = u32::try_from(rows.len()) else {
+        return Err(AllocError);
+    };
+    'rows: for number in 0..count {
+        let row = &rows[number as usize];
+        let event = keep_row(alloc, limited, variable, kept, log, row, number)?;
         if event.is_some() {
             return Ok(event);
         }
@@ -38,14 +47,19 @@ fn keep_row(
     limited: bool,
     variable: u32,
     kept: &mut Kept,
+    log: &mut Log,
     row: &Row,
+    number: u32,
 ) -> Result<Option<Event>, AllocError>
     requires { content row.now.terms < 2 ^ 127 }
-    ensures { IfOk result (λ e. keep limited variable kept.old row.now ≡ outcome e kept.new) }
+    ensures kept { IfOk result (λ e. keep limited variable kept.old.rows row.now ≡ outcome e kept.new.rows) }
+    ensures traced { IfOk result (λ e. TracedOn log.old kept.old.numbered (record { row = row.now; number = number } ∷ []) e log.new kept.new.numbered) }
 {
     let mut terms = Vec::new(alloc);
     terms.extend_from_slice(row.terms.as_slice())?;
-    keep(alloc, limited, variable, kept, terms, row.constant)
+    let constant = row.constant;
+    let row = Sum { terms, constant };
+    keep(alloc, limited, variable, kept, log, row, number)
 }
 
 /// How many variables there are: 0 to the greatest that stands in the rows.
