@@ -1,6 +1,6 @@
 -- What the condition on a system says of its rows, and of those that are kept of it.
 use Rattle.std.proofs.Common.{arith, ◌≡◌, refl, sym, ◌∙◌, ap, subst, ℕ, suc, zero, ℤ, pos, negsuc, ◌*ℤ◌, ◌≤ℤ◌, ◌+◌, ◌-◌, ◌*◌, ◌/◌, ◌^◌, ◌<◌, ◌≤◌, List, [], ◌∷◌, ◌++◌, length, ◌⊎◌, inl, inr, Bool, true, false, ◌&&◌, ◌||◌, not, Option, Some, None, suc-mul}
-use Rattle.std.specs.Prelude.{neg_ℤ, int_lt, nat_lt, if◌then◌else◌, map, unsigned_abs}
+use Rattle.std.specs.Prelude.{neg_ℤ, int_lt, nat_lt, if◌then◌else◌, map, unsigned_abs, nat_le, IsTrue}
 use Rattle.std.specs.Ordering.{int_eq}
 use Rattle.std.proofs.Math.Nat.{div-le_self}
 use Rattle.std.proofs.lemmas.Int.{ints}
@@ -348,3 +348,25 @@ run_stages limited rows n last kept ss e l h c s = record {
   count = c ∙ e;
   stages = subst (λ (m : ℕ). AreStages limited m kept ss) e s;
 }
+
+-- ---- the test of the condition
+le_told : (p k : ℕ) → nat_le p k ≡ true → p ≤ k
+le_told p k e = grind arith
+
+le_tells : (p k : ℕ) → p ≤ k → nat_le p k ≡ true
+le_tells p k l = grind arith
+
+pub condition_told : (rows : List Row) (count size product : ℕ) → count ≡ variables rows + 1 → size ≡ greatest rows → product ≡ count * size → (IsTrue (nat_le product (2 ^ 125)) → CanDecide rows) × (CanDecide rows → IsTrue (nat_le product (2 ^ 125)))
+unfolding CanDecide
+condition_told rows count size product c s p =
+    let is : product ≡ (variables rows + 1) * greatest rows = p ∙ ap (λ (n : ℕ). n * size) c ∙ ap (λ (n : ℕ). (variables rows + 1) * n) s in
+    ((λ t. subst (λ (n : ℕ). n ≤ 2 ^ 125) is (le_told product (2 ^ 125) t)), (λ d. le_tells product (2 ^ 125) (subst (λ (n : ℕ). n ≤ 2 ^ 125) (sym is) d)))
+
+pub condition_passed : (rows : List Row) (count size : ℕ) → count ≡ variables rows + 1 → size ≡ greatest rows → (count * size < 2 ^ 128 → ⊥) → CanDecide rows → ⊥
+unfolding CanDecide
+condition_passed rows count size c s h d =
+    let is : count * size ≡ (variables rows + 1) * greatest rows = ap (λ (n : ℕ). n * size) c ∙ ap (λ (n : ℕ). (variables rows + 1) * n) s in
+    h (below (count * size) ((variables rows + 1) * greatest rows) is d)
+  where
+    below : (a b : ℕ) → a ≡ b → b ≤ 2 ^ 125 → a < 2 ^ 128
+    below a b e l = omega arith

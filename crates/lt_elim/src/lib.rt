@@ -4,6 +4,7 @@
 mod arithmetic;
 mod combination;
 mod comparison;
+mod condition;
 mod deciding;
 mod decision;
 mod divisor;
@@ -23,6 +24,7 @@ mod stage;
 mod stages;
 mod system;
 
+pub use condition::can_decide;
 pub use deciding::decide;
 pub use decision::Decision;
 pub use law::{
