@@ -1,0 +1,9 @@
+// The machine runs graphs: `run_into` shows a watch each mark of a run, and `run` keeps the marks. `specs/Promise.antt` says what they
+// promise.
+#![tactic(auto)]
+
+mod outcome;
+mod watch;
+
+pub use outcome::{Brief, Outcome};
+pub use watch::{MarkList, Watch};
