@@ -24,6 +24,7 @@ pub use flow::{Fault, Stop};
 pub use loading::load;
 pub use looking::look;
 pub use marking::mark;
+pub use operands::{is_content_of, used};
 pub use placing::{address_of, begin, create, end, place, seal};
 pub use results::{apply_to, compare, constant, move_address, subtract};
 pub use storing::store;

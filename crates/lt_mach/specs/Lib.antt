@@ -1,3 +1,9 @@
+pub mod Kinds
 pub mod Seeing
+pub mod Standing
+pub mod Stubs
+pub mod Does
+pub mod Calling
+pub mod Parameters
 pub mod Promise
 pub use Rattle.lt_mem.specs.Image

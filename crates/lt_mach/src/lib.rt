@@ -2,7 +2,17 @@
 // promise.
 #![tactic(auto)]
 
+mod acting;
+mod calling;
+mod finding;
+mod flow;
+mod leading;
+mod machine;
+mod objects;
 mod outcome;
+mod parameters;
+mod stubbing;
+mod values;
 mod watch;
 
 pub use outcome::{Brief, Outcome};

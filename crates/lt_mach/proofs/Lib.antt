@@ -1,0 +1,6 @@
+pub mod Ways
+pub mod Returning
+pub mod Gathering
+pub mod Passing
+pub mod Entering
+pub mod After
