@@ -4,3 +4,5 @@ pub mod Gathering
 pub mod Passing
 pub mod Entering
 pub mod After
+pub mod Showing
+pub mod Finishing

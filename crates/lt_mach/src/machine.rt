@@ -1,12 +1,14 @@
 //! Where a run stands.
 
-ghost use Rattle.std.specs.Prelude.{◌≡◌, OnOk};
+ghost use Rattle.std.specs.Prelude.{◌≡◌, [], IfOk, OnOk};
+ghost use Rattle.lt_ir.specs.Starting.{nowhere};
+ghost use Rattle.lt_mach.specs.Standing.{IsFit, at_of};
 ghost use Rattle.lt_mach.specs.Calling.{Keeps, Waits, beginning};
 
-use lt_ir::Code;
-use lt_mach_parts::{Bounds, Registers, Scope, Stubs};
+use lt_ir::{Code, Graph};
+use lt_mach_parts::{Bounds, Registers, Scope, Stubs, stub_places};
 use lt_mem::Memory;
-use lt_model::Content;
+use lt_model::{Content, Input};
 use std::alloc::{AllocError, Global};
 use std::mem::swap;
 
@@ -48,7 +50,9 @@ pub struct Machine<'a> {
 
 impl Call {
     // A call without registers and variables.
-    fn new(alloc: Global) -> Result<Call, AllocError> {
+    fn new(alloc: Global) -> Result<Call, AllocError>
+        ensures { IfOk result (λ call. call.scope ≡ []) }
+    {
         let scope = Scope::new(alloc, Bounds::new(alloc))?;
         Ok(Call {
             code: 0,
@@ -60,6 +64,36 @@ impl Call {
 }
 
 impl<'a> Machine<'a> {
+    /// A machine for a graph, where nothing is there but the input's values for functions without a body.
+    pub fn new(
+        alloc: Global,
+        graph: &Graph,
+        input: &'a Input,
+        ticks: u64,
+    ) -> Result<Machine<'a>, AllocError>
+        ensures fit { IfOk result (IsFit graph.now) }
+        ensures stands { IfOk result (λ machine. at_of machine [] ≡ nowhere input.now ticks) }
+        ensures first { IfOk result (λ machine. machine.callers.items ≡ []) }
+    {
+        let call = Call::new(alloc)?;
+        let sets = input.stubs.as_slice();
+        let places = stub_places(alloc, graph.stubs.as_slice(), sets)?;
+        let stubs = Stubs::new(alloc, sets)?;
+        let memory = Memory::new(alloc, graph.model)?;
+        Ok(Machine {
+            alloc,
+            call,
+            callers: Vec::new(alloc),
+            spare: Vec::new(alloc),
+            arguments: Vec::new(alloc),
+            memory,
+            stubs,
+            places,
+            ticks,
+            depth: 1,
+        })
+    }
+
     // A call whose room may be used again.
     fn room(&mut self) -> Result<Call, AllocError>
         ensures { Keeps self.old self.new }

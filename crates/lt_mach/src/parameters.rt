@@ -1,11 +1,10 @@
 //! Parameters: their objects, and the values that these get.
 
-ghost use Rattle.std.specs.Prelude.{◌≡◌, List};
-ghost use Rattle.lt_ir.specs.Running.{Bound};
+ghost use Rattle.std.specs.Prelude.{◌≡◌};
 ghost use Rattle.lt_ir.specs.Evaluation.{store_one, store_parameters};
 ghost use Rattle.lt_ir.specs.Graph.{shapes_in};
 ghost use Rattle.lt_acts.specs.Placing.{Changes};
-ghost use Rattle.lt_mach.specs.Parameters.{begin_all, put_at, pass_to, take_all};
+ghost use Rattle.lt_mach.specs.Parameters.{begin_all, put_at, pass_to, take_all, Stores};
 
 use lt_acts::{Fault, Stop, begin, is_content_of, place, used};
 use lt_ir::Variable;
@@ -20,7 +19,7 @@ pub fn put(
     ty: CellType,
     content: Content,
 ) -> Result<(), Stop>
-    ensures puts { (scope : List Bound) → Changes (put_at memory.old.model ty at content) scope memory.old.blocks result scope memory.new.blocks }
+    ensures puts { Stores (put_at memory.old.model ty at content) memory.old.blocks result memory.new.blocks }
     ensures model { memory.new.model ≡ memory.old.model }
 {
     if !is_content_of(memory.model(), ty, content) {

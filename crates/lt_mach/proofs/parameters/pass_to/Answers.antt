@@ -26,4 +26,4 @@ pub returns-clause-passes : goal.returns-clause-passes
 returns-clause-passes c = λ at.
     let here = standing c.args.scope.now c.args.memory.now.blocks at in
     came _ _ _ _ (first_gives (used c.args.content) _ here here c.in_ok-held.held (c.in_ok-held.ensures _ here))
-    (came _ _ _ _ (first_gives (place (Parameter c.args.number)) _ here here c.in_ok-at.at (c.in_ok-at.ensures here)) (c.put.ensures.puts _ at))
+    (came _ _ _ _ (first_gives (place (Parameter c.args.number)) _ here here c.in_ok-at.at (c.in_ok-at.ensures here)) (c.put.ensures.puts here))
