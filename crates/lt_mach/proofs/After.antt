@@ -1,19 +1,17 @@
 -- What follows an act that was done.
-use Rattle.std.proofs.Common.{◌≡◌, ℕ, List, Option, Some, Result, Ok, Err, IfOk, refl, ap, sym, ◌∙◌}
+use Rattle.std.proofs.Common.{ℕ, List, Option, Some, Result, Ok, Err, IfOk}
 use Rattle.lt_model.specs.State.{Made}
 use Rattle.std.specs.declared.alloc.AllocError.{AllocError}
 use Rattle.lt_ir.specs.declared.code.Code.{Code}
 use Rattle.lt_ir.specs.declared.graph.Graph.{Graph}
 use Rattle.lt_ir.specs.declared.node.Node.{Node}
 use Rattle.lt_ir.specs.Graph.{act}
-use Rattle.lt_ir.specs.Prepared.{place_of}
 use Rattle.lt_acts.specs.Acts.{Comes}
 use Rattle.lt_acts.specs.declared.flow.Stop.{Stop}
 use Rattle.lt_acts.specs.declared.flow.Stop.TheVariants.{Over, NoMemory}
 use Rattle.lt_mach.specs.declared.flow.Flow.{Flow}
-use Rattle.lt_mach.specs.declared.flow.Flow.TheVariants as flow
 use Rattle.lt_mach.specs.declared.machine.Machine.{Machine}
-use Rattle.lt_mach.specs.Does.{Does, Follows, moved_on}
+use Rattle.lt_mach.specs.Does.{Does, Follows}
 use Rattle.lt_mach.specs.Standing.{StaysFit, state_of}
 
 -- the act of a node, and where the run goes on behind it

@@ -1,5 +1,5 @@
 -- Functions that are entered.
-use Rattle.std.proofs.Common.{◌≡◌, ℕ, suc, ◌+◌, nat_lt, List, [], ◌∷◌, ◌++◌, Bool, true, false, Option, Result, Ok, Err, refl, ap, sym, ◌∙◌, if◌then◌else◌}
+use Rattle.std.proofs.Common.{◌≡◌, ℕ, suc, ◌+◌, nat_lt, List, [], ◌∷◌, Bool, true, false, Option, Result, Ok, Err, refl, ap, sym, ◌∙◌, if◌then◌else◌}
 use Rattle.lt_model.specs.declared.cell.Content.{Content}
 use Rattle.lt_model.specs.declared.cell.Shape.{Shape}
 use Rattle.lt_model.specs.declared.scalar.DataModel.{DataModel}
@@ -13,9 +13,9 @@ use Rattle.lt_ir.specs.declared.graph.Graph.{Graph}
 use Rattle.lt_ir.specs.declared.node.Node.TheVariants.{Call}
 use Rattle.std.specs.Prelude.{slice_get, Some}
 use Rattle.lt_ir.specs.declared.variable.Variable.TheVariants.{Parameter}
-use Rattle.lt_ir.specs.Running.{At, Answer, Bound, Step, ◌>>=◌, ◌>>◌, begins, begin_parameters, statics_of, with_scope, most_calls, one_deeper}
+use Rattle.lt_ir.specs.Running.{At, Answer, Bound, Step, ◌>>◌, begins, begin_parameters, statics_of, most_calls}
 use Rattle.lt_ir.specs.Evaluation.{store_parameters}
-use Rattle.lt_ir.specs.Graph.{Next, Stops, shapes_in, contents_from, entering, begun, calls, caller, going}
+use Rattle.lt_ir.specs.Graph.{Stops, shapes_in, contents_from, entering, begun, calls, caller, going}
 use Rattle.lt_ir.specs.Prepared.{place_of}
 use Rattle.lt_acts.specs.Ends.{end_of}
 use Rattle.lt_acts.specs.Placing.{standing, Changes}

@@ -5,7 +5,7 @@ use Rattle.lt_model.specs.declared.run.Mark.{Mark}
 use Rattle.lt_model.specs.declared.run.End.{End as RunEnd}
 use Rattle.lt_model.specs.State.{Made}
 use Rattle.lt_ir.specs.declared.graph.Graph.{Graph}
-use Rattle.lt_ir.specs.Graph.{next_of, step, steps}
+use Rattle.lt_ir.specs.Graph.{next_of, steps}
 use Rattle.lt_ir.specs.Prepared.{place_of}
 use Rattle.lt_ir.specs.Outcomes.{mark_of}
 use Rattle.lt_ends.specs.Gauge.{gauge, StepsLowerTheGauge}

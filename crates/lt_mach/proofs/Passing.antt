@@ -1,6 +1,5 @@
 -- Steps that follow one another, on a scope and memory.
-use Rattle.std.proofs.Common.{◌≡◌, ℕ, suc, ◌+◌, ◌<◌, List, [], ◌∷◌, length, drop, get_or, Bool, Result, Ok, Err, refl, subst, ap, sym, ◌∙◌, add-one}
-use Rattle.std.proofs.Math.Seq.{drop-cons}
+use Rattle.std.proofs.Common.{◌≡◌, List, Result, Ok, Err, subst, ap, sym, ◌∙◌}
 use Rattle.lt_model.specs.State.{Gives, Ends}
 use Rattle.lt_model.specs.declared.run.End.{End as RunEnd}
 use Rattle.lt_model.specs.Memory.{Memory}

@@ -1,12 +1,11 @@
 -- Calls that give their value.
-use Rattle.std.proofs.Common.{◌≡◌, ℕ, zero, suc, ◌-◌, List, [], ◌∷◌, ◌++◌, true, Option, Ok, Err, refl, ap, sym, ◌∙◌, sub-one, arith}
+use Rattle.std.proofs.Common.{◌≡◌, ℕ, zero, suc, ◌-◌, List, [], ◌∷◌, ◌++◌, true, Option, Ok, Err, refl, ap, ◌∙◌, arith}
 use Rattle.lt_model.specs.declared.cell.Content.{Content}
-use Rattle.lt_model.specs.State.{Made}
 use Rattle.lt_ir.specs.declared.code.Code.{Code}
 use Rattle.lt_ir.specs.declared.graph.Graph.{Graph}
 use Rattle.lt_ir.specs.declared.node.Given.{Given}
 use Rattle.lt_ir.specs.declared.node.Node.TheVariants.{Return}
-use Rattle.lt_ir.specs.Graph.{State, Goes, Frame, returns, given, targets, are_static, one_less}
+use Rattle.lt_ir.specs.Graph.{returns, given, targets, are_static, one_less}
 use Rattle.lt_ir.specs.Prepared.{place_of}
 use Rattle.lt_acts.specs.Acts.{Reads}
 use Rattle.lt_acts.specs.Ends.{end_of}
@@ -16,7 +15,7 @@ use Rattle.lt_mach.specs.declared.flow.Flow.TheVariants as flow
 use Rattle.lt_mach.specs.declared.machine.Caller.{Caller}
 use Rattle.lt_mach.specs.declared.machine.Call.{Call}
 use Rattle.lt_mach.specs.declared.machine.Machine.{Machine}
-use Rattle.lt_mach.specs.Standing.{at_of, frame_of, frames_of, state_of}
+use Rattle.lt_mach.specs.Standing.{at_of, frame_of, frames_of}
 use Rattle.lt_mach.specs.Calling.{Leaves}
 use Rattle.lt_mach.specs.Does.{Does}
 use Rattle.lt_mach.proofs.Ways.{the_same, after_gives, after_ends}

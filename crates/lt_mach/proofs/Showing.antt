@@ -1,10 +1,9 @@
 -- Marks that are made, and steps of a run.
-use Rattle.std.proofs.Common.{◌≡◌, ℕ, List, [], ◌∷◌, ◌++◌, map, Option, Some, None, refl, ap, sym, subst, ◌∙◌, append-nil}
+use Rattle.std.proofs.Common.{◌≡◌, ℕ, List, [], ◌∷◌, map, Option, Some, None, refl, ap, sym, subst, ◌∙◌, append-nil}
 use Rattle.std.specs.Prelude.{slice_get}
 use Rattle.lt_model.specs.declared.run.Binding.{Binding as HeldBinding}
 use Rattle.lt_model.specs.declared.run.Mark.{Mark}
 use Rattle.lt_model.specs.declared.run.End.TheVariants.{Stopped}
-use Rattle.lt_model.specs.State.{Made}
 use Rattle.lt_ir.specs.declared.code.Code.{Code}
 use Rattle.lt_ir.specs.declared.code.LabelInfo.{LabelInfo}
 use Rattle.lt_ir.specs.declared.graph.Graph.{Graph}
@@ -12,16 +11,15 @@ use Rattle.lt_ir.specs.declared.node.Node.{Node}
 use Rattle.lt_ir.specs.declared.node.Node.TheVariants as node
 use Rattle.lt_ir.specs.declared.pure.Pure.{Pure as HeldPure}
 use Rattle.lt_ir.specs.PureView.{pure_of}
-use Rattle.lt_ir.specs.Tables.{HaveTables}
 use Rattle.lt_ir.specs.Outcomes.{mark_of, binding_of}
-use Rattle.lt_ir.specs.Graph.{State, Next, Stops, goes, act, step, nodes_of, marks_label}
+use Rattle.lt_ir.specs.Graph.{Stops, goes, act, nodes_of, marks_label}
 use Rattle.lt_acts.specs.Looking.{Marks, made_of, binding_in}
 use Rattle.lt_mach.specs.declared.flow.Flow.{Flow}
 use Rattle.lt_mach.specs.declared.flow.Flow.TheVariants as flow
 use Rattle.lt_mach.specs.declared.machine.Machine.{Machine}
 use Rattle.lt_mach.specs.Seeing.{SawAll}
 use Rattle.lt_mach.specs.Does.{Does, Sees, HasTable, moved_on}
-use Rattle.lt_mach.specs.Standing.{StaysFit, Steps, at_of, state_of, comes}
+use Rattle.lt_mach.specs.Standing.{Steps, at_of, state_of, comes}
 
 -- an act that makes no mark
 pub unseen : {W : Type 0} (saw : W → Mark → W → Type 0) (g : Graph) (o : Option Code) (n : Node) (flow : Flow) (m m1 : Machine) (w : W) → Does g o n flow m m1 → Sees saw g o n flow m m1 w w

@@ -1,5 +1,5 @@
 -- Nodes that lead the run one way or another.
-use Rattle.std.proofs.Common.{◌≡◌, ℕ, ℤ, List, Bool, Option, Ok, Err, refl, ap, sym, ◌∙◌, if◌then◌else◌}
+use Rattle.std.proofs.Common.{◌≡◌, ℕ, ℤ, List, Bool, Option, Ok, Err, refl, ap, if◌then◌else◌}
 use Rattle.lt_model.specs.declared.run.End.{End as RunEnd}
 use Rattle.lt_model.specs.State.{Gives, Ends}
 use Rattle.lt_ir.specs.declared.code.Code.{Code}

@@ -1,6 +1,6 @@
-use Rattle.std.proofs.Common.{◌≡◌, ◌+◌, ◌-◌, ◌∙◌, ap, sym, Some, None, rules, arith, [], ◌∷◌, ◌++◌}
-use Rattle.lt_ir.specs.Graph.{register_at, contents_from}
-use Rattle.lt_mach.proofs.Gathering.{behind, at_first, goes_further, lacks_one, has_all}
+use Rattle.std.proofs.Common.{◌≡◌, ◌+◌, ◌-◌, ◌∙◌, ap, sym, Some, None, rules, arith}
+use Rattle.lt_ir.specs.Graph.{register_at}
+use Rattle.lt_mach.proofs.Gathering.{at_first, goes_further, lacks_one, has_all}
 use Rattle.lt_mach.proofs.calling.gather.Goals as goal
 
 pub loop-k-init : goal.loop-k-init

@@ -1,4 +1,3 @@
-use Rattle.std.proofs.Common.{refl}
 use Rattle.lt_mach.proofs.Ways.{branches, branch_ends}
 use Rattle.lt_mach.proofs.machine.Machine.branch.Goals as goal
 use Rattle.lt_mach.proofs.machine.Machine.branch.Goals.{then-is_so, else-is_so}

@@ -1,9 +1,5 @@
-use Rattle.std.proofs.Common.{◌≡◌, ◌∙◌, nat_lt, true, rules, tests, refl, sym, ap, Ok, Err}
+use Rattle.std.proofs.Common.{◌≡◌, nat_lt, true, rules, tests, refl, ap, Ok, Err}
 use Rattle.lt_ir.specs.Running.{most_calls}
-use Rattle.lt_ir.specs.Graph.{shapes_in}
-use Rattle.lt_acts.specs.Placing.{Changes}
-use Rattle.lt_acts.specs.declared.flow.Stop.TheVariants.{Over}
-use Rattle.lt_mach.specs.Parameters.{take_all}
 use Rattle.lt_mach.proofs.Entering.{taken_so, enters, enters_over}
 use Rattle.lt_mach.proofs.machine.Machine.enter.Goals as goal
 
