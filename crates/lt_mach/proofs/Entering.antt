@@ -30,7 +30,7 @@ use Rattle.lt_mach.specs.Standing.{StaysFit, at_of, state_of, frames_of}
 use Rattle.lt_mach.specs.Calling.{Gathers, Waits, Enters, beginning}
 use Rattle.lt_mach.specs.Does.{Does}
 use Rattle.lt_mach.proofs.Passing.{first_gives}
-use Rattle.lt_mach.proofs.Ways.{the_same, after_gives, after_ends}
+use Rattle.lt_mach.proofs.Ways.{after_gives, after_ends}
 use Rattle.lt_mach.proofs.Returning.{innermost}
 
 -- ---- parameters that aren't zeroed
@@ -62,9 +62,6 @@ pub enters_deeper : (model : DataModel) (code : Code) (xs : List Content) (at : 
 enters_deeper model code xs at e =
     ap (enter_if model code xs at) e
     ∙ ap (λ m. then_step (store_parameters model 0 (shapes_in code.params) xs) m) (plain 0 (shapes_in code.params) (deeper at))
-
-pub too_deep : (model : DataModel) (code : Code) (xs : List Content) (at : At) → nat_lt at.depth most_calls ≡ false → entering model code xs at ≡ Ends Deep at
-too_deep model code xs at e = ap (enter_if model code xs at) e
 
 -- the machine, its call with another scope
 abbrev pub with_taken : Machine → List Bound → Image → Machine
@@ -98,12 +95,6 @@ enters_over model function code target next old mid scope memory why e w h same 
       after_ends (entering model code old.arguments.items) (at_of old marks) (at_of (with_taken mid scope memory) marks) _ (end_of why)
       (taken_at model code target next old mid marks e w ∙ h (at_of mid marks));
   fit = record { model = same ∙ ap (λ m. m.model) w.memory; places = w.places; names = λ name. ap (place_of name) w.stubs };
-}
-
-pub enters_none : (model : DataModel) (function : ℕ) (code : Code) (target : Option ℕ) (next : ℕ) (old : Machine) → nat_lt old.depth most_calls ≡ false → Enters model function code target next (flow.Over Deep) old old
-enters_none model function code target next old e = record {
-  is = λ marks. after_ends (entering model code old.arguments.items) (at_of old marks) (at_of old marks) _ Deep (too_deep model code old.arguments.items (at_of old marks) e);
-  fit = the_same old;
 }
 
 -- the same of equal values

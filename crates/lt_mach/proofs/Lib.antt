@@ -6,3 +6,4 @@ pub mod Entering
 pub mod After
 pub mod Showing
 pub mod Finishing
+pub mod Filling

@@ -1,5 +1,5 @@
 -- Steps that follow one another, on a scope and memory.
-use Rattle.std.proofs.Common.{◌≡◌, List, Result, Ok, Err, subst, ap, sym, ◌∙◌}
+use Rattle.std.proofs.Common.{◌≡◌, List, Result, Ok, Err, subst, ap, sym}
 use Rattle.lt_model.specs.State.{Gives, Ends}
 use Rattle.lt_model.specs.declared.run.End.{End as RunEnd}
 use Rattle.lt_model.specs.Memory.{Memory}
@@ -13,13 +13,6 @@ use Rattle.lt_acts.specs.declared.flow.Stop.TheVariants.{Over, NoMemory}
 abbrev pub Leads : {A : Type 0} → Step A → List Bound → Memory → Step A → List Bound → Memory → Type 0
 Leads step scope memory step1 scope1 memory1 =
     (at : At) → step (standing scope memory at) ≡ step1 (standing scope1 memory1 at)
-
-pub then_done : {A : Type 0} (step : Step A) (part : Step (Unit {0})) (rest : Step A) (scope scope1 scope2 : List Bound) (memory memory1 memory2 : Memory) → Leads step scope memory (part >> rest) scope1 memory1 → Changes part scope1 memory1 (Ok tt) scope2 memory2 → Leads step scope memory rest scope2 memory2
-then_done step part rest scope scope1 scope2 memory memory1 memory2 h d = λ at. h at ∙ ap (λ a. elim a [ Gives x at1 ↦ rest at1 | Ends end at1 ↦ Ends end at1 ]) (d at)
-
-pub then_stops : (step part rest : Step (Unit {0})) (scope scope1 scope2 : List Bound) (memory memory1 memory2 : Memory) (stop : Stop) → Leads step scope memory (part >> rest) scope1 memory1 → Changes part scope1 memory1 (Err stop) scope2 memory2 → Changes step scope memory (Err stop) scope2 memory2
-then_stops step part rest scope scope1 scope2 memory memory1 memory2 (Over why) h d = λ at. h at ∙ ap (λ a. elim a [ Gives x at1 ↦ rest at1 | Ends end at1 ↦ Ends end at1 ]) (d at)
-then_stops step part rest scope scope1 scope2 memory memory1 memory2 NoMemory h d = λ at. tt
 
 pub first_gives : {A B : Type 0} (part : Step A) (go : A → Step B) (at at1 : At) (a : A) → part at ≡ Gives a at1 → (part >>= go) at ≡ go a at1
 first_gives part go at at1 a e = ap (λ m. elim m [ Gives b at2 ↦ go b at2 | Ends end at2 ↦ Ends end at2 ]) e

@@ -1,9 +1,8 @@
 -- Marks that are made, and steps of a run.
-use Rattle.std.proofs.Common.{◌≡◌, ℕ, List, [], ◌∷◌, map, Option, Some, None, refl, ap, sym, subst, ◌∙◌, append-nil}
+use Rattle.std.proofs.Common.{◌≡◌, ℕ, List, [], ◌∷◌, map, Option, Some, refl, ap, sym, subst, ◌∙◌}
 use Rattle.std.specs.Prelude.{slice_get}
 use Rattle.lt_model.specs.declared.run.Binding.{Binding as HeldBinding}
 use Rattle.lt_model.specs.declared.run.Mark.{Mark}
-use Rattle.lt_model.specs.declared.run.End.TheVariants.{Stopped}
 use Rattle.lt_ir.specs.declared.code.Code.{Code}
 use Rattle.lt_ir.specs.declared.code.LabelInfo.{LabelInfo}
 use Rattle.lt_ir.specs.declared.graph.Graph.{Graph}
@@ -12,23 +11,14 @@ use Rattle.lt_ir.specs.declared.node.Node.TheVariants as node
 use Rattle.lt_ir.specs.declared.pure.Pure.{Pure as HeldPure}
 use Rattle.lt_ir.specs.PureView.{pure_of}
 use Rattle.lt_ir.specs.Outcomes.{mark_of, binding_of}
-use Rattle.lt_ir.specs.Graph.{Stops, goes, act, nodes_of, marks_label}
+use Rattle.lt_ir.specs.Graph.{goes, act, nodes_of, marks_label}
 use Rattle.lt_acts.specs.Looking.{Marks, made_of, binding_in}
 use Rattle.lt_mach.specs.declared.flow.Flow.{Flow}
 use Rattle.lt_mach.specs.declared.flow.Flow.TheVariants as flow
 use Rattle.lt_mach.specs.declared.machine.Machine.{Machine}
 use Rattle.lt_mach.specs.Seeing.{SawAll}
-use Rattle.lt_mach.specs.Does.{Does, Sees, HasTable, moved_on}
-use Rattle.lt_mach.specs.Standing.{Steps, at_of, state_of, comes}
-
--- an act that makes no mark
-pub unseen : {W : Type 0} (saw : W → Mark → W → Type 0) (g : Graph) (o : Option Code) (n : Node) (flow : Flow) (m m1 : Machine) (w : W) → Does g o n flow m m1 → Sees saw g o n flow m m1 w w
-unseen saw g o n flow m m1 w d = record {
-  made = [];
-  is = λ marks. d.is marks ∙ ap (comes flow m1) (sym (append-nil marks));
-  watched = refl;
-  fit = d.fit;
-}
+use Rattle.lt_mach.specs.Does.{Sees, HasTable, moved_on}
+use Rattle.lt_mach.specs.Standing.{Steps, at_of, state_of}
 
 bound_back : (its : List HeldBinding) → map binding_of (map binding_in its) ≡ its
 bound_back [] = refl
@@ -52,17 +42,6 @@ seen saw g o m k next label predicate bound mark w w1 e h s = record {
   fit = record { model = refl; places = refl; names = λ name. refl };
 }
 
--- there is no such label
-pub none_seen : {W : Type 0} (saw : W → Mark → W → Type 0) (g : Graph) (o : Option Code) (m : Machine) (k next : ℕ) (predicate : HeldPure) (bound : List HeldPure) (w : W) → slice_get g.labels k ≡ None → Sees saw g o (node.Mark k predicate bound next) flow.Goes m (moved_on next m) w w
-none_seen saw g o m k next predicate bound w e = record {
-  made = [];
-  is = λ marks.
-      ap (λ it. goes (state_of m marks) next (marks_label g.model it (pure_of predicate) (map pure_of bound) (at_of m marks))) e
-      ∙ ap (λ l. goes (state_of m marks) next (at_of m l)) (sym (append-nil marks));
-  watched = refl;
-  fit = record { model = refl; places = refl; names = λ name. refl };
-}
-
 -- ---- steps
 
 pub steps_so : {W : Type 0} (saw : W → Mark → W → Type 0) (g : Graph) (code : Code) (n : Node) (flow : Flow) (m m1 : Machine) (w w1 : W) → slice_get g.codes m.call.code ≡ Some code → slice_get code.nodes m.call.place ≡ Some n → Sees saw g (Some code) n flow m m1 w w1 → Steps saw g flow m m1 w w1
@@ -74,28 +53,6 @@ steps_so saw g code n flow m m1 w w1 e f s = record {
       ∙ s.is marks;
   watched = s.watched;
   fit = s.fit;
-}
-
--- no node stands there
-pub no_node : {W : Type 0} (saw : W → Mark → W → Type 0) (g : Graph) (code : Code) (m : Machine) (w : W) → slice_get g.codes m.call.code ≡ Some code → slice_get code.nodes m.call.place ≡ None → Steps saw g (flow.Over Stopped) m m w w
-no_node saw g code m w e f = record {
-  made = [];
-  is = λ marks.
-      ap (λ o. act g o (slice_get (nodes_of o) m.call.place) (state_of m marks)) e
-      ∙ ap (λ o. act g (Some code) o (state_of m marks)) f
-      ∙ ap (λ l. Stops Stopped (at_of m l)) (sym (append-nil marks));
-  watched = refl;
-  fit = record { model = refl; places = refl; names = λ name. refl };
-}
-
-pub no_code : {W : Type 0} (saw : W → Mark → W → Type 0) (g : Graph) (m : Machine) (w : W) → slice_get g.codes m.call.code ≡ None → Steps saw g (flow.Over Stopped) m m w w
-no_code saw g m w e = record {
-  made = [];
-  is = λ marks.
-      ap (λ o. act g o (slice_get (nodes_of o) m.call.place) (state_of m marks)) e
-      ∙ ap (λ l. Stops Stopped (at_of m l)) (sym (append-nil marks));
-  watched = refl;
-  fit = record { model = refl; places = refl; names = λ name. refl };
 }
 
 pub has_table : (g : Graph) (f i : ℕ) (code : Code) (n : Node) → slice_get g.codes f ≡ Some code → slice_get code.nodes i ≡ Some n → HasTable n

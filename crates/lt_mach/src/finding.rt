@@ -4,7 +4,7 @@ ghost use Rattle.std.specs.Prelude.{◌≡◌, option_copied, slice_get};
 ghost use Rattle.lt_mach.specs.Stubs.{flat};
 
 use lt_ir::{Code, Graph, LabelInfo, Node};
-use lt_model::Name;
+use lt_model::{Content, Name};
 
 /// The code of a function.
 pub fn code_at(graph: &Graph, number: u32) -> Option<&Code>
@@ -42,4 +42,11 @@ pub fn place_at(places: &[Option<usize>], number: u32) -> Option<usize>
         Some(place) => *place,
         None => None,
     }
+}
+
+/// The content at a place, if there is one.
+pub fn content_at(contents: &[Content], place: usize) -> Option<Content>
+    ensures { result ≡ slice_get contents.now place }
+{
+    contents.get(place).copied()
 }

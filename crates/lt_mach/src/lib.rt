@@ -11,6 +11,7 @@ mod machine;
 mod objects;
 mod outcome;
 mod parameters;
+mod statics;
 mod stepping;
 mod stubbing;
 mod values;
