@@ -7,3 +7,4 @@ pub mod After
 pub mod Showing
 pub mod Finishing
 pub mod Filling
+pub mod Naming

@@ -5,5 +5,6 @@ pub mod Stubs
 pub mod Does
 pub mod Calling
 pub mod Parameters
+pub mod Blocks
 pub mod Promise
 pub use Rattle.lt_mem.specs.Image

@@ -3,6 +3,7 @@
 #![tactic(auto)]
 
 mod acting;
+mod blocks;
 mod calling;
 mod finding;
 mod flow;

@@ -1,0 +1,14 @@
+use Rattle.std.proofs.Common.{◌≡◌, length, drop, Result}
+use Rattle.lt_model.specs.Memory.{Memory}
+use Rattle.lt_ir.specs.Running.{At}
+use Rattle.lt_ir.specs.Starting.{start_blocks}
+use Rattle.lt_acts.specs.Acts.{on}
+use Rattle.lt_acts.specs.declared.flow.Stop.{Stop}
+use Rattle.lt_mach.specs.Blocks.{Made}
+use Rattle.lt_mach.proofs.blocks.start_blocks.Given as goal
+
+abbrev pub invariant-loop-it : goal.invariant-loop-it
+invariant-loop-it l = record {
+  completes : (result : Result (Unit {0}) Stop) (m : Memory) (at : At) → Made (drop l.it-index l.blocks) result (length l.memory.blocks) (on m at) (start_blocks (drop l.it-index l.blocks) (on l.memory.blocks at)) → Made l.blocks result (length l.initial.memory.blocks) (on m at) (start_blocks l.blocks (on l.initial.memory.blocks at));
+  model : l.memory.model ≡ l.initial.memory.model;
+}
