@@ -4,7 +4,7 @@ use Rattle.std.specs.Fmt.{digits}
 use Rattle.lt_model.specs.Layout.{struct_cells, struct_extent}
 use Rattle.lt_token.specs.Words.{annotations, attributes, assemblers, unsupported, keywords, skipped, respelled, spells_const, spells_volatile, spells_signed, word_of}
 use Rattle.lt_tree.specs.Typing.Shapes.{struct_cells_at}
-use Rattle.lt_entry.specs.Examples.{list_lines, list_suite_lines, LinkedListsAreSpecified, LinkedListsAreTested, LinkedListsMeet}
+use Rattle.lt_entry.specs.Examples.{list_lines, list_suite_lines, LinkedListsAreSpecified, LinkedListsAreTested, LinkedListsMeet, LinkedListsAreBuilt}
 
 pub specified : LinkedListsAreSpecified
 unfolding digits struct_cells struct_extent struct_cells_at attributes assemblers unsupported annotations keywords skipped respelled spells_const spells_volatile spells_signed word_of
@@ -16,3 +16,6 @@ tested = record { lines = list_suite_lines; all = refl; front = record { written
 
 pub meets : LinkedListsMeet
 meets = record { blocks = refl; sets = refl; cells = refl; stubs = refl; needs = refl }
+
+pub built : LinkedListsAreBuilt
+built = refl

@@ -28,6 +28,7 @@ use Rattle.lt_entry.specs.SpecificationLines.{Line, line_words, entry_line, bloc
 use Rattle.lt_entry.specs.Conditions.{scope_behind, fits, needs_free}
 use Rattle.lt_entry.specs.Specifications.{Specification, specification_in, IsSpecification, faulty_lines}
 use Rattle.lt_entry.specs.Suites.{SuiteLine, test_line, set_line, point_line, values_line, suite_scope, fits_suite, IsSuite}
+use Rattle.lt_entry.specs.Inputs.{built}
 use Rattle.lt_entry.specs.Meeting.{Meets, sets_free_cell, is_wanted, held, keeps_range, needs_hold}
 
 -- ---- how lines are written short
@@ -187,6 +188,15 @@ list_input = record { blocks = list_specification.spec.blocks; cells = (elim (li
 
 abbrev pub LinkedListsMeet : Type 0
 LinkedListsMeet = Meets list_specification.spec list_input
+
+-- The input of the test sets things in the order in which the specification has their cells.
+abbrev pub ordered_cells : List CellSet
+ordered_cells =
+    cellset.Point (at (codes "n") 0) (Some (at (codes "N") 0)) ∷ cellset.Number (at (codes "N") 0) (pos 4)
+    ∷ cellset.Point (at (codes "N") 8) (Some (at (codes "N") 16)) ∷ cellset.Number (at (codes "N") 16) (pos 20) ∷ []
+
+abbrev pub LinkedListsAreBuilt : Type 0
+LinkedListsAreBuilt = map (λ test. (built test list_specification.spec).cells) list_suite.tests ≡ ordered_cells ∷ []
 
 -- ---- a program with more names
 

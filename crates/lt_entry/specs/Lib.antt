@@ -9,4 +9,5 @@ pub mod Meaning
 pub mod Specifications
 pub mod Suites
 pub mod Meeting
+pub mod Inputs
 pub mod Examples

@@ -4,9 +4,7 @@ use Rattle.std.specs.List.{list_all, list_any}
 use Rattle.std.specs.Str.{bytes_eq}
 use Rattle.lt_model.specs.declared.input.CellSet.{CellSet}
 use Rattle.lt_model.specs.declared.input.CellSet.TheVariants as cellset
-use Rattle.lt_model.specs.declared.input.Input.{Input}
 use Rattle.lt_model.specs.declared.input.Place.{Place}
-use Rattle.lt_model.specs.declared.input.Spec.{Spec}
 use Rattle.lt_model.specs.declared.input.StubSet.{StubSet}
 use Rattle.lt_model.specs.declared.scalar.DataModel.{DataModel}
 use Rattle.lt_model.specs.declared.scalar.Scalar.{Scalar}
@@ -155,9 +153,3 @@ pub record IsFirstBadSuiteLine (program : Program) (it : Specification) (text : 
   pub others : List Row
   pub behind : drop (length lines) (rows_of text) ≡ row ∷ others
   pub is : number ≡ row.number
-
--- ---- inputs
-
--- The input of a test: what it doesn't set has what the specification says that it has first.
-abbrev pub built : Test → Spec → Input
-built test spec = record { blocks = spec.blocks; cells = test.cells; stubs = test.stubs }

@@ -6,6 +6,7 @@ ghost use Rattle.lt_entry.specs.Examples.{
   LinkedListsAreSpecified,
   LinkedListsAreTested,
   LinkedListsMeet,
+  LinkedListsAreBuilt,
   RangesAreJudged,
   DefaultBlocksAreNamed,
   BlocksAreJudged,
@@ -29,6 +30,7 @@ pub fn linked_lists_are_built()
     ensures specified { LinkedListsAreSpecified }
     ensures tested { LinkedListsAreTested }
     ensures meets { LinkedListsMeet }
+    ensures built { LinkedListsAreBuilt }
 {}
 
 /// Lines of specifications and suites, in their places and out of them.

@@ -9,3 +9,6 @@ returns-clause-tested c = lists.tested
 
 pub returns-clause-meets : goal.returns-clause-meets
 returns-clause-meets c = lists.meets
+
+pub returns-clause-built : goal.returns-clause-built
+returns-clause-built c = lists.built

@@ -1,0 +1,10 @@
+-- Tests that hold together.
+use Rattle.std.proofs.Common.{◌≡◌, Bool, true, false, refl}
+use Rattle.std.specs.Prelude.{◌&&◌}
+
+pub both : (a b : Bool) → (a && b) ≡ true → (a ≡ true) × (b ≡ true)
+both true b h = (refl, h)
+both false b h = absurd (cc)
+
+pub join : (a b : Bool) → a ≡ true → b ≡ true → (a && b) ≡ true
+join a b g h = rw (g, h) refl

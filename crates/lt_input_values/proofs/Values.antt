@@ -1,0 +1,158 @@
+-- Values for functions without a body, gone along in the order of the ranges.
+use Rattle.std.proofs.Common.{◌≡◌, ℕ, Bool, true, false, cond, List, [], ◌∷◌, ◌++◌, Option, Some, None, refl, sym, ap, ◌∙◌, subst}
+use Rattle.std.specs.Prelude.{◌&&◌, ◌||◌, not}
+use Rattle.std.specs.List.{list_all, list_any, filter, filter_map, find, cons_option}
+use Rattle.std.specs.Str.{bytes_eq}
+use Rattle.std.proofs.lemmas.Slice.Eq.{bytes_eq-Decides}
+use Rattle.lt_model.specs.declared.input.Input.{Input}
+use Rattle.lt_model.specs.declared.input.Spec.{Spec}
+use Rattle.lt_model.specs.declared.input.StubRange.{StubRange}
+use Rattle.lt_model.specs.declared.input.StubSet.{StubSet}
+use Rattle.lt_entry.specs.Meeting.{keeps_range}
+use Rattle.lt_entry.specs.Inputs.{is_for, has_range, stubs_in_order}
+use Rattle.lt_input_values.specs.Walks.{gives_well, stubs_go_along}
+use Rattle.lt_input_values.proofs.Along.{Fits, goes_along-picked}
+use Rattle.lt_input_values.proofs.Truths.{both, join}
+
+-- ---- searches
+
+found_fits : {A : Type 0} (p : A → Bool) (x : A) (xs : List A) (t : Bool) (a : A) → p x ≡ t → (find p xs ≡ Some a → p a ≡ true) → cond t (Some x) (find p xs) ≡ Some a → p a ≡ true
+found_fits p x xs true a e later h = let is : x ≡ a = cc in rw (← is) e
+found_fits p x xs false a e later h = later h
+
+find_fits : {A : Type 0} (p : A → Bool) (xs : List A) (a : A) → find p xs ≡ Some a → p a ≡ true
+find_fits p [] a h = absurd (cc)
+find_fits p (x ∷ xs) a h = found_fits p x xs (p x) a refl (find_fits p xs a) h
+
+nothing_fits : {A : Type 0} (p : A → Bool) (x : A) (xs : List A) (t : Bool) → p x ≡ t → (find p xs ≡ None → list_any p xs ≡ false) → cond t (Some x) (find p xs) ≡ None → (t || list_any p xs) ≡ false
+nothing_fits p x xs true e later h = absurd (cc)
+nothing_fits p x xs false e later h = later h
+
+find_none : {A : Type 0} (p : A → Bool) (xs : List A) → find p xs ≡ None → list_any p xs ≡ false
+find_none p [] h = refl
+find_none p (x ∷ xs) h = nothing_fits p x xs (p x) refl (find_none p xs) h
+
+-- ---- each of a list
+
+abbrev pub Each : {A : Type 0} → (A → Type 0) → List A → Type 0
+Each P [] = Unit {0}
+Each P (x ∷ xs) = P x × Each P xs
+
+each_of_two : {A : Type 0} (P : A → Type 0) (xs ys : List A) → Each P xs → Each P ys → Each P (xs ++ ys)
+each_of_two P [] ys hs gs = gs
+each_of_two P (x ∷ xs) ys hs gs = (hs.0, each_of_two P xs ys hs.1 gs)
+
+each_weaker : {A : Type 0} (P Q : A → Type 0) → ((a : A) → P a → Q a) → (xs : List A) → Each P xs → Each Q xs
+each_weaker P Q weaken [] hs = tt
+each_weaker P Q weaken (x ∷ xs) hs = (weaken x hs.0, each_weaker P Q weaken xs hs.1)
+
+kept_fits : {A : Type 0} (p : A → Bool) (x : A) (xs : List A) (t : Bool) → p x ≡ t → Each (λ a. p a ≡ true) (filter p xs) → Each (λ a. p a ≡ true) (cond t (x ∷ filter p xs) (filter p xs))
+kept_fits p x xs true e hs = (e, hs)
+kept_fits p x xs false e hs = hs
+
+filter_fits : {A : Type 0} (p : A → Bool) (xs : List A) → Each (λ a. p a ≡ true) (filter p xs)
+filter_fits p [] = tt
+filter_fits p (x ∷ xs) = kept_fits p x xs (p x) refl (filter_fits p xs)
+
+-- ---- the values of each function stand once in the order
+
+-- the values are those that are found for each function whose they are
+abbrev IsFound : List StubSet → StubSet → Type 0
+IsFound its it = (range : StubRange) → is_for range it ≡ true → find (is_for range) its ≡ Some it
+
+same_search : (its : List StubSet) (r range : StubRange) → r.name ≡ range.name → find (is_for r) its ≡ find (is_for range) its
+same_search its r range e =
+    let named : List ℕ → Option StubSet = λ name. find (λ it. bytes_eq it.name name) its in
+    ap named e
+
+same_function : (r range : StubRange) (it : StubSet) → is_for r it ≡ true → is_for range it ≡ true → r.name ≡ range.name
+same_function r range it g h = sym ((bytes_eq-Decides it.name r.name).0 g) ∙ (bytes_eq-Decides it.name range.name).0 h
+
+picked_once : (its : List StubSet) (r : StubRange) (o : Option StubSet) (more : List StubSet) → find (is_for r) its ≡ o → Each (IsFound its) more → Each (IsFound its) (cons_option o more)
+picked_once its r None more e hs = hs
+picked_once its r (Some it) more e hs =
+    (λ range h. sym (same_search its r range (same_function r range it (find_fits (is_for r) its it e) h)) ∙ e, hs)
+
+all_found : (its : List StubSet) (ranges : List StubRange) → Each (IsFound its) (filter_map (λ range. find (is_for range) its) ranges)
+all_found its [] = tt
+all_found its (r ∷ ranges) = picked_once its r (find (is_for r) its) (filter_map (λ range. find (is_for range) its) ranges) refl (all_found its ranges)
+
+not_true : (b : Bool) → not b ≡ true → b ≡ false
+not_true true h = absurd (cc)
+not_true false h = refl
+
+-- the values are those that are found for each function of the specification whose they are
+abbrev IsKnown : Spec → List StubSet → StubSet → Type 0
+IsKnown spec its it = (range : StubRange) → has_range spec it ≡ true → is_for range it ≡ true → find (is_for range) its ≡ Some it
+
+all_known : (spec : Spec) (its : List StubSet) → its ≡ stubs_in_order spec its → Each (IsKnown spec its) its
+all_known spec its ordered =
+    let found : Each (IsKnown spec its) (filter_map (λ range. find (is_for range) its) spec.stubs) =
+    each_weaker (IsFound its) (IsKnown spec its) (λ it found range known h. found range h) (filter_map (λ range. find (is_for range) its) spec.stubs) (all_found its spec.stubs) in
+    let unknown : Each (IsKnown spec its) (filter (λ it. not (has_range spec it)) its) =
+    each_weaker (λ it. not (has_range spec it) ≡ true) (IsKnown spec its) (λ it none range known h. absurd (let no : has_range spec it ≡ false = not_true (has_range spec it) none in cc)) (filter (λ it. not (has_range spec it)) its) (filter_fits (λ it. not (has_range spec it)) its) in
+    subst (Each (IsKnown spec its)) (sym ordered) (each_of_two (IsKnown spec its) (filter_map (λ range. find (is_for range) its) spec.stubs) (filter (λ it. not (has_range spec it)) its) found unknown)
+
+-- ---- functions of the specification
+
+abbrev IsOf : List StubRange → StubRange → Type 0
+IsOf ranges range = (it : StubSet) → is_for range it ≡ true → list_any (λ r. is_for r it) ranges ≡ true
+
+or_true : (a b : Bool) → b ≡ true → (a || b) ≡ true
+or_true true b h = refl
+or_true false b h = h
+
+all_of : (ranges : List StubRange) → Each (IsOf ranges) ranges
+all_of [] = tt
+all_of (r ∷ ranges) = (
+  λ it h. rw h refl,
+  each_weaker (IsOf ranges) (IsOf (r ∷ ranges)) (λ range is it h. or_true (is_for r it) _ (is it h)) ranges (all_of ranges),
+)
+
+-- ---- ranges that are kept
+
+keeps_one : (range : StubRange) (o : Option StubSet) (it : StubSet) (t : Bool) → is_for range it ≡ t → (is_for range it ≡ true → o ≡ Some it) → gives_well range o ≡ true → keeps_range range it ≡ true
+keeps_one range o it true e found h = subst (λ x. gives_well range x ≡ true) (found e) h
+keeps_one range o it false e found h = rw e refl
+
+keeps_all : (range : StubRange) (o : Option StubSet) (xs : List StubSet) → Each (λ it. is_for range it ≡ true → o ≡ Some it) xs → gives_well range o ≡ true → list_all (keeps_range range) xs ≡ true
+keeps_all range o [] found h = refl
+keeps_all range o (it ∷ its) found h = join (keeps_range range it) (list_all (keeps_range range) its) (keeps_one range o it (is_for range it) refl found.0 h) (keeps_all range o its found.1 h)
+
+first_kept : (range : StubRange) (it : StubSet) (its : List StubSet) (t : Bool) → keeps_range range it ≡ true → (gives_well range (find (is_for range) its) ≡ true) → gives_well range (cond t (Some it) (find (is_for range) its)) ≡ true
+first_kept range it its true first later = first
+first_kept range it its false first later = later
+
+keeps_found : (range : StubRange) (its : List StubSet) → list_all (keeps_range range) its ≡ true → gives_well range (find (is_for range) its) ≡ true
+keeps_found range [] h = refl
+keeps_found range (it ∷ its) h =
+    let hs = both (keeps_range range it) (list_all (keeps_range range) its) h in
+    first_kept range it its (is_for range it) hs.0 (keeps_found range its hs.1)
+
+same_bools : (a b : Bool) → (a ≡ true → b ≡ true) → (b ≡ true → a ≡ true) → a ≡ b
+same_bools true b f g = sym (f refl)
+same_bools false true f g = g refl
+same_bools false false f g = refl
+
+judged_same : (spec : Spec) (its : List StubSet) → Each (IsKnown spec its) its → (ranges : List StubRange) → Each (IsOf spec.stubs) ranges → list_all (λ range. gives_well range (find (is_for range) its)) ranges ≡ list_all (λ range. list_all (keeps_range range) its) ranges
+judged_same spec its known [] are = refl
+judged_same spec its known (range ∷ ranges) are =
+    let found : Each (λ it. is_for range it ≡ true → find (is_for range) its ≡ Some it) its =
+    each_weaker (IsKnown spec its) (λ it. is_for range it ≡ true → find (is_for range) its ≡ Some it) (λ it is h. is range (are.0 it h) h) its known in
+    let one : gives_well range (find (is_for range) its) ≡ list_all (keeps_range range) its =
+    same_bools (gives_well range (find (is_for range) its)) (list_all (keeps_range range) its) (keeps_all range (find (is_for range) its) its found) (keeps_found range its) in
+    rw (one, judged_same spec its known ranges are.1) refl
+
+range_fits : (its : List StubSet) → Fits is_for (λ range. find (is_for range) its)
+range_fits its range it h = find_fits (is_for range) its it h
+
+and_true : (b : Bool) → (b && true) ≡ b
+and_true true = refl
+and_true false = refl
+
+-- Gone along in their order, the values of each function are in its range.
+pub stubs_along : (spec : Spec) (input : Input) → input.stubs ≡ stubs_in_order spec input.stubs → stubs_go_along spec.stubs input.stubs ≡ list_all (λ range. list_all (keeps_range range) input.stubs) spec.stubs
+stubs_along spec input ordered =
+    goes_along-picked is_for gives_well (λ left. true) (λ range. find (is_for range) input.stubs) (filter (λ it. not (has_range spec it)) input.stubs) (range_fits input.stubs) spec.stubs input.stubs (ordered, λ range h. find_none (is_for range) input.stubs h)
+    ∙ and_true (list_all (λ range. gives_well range (find (is_for range) input.stubs)) spec.stubs)
+    ∙ judged_same spec input.stubs (all_known spec input.stubs ordered) spec.stubs (all_of spec.stubs)
