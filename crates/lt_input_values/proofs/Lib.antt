@@ -4,5 +4,10 @@ pub mod PlaceLaws
 pub mod Sets
 pub mod Bounded
 pub mod Numbers
+pub mod Each
 pub mod Values
 pub mod Judging
+pub mod Steps
+pub mod MapLaws
+pub mod Orders
+pub mod Ordered

@@ -36,7 +36,7 @@ first_of_two place it (Some x) p e = refl
 first_of_two place it None true e = rw e refl
 first_of_two place it None false e = rw e refl
 
-last_or : (place : Place) (it : CellSet) (its : List CellSet) (o : Option StartValue) (p : Bool) → last_set place its ≡ o → same_place (place_set it) place ≡ p → last_set place (it ∷ its) ≡ option_or o (if p then Some (value_set it) else None)
+pub last_or : (place : Place) (it : CellSet) (its : List CellSet) (o : Option StartValue) (p : Bool) → last_set place its ≡ o → same_place (place_set it) place ≡ p → last_set place (it ∷ its) ≡ option_or o (if p then Some (value_set it) else None)
 last_or place it its (Some v) p e h = last_later place it its v e
 last_or place it its None true e h = last_here place it its e h
 last_or place it its None false e h = last_nowhere place it its e h

@@ -1,5 +1,5 @@
 -- Values for functions without a body, gone along in the order of the ranges.
-use Rattle.std.proofs.Common.{◌≡◌, ℕ, Bool, true, false, cond, List, [], ◌∷◌, ◌++◌, Option, Some, None, refl, sym, ap, ◌∙◌, subst}
+use Rattle.std.proofs.Common.{◌≡◌, ℕ, Bool, true, false, cond, List, [], ◌∷◌, Option, Some, None, refl, sym, ap, ◌∙◌, subst}
 use Rattle.std.specs.Prelude.{◌&&◌, ◌||◌, not}
 use Rattle.std.specs.List.{list_all, list_any, filter, filter_map, find, cons_option}
 use Rattle.std.specs.Str.{bytes_eq}
@@ -11,6 +11,7 @@ use Rattle.lt_model.specs.declared.input.StubSet.{StubSet}
 use Rattle.lt_entry.specs.Meeting.{keeps_range}
 use Rattle.lt_entry.specs.Inputs.{is_for, has_range, stubs_in_order}
 use Rattle.lt_input_values.specs.Walks.{gives_well, stubs_go_along}
+use Rattle.lt_input_values.proofs.Each.{Each, each_of_two, each_weaker, filter_fits, members}
 use Rattle.lt_input_values.proofs.Along.{Fits, goes_along-picked}
 use Rattle.lt_input_values.proofs.Truths.{both, join}
 
@@ -20,7 +21,7 @@ found_fits : {A : Type 0} (p : A → Bool) (x : A) (xs : List A) (t : Bool) (a :
 found_fits p x xs true a e later h = let is : x ≡ a = cc in rw (← is) e
 found_fits p x xs false a e later h = later h
 
-find_fits : {A : Type 0} (p : A → Bool) (xs : List A) (a : A) → find p xs ≡ Some a → p a ≡ true
+pub find_fits : {A : Type 0} (p : A → Bool) (xs : List A) (a : A) → find p xs ≡ Some a → p a ≡ true
 find_fits p [] a h = absurd (cc)
 find_fits p (x ∷ xs) a h = found_fits p x xs (p x) a refl (find_fits p xs a) h
 
@@ -32,40 +33,18 @@ find_none : {A : Type 0} (p : A → Bool) (xs : List A) → find p xs ≡ None �
 find_none p [] h = refl
 find_none p (x ∷ xs) h = nothing_fits p x xs (p x) refl (find_none p xs) h
 
--- ---- each of a list
-
-abbrev pub Each : {A : Type 0} → (A → Type 0) → List A → Type 0
-Each P [] = Unit {0}
-Each P (x ∷ xs) = P x × Each P xs
-
-each_of_two : {A : Type 0} (P : A → Type 0) (xs ys : List A) → Each P xs → Each P ys → Each P (xs ++ ys)
-each_of_two P [] ys hs gs = gs
-each_of_two P (x ∷ xs) ys hs gs = (hs.0, each_of_two P xs ys hs.1 gs)
-
-each_weaker : {A : Type 0} (P Q : A → Type 0) → ((a : A) → P a → Q a) → (xs : List A) → Each P xs → Each Q xs
-each_weaker P Q weaken [] hs = tt
-each_weaker P Q weaken (x ∷ xs) hs = (weaken x hs.0, each_weaker P Q weaken xs hs.1)
-
-kept_fits : {A : Type 0} (p : A → Bool) (x : A) (xs : List A) (t : Bool) → p x ≡ t → Each (λ a. p a ≡ true) (filter p xs) → Each (λ a. p a ≡ true) (cond t (x ∷ filter p xs) (filter p xs))
-kept_fits p x xs true e hs = (e, hs)
-kept_fits p x xs false e hs = hs
-
-filter_fits : {A : Type 0} (p : A → Bool) (xs : List A) → Each (λ a. p a ≡ true) (filter p xs)
-filter_fits p [] = tt
-filter_fits p (x ∷ xs) = kept_fits p x xs (p x) refl (filter_fits p xs)
-
 -- ---- the values of each function stand once in the order
 
 -- the values are those that are found for each function whose they are
 abbrev IsFound : List StubSet → StubSet → Type 0
 IsFound its it = (range : StubRange) → is_for range it ≡ true → find (is_for range) its ≡ Some it
 
-same_search : (its : List StubSet) (r range : StubRange) → r.name ≡ range.name → find (is_for r) its ≡ find (is_for range) its
+pub same_search : (its : List StubSet) (r range : StubRange) → r.name ≡ range.name → find (is_for r) its ≡ find (is_for range) its
 same_search its r range e =
     let named : List ℕ → Option StubSet = λ name. find (λ it. bytes_eq it.name name) its in
     ap named e
 
-same_function : (r range : StubRange) (it : StubSet) → is_for r it ≡ true → is_for range it ≡ true → r.name ≡ range.name
+pub same_function : (r range : StubRange) (it : StubSet) → is_for r it ≡ true → is_for range it ≡ true → r.name ≡ range.name
 same_function r range it g h = sym ((bytes_eq-Decides it.name r.name).0 g) ∙ (bytes_eq-Decides it.name range.name).0 h
 
 picked_once : (its : List StubSet) (r : StubRange) (o : Option StubSet) (more : List StubSet) → find (is_for r) its ≡ o → Each (IsFound its) more → Each (IsFound its) (cons_option o more)
@@ -77,7 +56,7 @@ all_found : (its : List StubSet) (ranges : List StubRange) → Each (IsFound its
 all_found its [] = tt
 all_found its (r ∷ ranges) = picked_once its r (find (is_for r) its) (filter_map (λ range. find (is_for range) its) ranges) refl (all_found its ranges)
 
-not_true : (b : Bool) → not b ≡ true → b ≡ false
+pub not_true : (b : Bool) → not b ≡ true → b ≡ false
 not_true true h = absurd (cc)
 not_true false h = refl
 
@@ -98,16 +77,8 @@ all_known spec its ordered =
 abbrev IsOf : List StubRange → StubRange → Type 0
 IsOf ranges range = (it : StubSet) → is_for range it ≡ true → list_any (λ r. is_for r it) ranges ≡ true
 
-or_true : (a b : Bool) → b ≡ true → (a || b) ≡ true
-or_true true b h = refl
-or_true false b h = h
-
 all_of : (ranges : List StubRange) → Each (IsOf ranges) ranges
-all_of [] = tt
-all_of (r ∷ ranges) = (
-  λ it h. rw h refl,
-  each_weaker (IsOf ranges) (IsOf (r ∷ ranges)) (λ range is it h. or_true (is_for r it) _ (is it h)) ranges (all_of ranges),
-)
+all_of ranges = members is_for ranges
 
 -- ---- ranges that are kept
 

@@ -1,0 +1,109 @@
+//! What is set in cells, in the order of the specification.
+
+ghost use Rattle.std.specs.Prelude.{◌≡◌, ◌&&◌, ◌++◌, not, is_some, IfOk, filter, filter_map, find, reverse};
+ghost use Rattle.std.specs.List.{list_any};
+ghost use Rattle.lt_model.specs.declared.input.Place.{Place};
+ghost use Rattle.lt_entry.specs.Conditions.{same_place};
+ghost use Rattle.lt_entry.specs.Meeting.{place_set};
+ghost use Rattle.lt_entry.specs.Inputs.{cells_in_order};
+ghost use Rattle.lt_input_values.specs.Maps.{set_at, has_place};
+
+use crate::copies::set_of;
+use crate::places::place_set;
+use lt_model::{CellSet, FreeCell, Place, Spec};
+use std::alloc::{AllocError, Global};
+use std::collections::{HashMap, HashSet};
+
+// What is set last at each place.
+fn last_sets<'a>(
+    alloc: Global,
+    sets: &'a [CellSet],
+) -> Result<HashMap<(&'a [u8], u64), &'a CellSet>, AllocError>
+    ensures { IfOk result (λ last. (place : Place) → set_at last place ≡ find (λ it. same_place (place_set it) place) (reverse sets.now)) }
+{
+    let mut last = HashMap::new(alloc);
+    for it in sets {
+        let place = place_set(it);
+        last.insert((place.root.as_slice(), place.offset), it)?;
+    }
+    Ok(last)
+}
+
+// What is set last in each free cell, in the order of the cells.
+fn sets_in_cells(
+    alloc: Global,
+    cells: &[FreeCell],
+    last: &HashMap<(&[u8], u64), &CellSet>,
+) -> Result<Vec<CellSet>, AllocError>
+    ensures { IfOk result (λ sets. sets.items ≡ filter_map (λ cell. set_at last.now cell.at) cells.now) }
+{
+    let mut sets = Vec::new(alloc);
+    for cell in cells {
+        match last.get(&(cell.at.root.as_slice(), cell.at.offset)) {
+            Some(it) => sets.push(set_of(alloc, it)?)?,
+            None => {}
+        }
+    }
+    Ok(sets)
+}
+
+// Whether something is set at a place.
+fn is_set(last: &HashMap<(&[u8], u64), &CellSet>, place: &Place) -> bool
+    ensures { result ≡ is_some (set_at last.now place.now) }
+{
+    last.contains_key(&(place.root.as_slice(), place.offset))
+}
+
+// The places of the free cells that are set.
+fn free_places<'a>(
+    alloc: Global,
+    cells: &'a [FreeCell],
+    last: &HashMap<(&[u8], u64), &CellSet>,
+) -> Result<HashSet<(&'a [u8], u64)>, AllocError>
+    ensures { IfOk result (λ free. (place : Place) → has_place free place ≡ list_any (λ cell. same_place cell.at place && is_some (set_at last.now cell.at)) cells.now) }
+{
+    let mut free = HashSet::new(alloc);
+    for cell in cells {
+        if is_set(last, &cell.at) {
+            free.insert((cell.at.root.as_slice(), cell.at.offset))?;
+        }
+    }
+    Ok(free)
+}
+
+fn has_place(places: &HashSet<(&[u8], u64)>, place: &Place) -> bool
+    ensures { result ≡ has_place places.now place.now }
+{
+    places.contains(&(place.root.as_slice(), place.offset))
+}
+
+// Behind these, what is set elsewhere.
+fn with_sets_elsewhere(
+    alloc: Global,
+    mut sets: Vec<CellSet>,
+    all: &[CellSet],
+    free: &HashSet<(&[u8], u64)>,
+) -> Result<Vec<CellSet>, AllocError>
+    ensures { IfOk result (λ more. more.items ≡ sets.items ++ filter (λ it. not (has_place free.now (place_set it))) all.now) }
+{
+    for it in all {
+        if !has_place(free, place_set(it)) {
+            sets.push(set_of(alloc, it)?)?;
+        }
+    }
+    Ok(sets)
+}
+
+/// What is set in free cells, in their order, and behind it what is set elsewhere.
+pub fn cells_in_order(
+    alloc: Global,
+    spec: &Spec,
+    sets: &[CellSet],
+) -> Result<Vec<CellSet>, AllocError>
+    ensures { IfOk result (λ ordered. ordered.items ≡ cells_in_order spec.now sets.now) }
+{
+    let last = last_sets(alloc, sets)?;
+    let cells = spec.cells.as_slice();
+    let free = free_places(alloc, cells, &last)?;
+    with_sets_elsewhere(alloc, sets_in_cells(alloc, cells, &last)?, sets, &free)
+}
