@@ -6,3 +6,9 @@ pub mod PlacesRead
 pub mod RowsRead
 pub mod NumeralLaws
 pub mod LinesRead
+pub mod PieceLaws
+pub mod AllRead
+pub mod Written
+pub mod TermLaws
+pub mod LineLaws
+pub mod SuiteLaws

@@ -2,3 +2,4 @@ pub mod Views
 pub mod Reading
 pub mod LineViews
 pub mod ReadingLines
+pub mod Laws

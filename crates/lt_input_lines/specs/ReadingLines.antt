@@ -1,4 +1,4 @@
--- How lines are read from their words. That what is read is what the words write, and that each line of its form is read, is proved.
+-- How lines are read from their words. `Laws` has that what is read is what the words write, and that each line of its form is read.
 use Rattle.std.specs.Prelude.{ℕ, ◌==◌, Bool, true, false, if◌then◌else◌, List, [], ◌∷◌, codes, Option, Some, None, option_map, option_and_then}
 use Rattle.std.specs.List.{slice_split}
 use Rattle.std.specs.Str.{bytes_eq}

@@ -1,6 +1,7 @@
 // Reads the lines of specifications and suites; their forms stand in the definitions of `lt_entry`, and `specs/Views.antt` says what is kept of them.
 #![tactic(auto)]
 
+mod laws;
 mod number;
 mod place;
 mod row;
@@ -8,6 +9,7 @@ mod specification;
 mod suite;
 mod words;
 
+pub use laws::{lines_are_read, suite_lines_are_read};
 pub use number::{Numeral, numeral_of};
 pub use place::{
     PlaceWord, Step, TargetWord, place_of, single_place_of, single_target_of, target_of,
