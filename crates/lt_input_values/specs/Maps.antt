@@ -1,12 +1,17 @@
 -- What maps have for places and names.
-use Rattle.std.specs.Prelude.{ℕ, ◌==◌, ◌&&◌, Bool, List, Option, option_map}
+use Rattle.std.specs.Prelude.{◌≡◌, ℕ, ◌==◌, ◌&&◌, not, Bool, List, filter, find, reverse, Option, is_some, option_map}
+use Rattle.std.specs.List.{list_any}
 use Rattle.std.specs.Borrow.{Bor}
 use Rattle.std.specs.HashMap.{HashMap, get_by}
 use Rattle.std.specs.HashSet.{HashSet, contains_by}
 use Rattle.std.specs.Str.{bytes_eq}
 use Rattle.lt_model.specs.declared.input.CellSet.{CellSet}
+use Rattle.lt_model.specs.declared.input.FreeCell.{FreeCell}
 use Rattle.lt_model.specs.declared.input.Place.{Place}
+use Rattle.lt_model.specs.declared.input.StubRange.{StubRange}
 use Rattle.lt_model.specs.declared.input.StubSet.{StubSet}
+use Rattle.lt_entry.specs.Conditions.{same_place}
+use Rattle.lt_entry.specs.Meeting.{place_set}
 
 -- a place as a key: the name of its object, and its offset
 abbrev pub Key : Type 0
@@ -23,6 +28,23 @@ set_at map place = option_map (λ it. it.now) (get_by (is_key_of place) map)
 abbrev pub has_place : {S : Type 0} → HashSet Key S → Place → Bool
 has_place places place = contains_by (is_key_of place) places
 
+-- what is set last at a place
+abbrev pub last_at : Place → List CellSet → Option CellSet
+last_at place its = find (λ it. same_place (place_set it) place) (reverse its)
+
+-- The map has for each place what is set last there.
+abbrev pub HasLast : {S : Type 0} → List CellSet → HashMap Key (Bor CellSet) S → Type 0
+HasLast its map = (place : Place) → set_at map place ≡ last_at place its
+
+-- The places are those of the cells for which the map has something.
+abbrev pub HasPlacesSet : {R S : Type 0} → HashMap Key (Bor CellSet) R → List FreeCell → HashSet Key S → Type 0
+HasPlacesSet map cells places =
+    (place : Place) → has_place places place ≡ list_any (λ cell. same_place cell.at place && is_some (set_at map cell.at)) cells
+
+-- what is set at other places
+abbrev pub elsewhere : {S : Type 0} → HashSet Key S → List CellSet → List CellSet
+elsewhere places its = filter (λ it. not (has_place places (place_set it))) its
+
 -- what a map has for a name
 abbrev pub values_for : {S : Type 0} → HashMap (Bor (List ℕ)) (Bor StubSet) S → List ℕ → Option StubSet
 values_for map name = option_map (λ it. it.now) (get_by (λ key. bytes_eq name key.now) map)
@@ -30,3 +52,15 @@ values_for map name = option_map (λ it. it.now) (get_by (λ key. bytes_eq name 
 -- whether a set has a name
 abbrev pub has_name : {S : Type 0} → HashSet (Bor (List ℕ)) S → List ℕ → Bool
 has_name names name = contains_by (λ key. bytes_eq name key.now) names
+
+-- The map has for each name the first values for it.
+abbrev pub HasFirst : {S : Type 0} → List StubSet → HashMap (Bor (List ℕ)) (Bor StubSet) S → Type 0
+HasFirst its map = (name : List ℕ) → values_for map name ≡ find (λ it. bytes_eq it.name name) its
+
+-- The names are those of the ranges.
+abbrev pub HasNames : {S : Type 0} → List StubRange → HashSet (Bor (List ℕ)) S → Type 0
+HasNames ranges names = (name : List ℕ) → has_name names name ≡ list_any (λ range. bytes_eq range.name name) ranges
+
+-- the values for other names
+abbrev pub for_others : {S : Type 0} → HashSet (Bor (List ℕ)) S → List StubSet → List StubSet
+for_others names its = filter (λ it. not (has_name names it.name)) its

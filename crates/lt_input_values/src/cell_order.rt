@@ -1,12 +1,8 @@
 //! What is set in cells, in the order of the specification.
 
-ghost use Rattle.std.specs.Prelude.{◌≡◌, ◌&&◌, ◌++◌, not, is_some, IfOk, filter, filter_map, find, reverse};
-ghost use Rattle.std.specs.List.{list_any};
-ghost use Rattle.lt_model.specs.declared.input.Place.{Place};
-ghost use Rattle.lt_entry.specs.Conditions.{same_place};
-ghost use Rattle.lt_entry.specs.Meeting.{place_set};
+ghost use Rattle.std.specs.Prelude.{◌≡◌, ◌++◌, is_some, IfOk, filter_map};
 ghost use Rattle.lt_entry.specs.Inputs.{cells_in_order};
-ghost use Rattle.lt_input_values.specs.Maps.{set_at, has_place};
+ghost use Rattle.lt_input_values.specs.Maps.{set_at, has_place, HasLast, HasPlacesSet, elsewhere};
 
 use crate::copies::set_of;
 use crate::places::place_set;
@@ -19,7 +15,7 @@ fn last_sets<'a>(
     alloc: Global,
     sets: &'a [CellSet],
 ) -> Result<HashMap<(&'a [u8], u64), &'a CellSet>, AllocError>
-    ensures { IfOk result (λ last. (place : Place) → set_at last place ≡ find (λ it. same_place (place_set it) place) (reverse sets.now)) }
+    ensures { IfOk result (HasLast sets.now) }
 {
     let mut last = HashMap::new(alloc);
     for it in sets {
@@ -60,7 +56,7 @@ fn free_places<'a>(
     cells: &'a [FreeCell],
     last: &HashMap<(&[u8], u64), &CellSet>,
 ) -> Result<HashSet<(&'a [u8], u64)>, AllocError>
-    ensures { IfOk result (λ free. (place : Place) → has_place free place ≡ list_any (λ cell. same_place cell.at place && is_some (set_at last.now cell.at)) cells.now) }
+    ensures { IfOk result (HasPlacesSet last.now cells.now) }
 {
     let mut free = HashSet::new(alloc);
     for cell in cells {
@@ -84,7 +80,7 @@ fn with_sets_elsewhere(
     all: &[CellSet],
     free: &HashSet<(&[u8], u64)>,
 ) -> Result<Vec<CellSet>, AllocError>
-    ensures { IfOk result (λ more. more.items ≡ sets.items ++ filter (λ it. not (has_place free.now (place_set it))) all.now) }
+    ensures { IfOk result (λ more. more.items ≡ sets.items ++ elsewhere free.now all.now) }
 {
     for it in all {
         if !has_place(free, place_set(it)) {

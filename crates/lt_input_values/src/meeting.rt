@@ -41,8 +41,8 @@ fn cells_go_along(cells: &[FreeCell], sets: &[CellSet]) -> bool
     read == sets.len()
 }
 
-/// Whether an input meets a specification. Sets and values come in the order of the specification, as `build` puts them, and its numbers are
-/// so small that sums fit 128 bits. It takes no memory.
+/// Whether an input meets a specification. What it sets comes in the order of the specification, as `build` puts it; the specification
+/// keeps the bounds of its lines, by which sums fit 128 bits. It takes no memory.
 pub fn meets(spec: &Spec, input: &Input) -> bool
     requires ordered { IsInOrder spec.now input.now }
     requires bounded { IsBounded spec.now }

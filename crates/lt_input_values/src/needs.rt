@@ -1,11 +1,12 @@
 //! Requirements.
 
-ghost use Rattle.std.specs.Prelude.{◌≡◌, ◌≤◌, ◌^◌, ◌*ℤ◌, option_map, IfSome, IsTrue, length, true, reverse};
+ghost use Rattle.std.specs.Prelude.{◌≡◌, ◌≤◌, ◌^◌, ◌*ℤ◌, option_map, IfSome, length, true};
 ghost use Rattle.std.specs.List.{find, list_all};
 ghost use Rattle.lt_entry.specs.Conditions.{same_place};
-ghost use Rattle.lt_entry.specs.Meeting.{place_set, value_set, number_of, number_at, sum_of, is_related, needs_hold};
+ghost use Rattle.lt_entry.specs.Meeting.{value_set, number_of, number_at, sum_of, is_related, needs_hold};
 ghost use Rattle.lt_entry.specs.Inputs.{is_short, has_small_factor};
 ghost use Rattle.lt_input_values.specs.Bounds.{IsWithin, HaveNumbers64};
+ghost use Rattle.lt_input_values.specs.Maps.{last_at};
 
 use crate::places::{place_set, same_place};
 use lt_model::{CellSet, FreeCell, Input, Need, NeedTerm, Op, Place, Spec, StartValue};
@@ -19,7 +20,7 @@ fn cell_at<'a>(cells: &'a [FreeCell], place: &Place) -> Option<&'a FreeCell>
 
 // What is set last at a place.
 fn last_set<'a>(sets: &'a [CellSet], place: &Place) -> Option<&'a CellSet>
-    ensures { option_map (λ set. set.now) result ≡ find (λ it. same_place (place_set it) place.now) (reverse sets.now) }
+    ensures { option_map (λ set. set.now) result ≡ last_at place.now sets.now }
 {
     sets.iter()
         .rev()

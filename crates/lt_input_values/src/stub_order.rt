@@ -1,10 +1,8 @@
 //! The values for functions without a body, in the order of the specification.
 
-ghost use Rattle.std.specs.Prelude.{◌≡◌, ◌++◌, not, IfOk, filter, filter_map, find, List, ℕ};
-ghost use Rattle.std.specs.List.{list_any};
-ghost use Rattle.std.specs.Str.{bytes_eq};
+ghost use Rattle.std.specs.Prelude.{◌≡◌, ◌++◌, IfOk, filter_map};
 ghost use Rattle.lt_entry.specs.Inputs.{stubs_in_order};
-ghost use Rattle.lt_input_values.specs.Maps.{values_for, has_name};
+ghost use Rattle.lt_input_values.specs.Maps.{values_for, HasFirst, HasNames, for_others};
 
 use crate::copies::values_of;
 use lt_model::{Spec, StubRange, StubSet};
@@ -16,7 +14,7 @@ fn first_values<'a>(
     alloc: Global,
     sets: &'a [StubSet],
 ) -> Result<HashMap<&'a [u8], &'a StubSet>, AllocError>
-    ensures { IfOk result (λ first. (name : List ℕ) → values_for first name ≡ find (λ it. bytes_eq it.name name) sets.now) }
+    ensures { IfOk result (HasFirst sets.now) }
 {
     let mut first = HashMap::new(alloc);
     for it in sets {
@@ -48,7 +46,7 @@ fn values_for_ranges(
 
 // The names of the ranges.
 fn names_of<'a>(alloc: Global, ranges: &'a [StubRange]) -> Result<HashSet<&'a [u8]>, AllocError>
-    ensures { IfOk result (λ names. (name : List ℕ) → has_name names name ≡ list_any (λ range. bytes_eq range.name name) ranges.now) }
+    ensures { IfOk result (HasNames ranges.now) }
 {
     let mut names = HashSet::new(alloc);
     for range in ranges {
@@ -64,7 +62,7 @@ fn with_other_values(
     all: &[StubSet],
     names: &HashSet<&[u8]>,
 ) -> Result<Vec<StubSet>, AllocError>
-    ensures { IfOk result (λ more. more.items ≡ sets.items ++ filter (λ it. not (has_name names.now it.name)) all.now) }
+    ensures { IfOk result (λ more. more.items ≡ sets.items ++ for_others names.now all.now) }
 {
     for it in all {
         if !names.contains(it.name.as_slice()) {
