@@ -12,3 +12,6 @@ pub mod Written
 pub mod TermLaws
 pub mod LineLaws
 pub mod SuiteLaws
+pub mod Fronts
+pub mod OneSuite
+pub mod OneSpecification

@@ -51,7 +51,7 @@ require_read first others relation constant f os c =
     ∙ require_ends (term_word first ∷ flat_map addend_words others) (relation_word relation) (numeral_word constant)
     ∙ rw (term_read first f, addends_read others os, relation_read relation, numeral_read constant c) refl
 
-line_read : (line : Line) → is_in_form line ≡ true → read_line (line_words line) ≡ Some line
+pub line_read : (line : Line) → is_in_form line ≡ true → read_line (line_words line) ≡ Some line
 line_read (entry_line name) h = refl
 line_read (block_line name type count) h =
     let hs = both (is_name name) (is_numeral count) h in

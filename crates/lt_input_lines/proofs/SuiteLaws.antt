@@ -15,7 +15,7 @@ use Rattle.lt_input_lines.proofs.Written.{single_said, single_read, target_said,
 
 -- ---- lines that are written
 
-line_read : (line : SuiteLine) → is_suite_form line ≡ true → read_suite_line (suite_words line) ≡ Some line
+pub line_read : (line : SuiteLine) → is_suite_form line ≡ true → read_suite_line (suite_words line) ≡ Some line
 line_read (test_line name) h = rw h refl
 line_read (set_line place value) h =
     let hs = both (is_place place && is_single place) (is_numeral value) h in

@@ -9,7 +9,9 @@ mod specification;
 mod suite;
 mod words;
 
-pub use laws::{lines_are_read, suite_lines_are_read};
+pub use laws::{
+    a_text_says_one_specification, a_text_says_one_suite, lines_are_read, suite_lines_are_read,
+};
 pub use number::{Numeral, numeral_of};
 pub use place::{
     PlaceWord, Step, TargetWord, place_of, single_place_of, single_target_of, target_of,
