@@ -10,7 +10,7 @@ and_assoc : (a b c : Bool) → (a && (b && c)) ≡ ((a && b) && c)
 and_assoc true b c = refl
 and_assoc false b c = refl
 
-not_first : (a b : Bool) → (a || b) ≡ false → (a ≡ false) × (b ≡ false)
+pub not_first : (a b : Bool) → (a || b) ≡ false → (a ≡ false) × (b ≡ false)
 not_first true b h = absurd (cc)
 not_first false b h = (refl, h)
 

@@ -11,3 +11,4 @@ pub mod Steps
 pub mod MapLaws
 pub mod Orders
 pub mod Ordered
+pub mod AnyOrder

@@ -115,21 +115,26 @@ set_in_same spec its cell is =
     ∙ rw (none, last_in its cell.at spec.cells, is) refl in
     ap (option_and_then (set_to cell.at)) (sym last)
 
-pub cells_ordered : (spec : Spec) (its : List CellSet) → cells_in_order spec its ≡ cells_in_order spec (cells_in_order spec its)
-cells_ordered spec its =
-    let same : filter_map (set_in its) spec.cells ≡ filter_map (set_in (cells_in_order spec its)) spec.cells =
-    filter_map_same (set_in its) (set_in (cells_in_order spec its)) spec.cells
-    (each_weaker (λ (other : FreeCell). (cell : FreeCell) → same_place other.at cell.at ≡ true → list_any (λ (x : FreeCell). same_place x.at cell.at) spec.cells ≡ true) (λ cell. set_in its cell ≡ set_in (cells_in_order spec its) cell)
-    (λ cell is. set_in_same spec its cell (is cell (same_place-self cell.at))) spec.cells (members (λ (other cell : FreeCell). same_place other.at cell.at) spec.cells)) in
+-- What is set in each free cell is the same in the order.
+pub sets_same : (spec : Spec) (its : List CellSet) → Each (λ cell. set_in its cell ≡ set_in (cells_in_order spec its) cell) spec.cells
+sets_same spec its =
+    each_weaker (λ (other : FreeCell). (cell : FreeCell) → same_place other.at cell.at ≡ true → list_any (λ (x : FreeCell). same_place x.at cell.at) spec.cells ≡ true) (λ cell. set_in its cell ≡ set_in (cells_in_order spec its) cell)
+    (λ cell is. set_in_same spec its cell (is cell (same_place-self cell.at))) spec.cells (members (λ (other cell : FreeCell). same_place other.at cell.at) spec.cells)
+
+-- What is set elsewhere is the same in the order.
+pub elsewhere_same : (spec : Spec) (its : List CellSet) → filter (λ it. not (sets_free_cell spec it)) its ≡ filter (λ it. not (sets_free_cell spec it)) (cells_in_order spec its)
+elsewhere_same spec its =
     let free : filter (λ it. not (sets_free_cell spec it)) (filter_map (set_in its) spec.cells) ≡ [] =
     filter_none (λ it. not (sets_free_cell spec it)) (filter_map (set_in its) spec.cells)
     (each_weaker (λ it. sets_free_cell spec it ≡ true) (λ it. not (sets_free_cell spec it) ≡ false) (λ it h. not_false (sets_free_cell spec it) h) (filter_map (set_in its) spec.cells) (all_free spec its spec.cells (members (λ (cell : FreeCell) (it : CellSet). same_place cell.at (place_set it)) spec.cells))) in
     let others : filter (λ it. not (sets_free_cell spec it)) (filter (λ it. not (sets_free_cell spec it)) its) ≡ filter (λ it. not (sets_free_cell spec it)) its =
     filter_all (λ it. not (sets_free_cell spec it)) (filter (λ it. not (sets_free_cell spec it)) its) (filter_fits (λ it. not (sets_free_cell spec it)) its) in
-    let rest : filter (λ it. not (sets_free_cell spec it)) its ≡ filter (λ it. not (sets_free_cell spec it)) (cells_in_order spec its) =
-    sym (filter-append (λ it. not (sets_free_cell spec it)) (filter_map (set_in its) spec.cells) (filter (λ it. not (sets_free_cell spec it)) its) ∙ rw (free, others) refl) in
-    ap (λ xs. xs ++ filter (λ it. not (sets_free_cell spec it)) its) same
-    ∙ ap (λ ys. filter_map (set_in (cells_in_order spec its)) spec.cells ++ ys) rest
+    sym (filter-append (λ it. not (sets_free_cell spec it)) (filter_map (set_in its) spec.cells) (filter (λ it. not (sets_free_cell spec it)) its) ∙ rw (free, others) refl)
+
+pub cells_ordered : (spec : Spec) (its : List CellSet) → cells_in_order spec its ≡ cells_in_order spec (cells_in_order spec its)
+cells_ordered spec its =
+    ap (λ xs. xs ++ filter (λ it. not (sets_free_cell spec it)) its) (filter_map_same (set_in its) (set_in (cells_in_order spec its)) spec.cells (sets_same spec its))
+    ∙ ap (λ ys. filter_map (set_in (cells_in_order spec its)) spec.cells ++ ys) (elsewhere_same spec its)
 
 -- ---- values for functions
 
@@ -189,15 +194,19 @@ both_each P Q (x ∷ xs) hs gs = ((hs.0, gs.0), both_each P Q xs hs.1 gs.1)
 name_self : (name : List ℕ) → bytes_eq name name ≡ true
 name_self name = (bytes_eq-Decides name name).1 refl
 
+-- What is found for each range is the same in the order.
+pub values_same : (spec : Spec) (its : List StubSet) → Each (λ r. find (is_for r) its ≡ find (is_for r) (stubs_in_order spec its)) spec.stubs
+values_same spec its =
+    let P : StubRange → Type 0 = λ r. (range : StubRange) → bytes_eq r.name range.name ≡ true → list_any (λ (x : StubRange). bytes_eq x.name range.name) spec.stubs ≡ true in
+    let Q : StubRange → Type 0 = λ r. (it : StubSet) → is_for r it ≡ true → has_range spec it ≡ true in
+    each_weaker (λ r. P r × Q r) (λ r. find (is_for r) its ≡ find (is_for r) (stubs_in_order spec its)) (λ r h. found_same spec its r (h.0 r (name_self r.name)) h.1) spec.stubs
+    (both_each P Q spec.stubs (members (λ (r range : StubRange). bytes_eq r.name range.name) spec.stubs) (members is_for spec.stubs))
+
 pub stubs_ordered : (spec : Spec) (its : List StubSet) → stubs_in_order spec its ≡ stubs_in_order spec (stubs_in_order spec its)
 stubs_ordered spec its =
     let are : Each (λ r. (it : StubSet) → is_for r it ≡ true → has_range spec it ≡ true) spec.stubs = members is_for spec.stubs in
-    let named : Each (λ (r : StubRange). (range : StubRange) → bytes_eq r.name range.name ≡ true → list_any (λ (x : StubRange). bytes_eq x.name range.name) spec.stubs ≡ true) spec.stubs = members (λ (r range : StubRange). bytes_eq r.name range.name) spec.stubs in
-    let P : StubRange → Type 0 = λ r. (range : StubRange) → bytes_eq r.name range.name ≡ true → list_any (λ (x : StubRange). bytes_eq x.name range.name) spec.stubs ≡ true in
-    let Q : StubRange → Type 0 = λ r. (it : StubSet) → is_for r it ≡ true → has_range spec it ≡ true in
     let same : filter_map (λ r. find (is_for r) its) spec.stubs ≡ filter_map (λ r. find (is_for r) (stubs_in_order spec its)) spec.stubs =
-    filter_map_same (λ r. find (is_for r) its) (λ r. find (is_for r) (stubs_in_order spec its)) spec.stubs
-    (each_weaker (λ r. P r × Q r) (λ r. find (is_for r) its ≡ find (is_for r) (stubs_in_order spec its)) (λ r h. found_same spec its r (h.0 r (name_self r.name)) h.1) spec.stubs (both_each P Q spec.stubs named are)) in
+    filter_map_same (λ r. find (is_for r) its) (λ r. find (is_for r) (stubs_in_order spec its)) spec.stubs (values_same spec its) in
     let known : filter (λ it. not (has_range spec it)) (filter_map (λ r. find (is_for r) its) spec.stubs) ≡ [] =
     filter_none (λ it. not (has_range spec it)) (filter_map (λ r. find (is_for r) its) spec.stubs)
     (each_weaker (λ it. has_range spec it ≡ true) (λ it. not (has_range spec it) ≡ false) (λ it h. not_false (has_range spec it) h) (filter_map (λ r. find (is_for r) its) spec.stubs) (all_known spec its spec.stubs are)) in

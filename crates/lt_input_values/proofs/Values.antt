@@ -36,7 +36,7 @@ find_none p (x ∷ xs) h = nothing_fits p x xs (p x) refl (find_none p xs) h
 -- ---- the values of each function stand once in the order
 
 -- the values are those that are found for each function whose they are
-abbrev IsFound : List StubSet → StubSet → Type 0
+abbrev pub IsFound : List StubSet → StubSet → Type 0
 IsFound its it = (range : StubRange) → is_for range it ≡ true → find (is_for range) its ≡ Some it
 
 pub same_search : (its : List StubSet) (r range : StubRange) → r.name ≡ range.name → find (is_for r) its ≡ find (is_for range) its
@@ -61,10 +61,10 @@ not_true true h = absurd (cc)
 not_true false h = refl
 
 -- the values are those that are found for each function of the specification whose they are
-abbrev IsKnown : Spec → List StubSet → StubSet → Type 0
+abbrev pub IsKnown : Spec → List StubSet → StubSet → Type 0
 IsKnown spec its it = (range : StubRange) → has_range spec it ≡ true → is_for range it ≡ true → find (is_for range) its ≡ Some it
 
-all_known : (spec : Spec) (its : List StubSet) → its ≡ stubs_in_order spec its → Each (IsKnown spec its) its
+pub all_known : (spec : Spec) (its : List StubSet) → its ≡ stubs_in_order spec its → Each (IsKnown spec its) its
 all_known spec its ordered =
     let found : Each (IsKnown spec its) (filter_map (λ range. find (is_for range) its) spec.stubs) =
     each_weaker (IsFound its) (IsKnown spec its) (λ it found range known h. found range h) (filter_map (λ range. find (is_for range) its) spec.stubs) (all_found its spec.stubs) in
@@ -74,10 +74,10 @@ all_known spec its ordered =
 
 -- ---- functions of the specification
 
-abbrev IsOf : List StubRange → StubRange → Type 0
+abbrev pub IsOf : List StubRange → StubRange → Type 0
 IsOf ranges range = (it : StubSet) → is_for range it ≡ true → list_any (λ r. is_for r it) ranges ≡ true
 
-all_of : (ranges : List StubRange) → Each (IsOf ranges) ranges
+pub all_of : (ranges : List StubRange) → Each (IsOf ranges) ranges
 all_of ranges = members is_for ranges
 
 -- ---- ranges that are kept
@@ -105,7 +105,7 @@ same_bools true b f g = sym (f refl)
 same_bools false true f g = g refl
 same_bools false false f g = refl
 
-judged_same : (spec : Spec) (its : List StubSet) → Each (IsKnown spec its) its → (ranges : List StubRange) → Each (IsOf spec.stubs) ranges → list_all (λ range. gives_well range (find (is_for range) its)) ranges ≡ list_all (λ range. list_all (keeps_range range) its) ranges
+pub judged_same : (spec : Spec) (its : List StubSet) → Each (IsKnown spec its) its → (ranges : List StubRange) → Each (IsOf spec.stubs) ranges → list_all (λ range. gives_well range (find (is_for range) its)) ranges ≡ list_all (λ range. list_all (keeps_range range) its) ranges
 judged_same spec its known [] are = refl
 judged_same spec its known (range ∷ ranges) are =
     let found : Each (λ it. is_for range it ≡ true → find (is_for range) its ≡ Some it) its =

@@ -1,3 +1,4 @@
 pub mod Walks
 pub mod Bounds
 pub mod Maps
+pub mod Laws

@@ -6,6 +6,7 @@ mod blocks;
 mod cell_order;
 mod copies;
 mod input;
+mod laws;
 mod meeting;
 mod needs;
 mod places;
@@ -14,4 +15,5 @@ mod stubs;
 mod wanted;
 
 pub use input::build;
+pub use laws::order_is_no_matter;
 pub use meeting::meets;
