@@ -1,13 +1,11 @@
 -- What was added stays there whatever is added later.
-use Rattle.std.proofs.Common.{◌≡◌, ℕ, ◌≤◌, ◌<◌, ◌+◌, ◌++◌, ◌∷◌, [], List, length, Some, None, slice_get, refl, sym, subst, ◌∙◌, arith, Result, Ok, Err, IfOk}
+use Rattle.std.proofs.Common.{◌≡◌, ℕ, ◌≤◌, ◌<◌, length, Some, slice_get, refl, sym, subst, ◌∙◌, arith, Result, Ok, Err}
 use Rattle.std.proofs.lemmas.Option.{slice_get_within}
 use Rattle.std.specs.Global.{Vec}
 use Rattle.std.specs.declared.alloc.AllocError.{AllocError}
 use Rattle.lt_model.specs.declared.cell.Shape.{Shape}
-use Rattle.lt_ir.specs.declared.node.Node.{Node}
 use Rattle.lt_ir.specs.declared.node.Node.TheVariants as node
 use Rattle.lt_emit.specs.declared.builder.Builder.{Builder}
-use Rattle.lt_emit.specs.Turning.{turned}
 use Rattle.lt_emit.specs.Emission.{Here, here_of, Finished, Grows, Kept, Adds, Emits, Gives, IsReserved, IsPatched}
 
 pub grows_both : {a b c : Builder} → Grows a b → Grows b c → Grows a c
@@ -17,6 +15,7 @@ grows_both g h = record {
   nodes = λ e n is. h.nodes e n (g.nodes e n is);
   structs = λ k it is. h.structs k it (g.structs k it is);
   registers = omega (arith, g.registers, h.registers);
+  sound = λ is. h.sound (g.sound is);
 }
 
 -- what stands of the longer code stands of the shorter
@@ -145,6 +144,7 @@ grows_none = record {
   nodes = λ e n is. is;
   structs = λ k it is. is;
   registers = omega arith;
+  sound = λ is. is;
 }
 
 -- nothing yet
@@ -188,6 +188,7 @@ looped {a} {b} {c} {d} {hole} {to} {P} {Q} r p patch make = record {
         let Is : Vec Shape → Type 0 = λ v. slice_get v.items k ≡ Some it in
         subst Is (sym patch.structs) (p.grows.structs k it (r.grows.structs k it is));
     registers = omega (arith, r.grows.registers, p.grows.registers, patch.registers);
+    sound = λ is. patch.sound (p.grows.sound (r.grows.sound is));
   };
   stands = λ it kept.
       make (here_of a) it

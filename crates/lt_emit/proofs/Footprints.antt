@@ -1,5 +1,5 @@
 -- Code in which footprints are tracked otherwise than around it.
-use Rattle.std.proofs.Common.{◌≡◌, ℕ, sym, ap, ◌∙◌, Bool, true, false, not, Result, Ok, Err, ◌⊎◌, inl, inr}
+use Rattle.std.proofs.Common.{◌≡◌, ℕ, sym, ap, Bool, true, false, not, Result, Ok, Err, inl, inr}
 use Rattle.std.specs.declared.alloc.AllocError.{AllocError}
 use Rattle.lt_tree.specs.Typing.TypedTree as e
 use Rattle.lt_meaning.specs.Expressions.{Fate}
@@ -22,6 +22,7 @@ inside {a} {c} {result = Ok from} tracks p make = record {
         nodes = p.code.adds.grows.nodes;
         structs = p.code.adds.grows.structs;
         registers = p.code.adds.grows.registers;
+        sound = p.code.adds.grows.sound;
       };
       stands = λ it kept.
           make from _ it (p.code.adds.stands it record { nodes = kept.nodes; structs = kept.structs; registers = kept.registers });

@@ -2,3 +2,9 @@ pub mod Adding
 pub mod Arms
 pub mod PureRows
 pub mod Footprints
+pub mod Sound
+pub mod Turned
+pub mod Emitted
+pub mod Variables
+pub mod Lookable
+pub mod AccessPieces

@@ -1,5 +1,5 @@
 -- Code that is emitted backwards: what is there when a piece of it was emitted, whatever is emitted later.
-use Rattle.std.specs.Prelude.{◌≡◌, ℕ, ◌+◌, ◌≤◌, ◌<◌, List, [], ◌∷◌, ◌++◌, length, map, Bool, Some, slice_get, Result, IfOk}
+use Rattle.std.specs.Prelude.{◌≡◌, ℕ, ◌+◌, ◌≤◌, ◌<◌, List, [], ◌∷◌, ◌++◌, length, map, Bool, true, Some, slice_get, Result, IfOk}
 use Rattle.std.specs.declared.alloc.AllocError.{AllocError}
 use Rattle.lt_model.specs.declared.cell.Shape.{Shape}
 use Rattle.lt_tree.specs.Typing.Types.{CType}
@@ -7,16 +7,20 @@ use Rattle.lt_tree.specs.Typing.Entities.{Function}
 use Rattle.lt_tree.specs.Typing.Programs.{Program}
 use Rattle.lt_ir.specs.declared.node.Node.{Node}
 use Rattle.lt_ir.specs.declared.node.Node.TheVariants as node
+use Rattle.lt_ir.specs.Ranges.{Counts}
 use Rattle.lt_meaning.specs.Expressions.{shape}
 use Rattle.lt_meaning.specs.Statements.{type_of_object}
-use Rattle.lt_meaning.specs.Runs.{variable_of, locals_of}
+use Rattle.lt_meaning.specs.Runs.{variable_of, locals_of, initials}
+use Rattle.std.specs.Borrow.{Bor}
+use Rattle.lt_ir.specs.declared.node.Given.TheVariants as given
+use Rattle.lt_tables.specs.declared.site.Site.{Site}
 use Rattle.lt_tables.specs.Views.{types_at, program_at, function_at}
 use Rattle.lt_tree.specs.declared.typed.types.TypeId.{TypeId}
 use Rattle.lt_tree.specs.Typing.TypeRows.{type_in}
 use Rattle.lt_code.specs.Pieces.{Piece}
-use Rattle.lt_code.specs.Code.{Site}
+use Rattle.lt_code.specs.Code.{Site as CodeSite}
 use Rattle.lt_code.specs.Bodies.{stands_in, label_of}
-use Rattle.lt_emit.specs.Turning.{turned, UsesBelow}
+use Rattle.lt_emit.specs.Turning.{turned, UsesBelow, IsSoundNode}
 use Rattle.lt_emit.specs.declared.builder.Builder.{Builder}
 
 -- ---- what is known of the function whose code is emitted
@@ -43,6 +47,35 @@ abbrev pub local_shapes : Program → Function → List Shape
 local_shapes program f =
     map (λ n. shape program (type_of_object program n)) (locals_of f.body) ++ record { cells = []; size = 0 } ∷ []
 
+-- how many there are of what the function's code names
+abbrev pub counts_of : Here → (nodes structs registers : ℕ) → Counts
+counts_of here nodes structs registers = record {
+  nodes = nodes;
+  registers = registers;
+  params = length here.function.parameters;
+  locals = length (local_shapes here.program here.function);
+  structs = structs;
+  statics = length (initials here.program here.program.objects);
+  labels = length here.program.labels;
+  stubs = length here.stubs;
+  functions = length here.program.functions;
+}
+
+abbrev pub counts_at : Builder → Counts
+counts_at b = counts_of (here_of b) (length b.nodes.items) (length b.structs.items) b.registers
+
+-- Each node leads to nodes before it, or is a tick, and all that it names is there.
+abbrev pub IsSound : Builder → Type 0
+IsSound b = (e : ℕ) (n : Node) → slice_get b.nodes.items e ≡ Some n → IsSoundNode (counts_at b) e n
+
+-- the code of a function, of which there is the node that gives back a value
+pub record IsBegun (of : Bor Site) (b : Builder) : Type 0 where
+  pub site : b.site ≡ of
+  pub tracks : b.tracks ≡ true
+  pub nodes : b.nodes.items ≡ node.Return given.Nothing ∷ []
+  pub structs : b.structs.items ≡ []
+  pub registers : b.registers ≡ 0
+
 -- ---- code that is all there
 
 -- where a node of this number stands, and what the code has
@@ -53,7 +86,7 @@ pub record Finished : Type 0 where
   pub registers : ℕ
 
 -- what is known where the code stands
-abbrev pub site_in : Here → Finished → Site
+abbrev pub site_in : Here → Finished → CodeSite
 site_in here it = record {
   names = record { program = here.program; variable = variable_of here.program here.function };
   locals = local_shapes here.program here.function;
@@ -75,6 +108,7 @@ pub record Grows (before after : Builder) : Type 0 where
   pub structs : (k : ℕ) (it : Shape) → slice_get before.structs.items k ≡ Some it →
       slice_get after.structs.items k ≡ Some it
   pub registers : before.registers ≤ after.registers
+  pub sound : IsSound before → IsSound after
 
 -- The nodes from one on stand in the finished code, turned, and what they name is there.
 pub record Kept (first : ℕ) (b : Builder) (it : Finished) : Type 0 where
@@ -107,11 +141,11 @@ abbrev pub HasPoint : Builder → ℕ → Type 0
 HasPoint b e = e < length b.nodes.items
 
 -- a piece of code between two nodes
-abbrev pub PieceStands : (Site → Piece) → (to from : ℕ) → Here → Finished → Type 0
+abbrev pub PieceStands : (CodeSite → Piece) → (to from : ℕ) → Here → Finished → Type 0
 PieceStands piece to from here it = piece (site_in here it) (it.point from) (it.point to)
 
 -- a piece of code that is about a type
-abbrev pub TypedStands : (Site → CType → Piece) → TypeId → (to from : ℕ) → Here → Finished → Type 0
+abbrev pub TypedStands : (CodeSite → CType → Piece) → TypeId → (to from : ℕ) → Here → Finished → Type 0
 TypedStands piece ty to from here it =
     piece (site_in here it) (type_in here.types ty) (it.point from) (it.point to)
 
@@ -138,3 +172,4 @@ pub record IsPatched (before after : Builder) (hole to : ℕ) : Type 0 where
   pub tick : slice_get after.nodes.items hole ≡ Some (node.Tick to)
   pub structs : after.structs ≡ before.structs
   pub registers : after.registers ≡ before.registers
+  pub sound : IsSound before → IsSound after

@@ -1,7 +1,9 @@
 pub mod Fate
 pub mod Turning
+pub mod Turned
 pub mod Emission
 pub mod Known
 pub mod Stands
+pub mod Accesses
 pub mod Calm
 pub mod Names

@@ -1,9 +1,7 @@
 -- Nodes whose successors are numbers in the order of emission, and the same with program points. Code is emitted
 -- backwards, a successor first; the numbers are turned round when all of it is there.
-use Rattle.std.specs.Prelude.{◌≡◌, ℕ, ◌+◌, ◌≤◌, ◌<◌, List, [], ◌∷◌, ◌++◌, map, Bool, true, nat_lt, Option, Some, None}
+use Rattle.std.specs.Prelude.{◌≡◌, ℕ, ◌+◌, ◌≤◌, ◌<◌, List, map, Bool, true, nat_lt, Option, Some, None, ◌⊎◌}
 use Rattle.std.specs.List.{list_all}
-use Rattle.lt_ir.specs.declared.node.Access.{Access}
-use Rattle.lt_ir.specs.declared.node.Access.TheVariants as access
 use Rattle.lt_ir.specs.declared.node.Movement.{Movement}
 use Rattle.lt_ir.specs.declared.node.Movement.TheVariants as movement
 use Rattle.lt_ir.specs.declared.node.Parts.{Parts}
@@ -15,7 +13,8 @@ use Rattle.lt_ir.specs.declared.node.Node.{Node}
 use Rattle.lt_ir.specs.declared.node.Node.TheVariants as node
 use Rattle.lt_ir.specs.PureView.{pure_of}
 use Rattle.lt_ir.specs.Edges.{successors}
-use Rattle.lt_ir.specs.Ranges.{Counts, is_variable, is_lookable}
+use Rattle.lt_ir.specs.Tables.{IsTableOf}
+use Rattle.lt_ir.specs.Ranges.{Counts, is_variable, is_access, is_lookable}
 
 -- ---- successors
 
@@ -101,3 +100,51 @@ UsesBelow n (node.Return value) = given_uses n value
 UsesBelow n (node.Tick next) = Unit {0}
 UsesBelow n (node.Mark label predicate bound next) = Unit {0}
 UsesBelow n (node.Clash which next) = parts_use n which
+
+-- ---- what else nodes name
+
+abbrev pub parts_name : Counts → Parts → Type 0
+parts_name n (parts.Read register it) = is_access n it ≡ true
+parts_name n (parts.Target register it) = is_access n it ≡ true
+parts_name n (parts.Unsequenced left right) = Unit {0}
+parts_name n (parts.Sequenced left right) = Unit {0}
+parts_name n (parts.Settled register) = Unit {0}
+
+-- Each variable, shape, label, stub and function of a node is there, and a switch has the table of its arms.
+abbrev pub NamesIn : Counts → Node → Type 0
+NamesIn n (node.Constant to c is_kept next) = Unit {0}
+NamesIn n (node.Address to v next) = is_variable n v ≡ true
+NamesIn n (node.Load to from ty tracks next) = Unit {0}
+NamesIn n (node.Store place value gives ty tracks next) = Unit {0}
+NamesIn n (node.Move to pointer by next) = Unit {0}
+NamesIn n (node.Subtract to left right size next) = Unit {0}
+NamesIn n (node.Apply to left right op ty next) = Unit {0}
+NamesIn n (node.Convert to from how next) = Unit {0}
+NamesIn n (node.Compare to left right op next) = Unit {0}
+NamesIn n (node.Copy place from shape tracks next) = shape < n.structs
+NamesIn n (node.Create k is_zeroed next) = k < n.locals
+NamesIn n (node.Seal v next) = is_variable n v ≡ true
+NamesIn n (node.End v next) = is_variable n v ≡ true
+NamesIn n (node.Branch test on off) = Unit {0}
+NamesIn n (node.Switch value arms table default) = IsTableOf table arms
+NamesIn n (node.Call function to first count next) = function < n.functions
+NamesIn n (node.Stub stub to next) = stub < n.stubs
+NamesIn n node.Stop = Unit {0}
+NamesIn n (node.Return value) = Unit {0}
+NamesIn n (node.Tick next) = Unit {0}
+NamesIn n (node.Mark label predicate bound next) =
+    (label < n.labels) × (is_lookable n (pure_of predicate) ≡ true)
+    × (list_all (λ q. is_lookable n (pure_of q)) bound ≡ true)
+NamesIn n (node.Clash which next) = parts_name n which
+
+-- ---- nodes that are sound
+
+-- a tick that leads to a node that is there
+abbrev pub IsTickWithin : ℕ → Node → Type 0
+IsTickWithin count it = (to : ℕ) × (it ≡ node.Tick to) × (to < count)
+
+-- A node leads to those that were emitted before it, or it is a tick; and all that it names is there.
+pub record IsSoundNode (n : Counts) (e : ℕ) (it : Node) : Type 0 where
+  pub leads : LeadsBelow e it ⊎ IsTickWithin n.nodes it
+  pub uses : UsesBelow n.registers it
+  pub names : NamesIn n it

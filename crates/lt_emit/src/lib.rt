@@ -1,6 +1,7 @@
 //! Code of expressions, emitted backwards; `specs/Emission.antt` says what is there of it, and `specs/Stands.antt` which code it is.
 #![tactic(auto)]
 
+mod accesses;
 mod builder;
 mod calm;
 mod expression;
@@ -9,7 +10,9 @@ mod full;
 mod pieces;
 mod pure;
 mod purity;
+mod turning;
 
 pub use builder::Builder;
 pub use fate::Fate;
 pub use full::{full_test, full_value, mark};
+pub use turning::turned_round;

@@ -8,7 +8,8 @@ ghost use Rattle.lt_ir.specs.declared.node.Node.TheVariants as node;
 ghost use Rattle.lt_meaning.specs.Expressions.{cell_type};
 ghost use Rattle.lt_code.specs.Pieces.{one};
 ghost use Rattle.lt_code.specs.Code as code;
-ghost use Rattle.lt_emit.specs.Emission.{Gives, HasPoint, PieceStands, TypedStands, Branches};
+ghost use Rattle.lt_emit.specs.Turning.{parts_name};
+ghost use Rattle.lt_emit.specs.Emission.{counts_at, Gives, HasPoint, PieceStands, TypedStands, Branches};
 ghost use Rattle.lt_emit.specs.Stands.{CreateStands};
 
 use crate::builder::Builder;
@@ -44,7 +45,8 @@ pub fn room_for(register: u32, count: usize) -> Result<(), AllocError>
 impl<'t> Builder<'t> {
     /// A clash node, where footprints are tracked.
     pub fn clash(&mut self, parts: Parts, to: u32) -> Result<u32, AllocError>
-        requires { HasPoint self.old to }
+        requires point { HasPoint self.old to }
+        requires names { parts_name (counts_at self.old) parts }
         ensures { Gives self.old self.new result (PieceStands (λ s. code.clash s parts) to) }
     {
         if self.tracks {

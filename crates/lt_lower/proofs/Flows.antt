@@ -33,6 +33,7 @@ nothing_added {a} so = record {
     nodes = λ e n is. is;
     structs = λ k it is. is;
     registers = omega arith;
+    sound = λ is. is;
   };
   stands = λ it kept. so it;
 }

@@ -1,8 +1,6 @@
 -- The items of a block, and the exits of those from each on.
 use Rattle.std.proofs.Common.{◌≡◌, ℕ, suc, ◌+◌, ◌-◌, ◌<◌, ◌≤◌, List, [], ◌∷◌, ◌++◌, length, drop, get_or, Some, slice_get, refl, sym, subst, ap, ◌∙◌, ◌⊎◌, inl, inr, arith}
-use Rattle.std.proofs.lemmas.Grind.{common_steps}
-use Rattle.std.proofs.lemmas.List.{drop_all, get_or_append_left}
-use Rattle.std.proofs.Math.Seq.{get_or-append_seam}
+use Rattle.std.proofs.lemmas.List.{drop_all}
 use Rattle.std.proofs.lemmas.Option.{slice_get-get_or, slice_get_within, slice_get_read}
 use Rattle.lt_tree.specs.declared.typed.statement.Item.{Item}
 use Rattle.lt_tree.specs.declared.typed.statement.Item.TheVariants as item
@@ -12,31 +10,11 @@ use Rattle.lt_code.specs.Bodies as code
 use Rattle.lt_emit.specs.declared.builder.Builder.{Builder}
 use Rattle.lt_emit.specs.Emission.{Here, here_of, Finished, site_in, Grows, Adds, Emits, HasPoint}
 use Rattle.lt_emit.proofs.Adding.{both}
+use Rattle.lt_emit.proofs.Emitted.{longer, below_or_not, front_of, last_of, one_value}
 use Rattle.lt_lower.specs.declared.flow.Exits.{Exits as HeldExits}
 use Rattle.lt_lower.specs.Known.{AreKnownItems}
 use Rattle.lt_lower.specs.Stands.{HasExits, exits_in, ItemStands, ItemsStand, EndsBehind, EndsAlong}
 use Rattle.lt_lower.proofs.Flows.{nothing_added, row_from, exits_after}
-
--- ---- lists that grow
-
-pub longer : {X : Type 0} (xs : List X) (y : X) → length (xs ++ y ∷ []) ≡ length xs + 1
-longer xs y = grind (arith, common_steps)
-
-below_or_not : (i n : ℕ) → (i < n) ⊎ (n ≤ i)
-below_or_not i n = grind arith
-
-pub front_of : {X : Type 0} (xs : List X) (y : X) (k : ℕ) → k < length xs → slice_get (xs ++ y ∷ []) k ≡ slice_get xs k
-front_of xs y k there =
-    let more : k < length (xs ++ y ∷ []) = omega (arith, longer xs y) in
-    slice_get-get_or (xs ++ y ∷ []) k y more ∙ ap Some (get_or_append_left xs (y ∷ []) y k there) ∙ sym (slice_get-get_or xs k y there)
-
-pub last_of : {X : Type 0} (xs : List X) (y : X) → slice_get (xs ++ y ∷ []) (length xs) ≡ Some y
-last_of xs y =
-    let there : length xs < length (xs ++ y ∷ []) = omega (arith, longer xs y) in
-    slice_get-get_or (xs ++ y ∷ []) (length xs) y there ∙ ap Some (get_or-append_seam xs y [] y)
-
-one_value : {X : Type 0} {x y : X} → Some x ≡ Some y → x ≡ y
-one_value is = cc
 
 -- ---- the exits
 

@@ -2,12 +2,13 @@
 
 ghost use Rattle.std.specs.Prelude.{◌≡◌, ℕ, IfOk, length, suc, ◌+◌, ◌≤◌, Some, slice_get};
 ghost use Rattle.lt_ir.specs.declared.node.Node.TheVariants as node;
-ghost use Rattle.lt_emit.specs.Turning.{LeadsBelow, UsesBelow, movement_uses, parts_use, given_uses, target_uses};
-ghost use Rattle.lt_emit.specs.Emission.{Gives, HasPoint, IsPlaced, IsReserved, IsPatched};
+ghost use Rattle.lt_emit.specs.Turning.{LeadsBelow, NamesIn, UsesBelow, movement_uses, parts_use, given_uses, target_uses};
+ghost use Rattle.lt_emit.specs.Emission.{counts_at, Gives, HasPoint, IsBegun, IsPlaced, IsReserved, IsPatched};
 
 use crate::builder::Builder;
 use lt_ir::{Given, Movement, Node, Parts};
-use std::alloc::AllocError;
+use lt_tables::Site;
+use std::alloc::{AllocError, Global};
 
 // One more than a register.
 fn behind(register: u32) -> Result<u32, AllocError>
@@ -17,9 +18,30 @@ fn behind(register: u32) -> Result<u32, AllocError>
 }
 
 impl<'t> Builder<'t> {
-    /// A node goes before what is there; its number. There are no more than 2^32 nodes and registers: more end as want of memory does.
+    /// The code of a function, of which nothing is there yet but the node that gives back a value.
+    pub fn new(alloc: Global, site: &'t Site<'t>) -> Result<Builder<'t>, AllocError>
+        ensures { IfOk result (IsBegun site.entry) }
+    {
+        let mut nodes = Vec::new(alloc);
+        nodes.push(Node::Return {
+            value: Given::Nothing,
+        })?;
+        Ok(Builder {
+            alloc,
+            site,
+            tracks: true,
+            nodes,
+            structs: Vec::new(alloc),
+            registers: 0,
+        })
+    }
+}
+
+impl<'t> Builder<'t> {
+    /// A node goes before what is there, of which all that it names is part; its number. There are no more than 2^32 nodes and registers: more end as want of memory does.
     pub fn emit(&mut self, node: Node) -> Result<u32, AllocError>
-        requires { LeadsBelow (length self.old.nodes.items) node }
+        requires leads { LeadsBelow (length self.old.nodes.items) node }
+        requires names { NamesIn (counts_at self.old) node }
         ensures { Gives self.old self.new result (IsPlaced node) }
     {
         let Ok(number) = u32::try_from(self.nodes.len()) else {

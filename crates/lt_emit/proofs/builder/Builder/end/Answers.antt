@@ -1,8 +1,17 @@
-use Rattle.std.proofs.Common.{◌≡◌, Some, slice_get, subst}
+use Rattle.std.proofs.Common.{◌≡◌, true, Some, length, slice_get, sym, subst}
 use Rattle.lt_ir.specs.declared.variable.Variable.{Variable}
 use Rattle.lt_ir.specs.declared.node.Node.TheVariants as node
+use Rattle.lt_ir.specs.Ranges.{is_variable}
+use Rattle.lt_emit.specs.Emission.{here_of, counts_at}
 use Rattle.lt_emit.proofs.Adding.{also_here}
+use Rattle.lt_emit.proofs.Variables.{variable_in}
 use Rattle.lt_emit.proofs.builder.Builder.end.Goals as goal
+
+pub emit-requires-clause-names : goal.emit-requires-clause-names
+emit-requires-clause-names c =
+    let b = c.args.self.now in
+    let In : Variable → Type 0 = λ v. is_variable (counts_at b) v ≡ true in
+    subst In (sym c.variable.ensures) (variable_in (here_of b) (length b.nodes.items) (length b.structs.items) b.registers c.args.number)
 
 pub returns : goal.returns
 returns c =

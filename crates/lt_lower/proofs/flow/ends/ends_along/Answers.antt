@@ -2,7 +2,8 @@ use Rattle.std.proofs.Common.{◌≡◌, ◌+◌, ◌∷◌, ◌++◌, [], ◌<�
 use Rattle.lt_emit.specs.Emission.{Adds}
 use Rattle.lt_lower.specs.declared.flow.Exits.{Exits as HeldExits}
 use Rattle.lt_lower.specs.Stands.{EndsAlong}
-use Rattle.lt_lower.proofs.Items.{longer, front_of, last_of, along_more, along_within}
+use Rattle.lt_emit.proofs.Emitted.{longer, front_of, last_of}
+use Rattle.lt_lower.proofs.Items.{along_more, along_within}
 use Rattle.lt_lower.proofs.flow.ends.ends_along.Goals as goal
 
 pub items-preserved : goal.items-preserved
