@@ -1,4 +1,5 @@
 pub mod Flows
+pub mod Objects
 pub mod Ends
 pub mod Items
 pub mod Cases

@@ -1,5 +1,5 @@
 -- What is promised of each piece of a statement's code: the relation's piece stands from its point.
-use Rattle.std.specs.Prelude.{◌≡◌, ◌≤◌, ℕ, ℤ, suc, ◌+◌, List, [], ◌∷◌, map, reverse, length, true, Option, Some, None, unwrap_or, IfOk, IfSome, Result, slice_get}
+use Rattle.std.specs.Prelude.{◌≡◌, ◌≤◌, ℕ, ℤ, pos, suc, ◌+◌, List, [], ◌∷◌, map, reverse, length, true, false, Option, Some, None, unwrap_or, IfOk, IfSome, Result, slice_get}
 use Rattle.std.specs.Borrow.{Bor}
 use Rattle.std.specs.Ordering.{int_cmp}
 use Rattle.std.specs.BTreeMap.{BTreeMap, get, btree_map_len}
@@ -13,17 +13,21 @@ use Rattle.lt_tree.specs.declared.typed.statement.Case.{Case}
 use Rattle.lt_tree.specs.declared.typed.statement.Label.{Label}
 use Rattle.lt_tree.specs.declared.typed.statement.Label.TheVariants as label
 use Rattle.lt_tree.specs.declared.typed.statement.Local.{Local}
-use Rattle.lt_tree.specs.Typing.Types.{CType}
+use Rattle.lt_tree.specs.declared.typed.statement.StartPart.{StartPart}
+use Rattle.lt_tree.specs.Typing.Types.{CType, Num}
 use Rattle.lt_tree.specs.Typing.TypedTree as e
 use Rattle.lt_tree.specs.Typing.ValueView.{value_of, mark_of}
-use Rattle.lt_tree.specs.Typing.StatementView.{statement_of, items_in, cases_in, local_of}
+use Rattle.lt_tree.specs.Typing.StatementView.{statement_of, items_in, cases_in, local_of, start_part_of}
+use Rattle.lt_model.specs.declared.cell.Content.TheVariants as content
+use Rattle.lt_model.specs.declared.scalar.Scalar.{Scalar}
+use Rattle.lt_ir.specs.declared.variable.Variable.{Variable}
 use Rattle.lt_ir.specs.declared.code.Code.{Code}
 use Rattle.lt_ir.specs.declared.node.Arm.{Arm}
 use Rattle.lt_ir.specs.declared.node.Node.TheVariants as node
 use Rattle.lt_ir.specs.Tables.{arm_of}
-use Rattle.lt_code.specs.Pieces.{Piece, nothing, ◌▸◌}
-use Rattle.lt_meaning.specs.Expressions.{dropped}
-use Rattle.lt_code.specs.Code.{Site as CodeSite, mark, full_value}
+use Rattle.lt_code.specs.Pieces.{Piece, one, nothing, ◌▸◌}
+use Rattle.lt_meaning.specs.Expressions.{dropped, cell_type}
+use Rattle.lt_code.specs.Code.{Site as CodeSite, mark, full_value, up_to, constant, program_in}
 use Rattle.lt_code.specs.Bodies as code
 use Rattle.lt_code.specs.Bodies.{Exits, Entry, arms_of, default_of, HasCode, HasEnds, label_of}
 use Rattle.lt_tables.specs.declared.site.Site.{Site}
@@ -34,7 +38,7 @@ use Rattle.lt_emit.specs.Emission.{Here, Finished, site_in, Adds, Emits, HasPoin
 use Rattle.lt_emit.specs.Known.{IsKnown, IsMarked}
 use Rattle.lt_lower.specs.declared.flow.Exits.{Exits as HeldExits}
 use Rattle.lt_lower.specs.declared.flow.Entered.{Entered}
-use Rattle.lt_lower.specs.Known.{here_in, IsKnownStatement, AreKnownItems, AreKnownCases, IsKnownLocal, AreKnownLocals, IsKnownIfThere}
+use Rattle.lt_lower.specs.Known.{here_in, IsKnownPart, AreKnownParts, IsKnownStatement, AreKnownItems, AreKnownCases, IsKnownLocal, AreKnownLocals, IsKnownIfThere}
 
 -- ---- where statements lead
 
@@ -63,6 +67,33 @@ pub record GivesExits (before after : Builder) (result : Result HeldExits AllocE
   pub within : IfOk result (λ x. HasExits after x)
 
 -- ---- objects
+
+-- a piece of code that is about an object
+abbrev pub ObjectStands : (CodeSite → Variable → Piece) → (object : ℕ) → (to from : ℕ) → Here → Finished → Type 0
+ObjectStands piece object to from here it =
+    piece (site_in here it) ((site_in here it).names.variable object) (it.point from) (it.point to)
+
+-- a byte goes to a character
+abbrev pub letter : CodeSite → Variable → Scalar → (offset byte : ℕ) → Piece
+letter s v t offset byte =
+    up_to s 1 (code.part_address s v offset ▸ constant s 1 (content.Number (pos byte))
+    ▸ one s.stands (node.Store 0 1 1 (cell_type (program_in s) (Num t)) false))
+
+abbrev pub LettersStand : (object : ℕ) → Scalar → (offset : ℕ) → List ℕ → (to from : ℕ) → Here → Finished → Type 0
+LettersStand object t offset bytes = ObjectStands (λ s v. code.letters s v t offset bytes) object
+
+-- a part of an object's first value
+abbrev pub HasPart : (List CType → e.StartPart) → (object : ℕ) → (to from : ℕ) → Here → Finished → Type 0
+HasPart part object to from here it =
+    IsKnownPart here (part here.types) → ObjectStands (λ s v. code.part s v (part here.types)) object to from here it
+
+abbrev pub PartStands : (object : ℕ) → StartPart → (to from : ℕ) → Here → Finished → Type 0
+PartStands object part = HasPart (λ types. start_part_of types part) object
+
+abbrev pub PartsStand : (object : ℕ) → List StartPart → (to from : ℕ) → Here → Finished → Type 0
+PartsStand object all to from here it =
+    AreKnownParts here (map (start_part_of here.types) all)
+    → ObjectStands (λ s v. code.parts s v (map (start_part_of here.types) all)) object to from here it
 
 -- a local object begins, and gets its first value
 abbrev pub OpeningStands : Local → (to from : ℕ) → Here → Finished → Type 0
