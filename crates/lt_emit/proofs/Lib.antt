@@ -8,3 +8,7 @@ pub mod Emitted
 pub mod Variables
 pub mod Lookable
 pub mod AccessPieces
+pub mod Conversions
+pub mod Changing
+pub mod Accessing
+pub mod Further

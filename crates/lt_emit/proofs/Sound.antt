@@ -116,7 +116,7 @@ module _ (n m : Counts) (are : AreMore n m) where
   bound_same [] = refl
   bound_same (q ∷ qs) = let e = lookable_same (pure_of q) in let f = bound_same qs in cc
 
-  access_more : (it : Access) → is_access n it ≡ true → is_access m it ≡ true
+  pub access_more : (it : Access) → is_access n it ≡ true → is_access m it ≡ true
   access_more (access.Scalar ty) is = refl
   access_more (access.Struct k) is = lt-ltb k m.structs (omega (arith, ltb-true k n.structs is, are.structs))
 

@@ -7,3 +7,6 @@ pub mod Stands
 pub mod Accesses
 pub mod Calm
 pub mod Names
+pub mod Operators
+pub mod Accesses
+pub mod Marking

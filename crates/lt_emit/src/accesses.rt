@@ -1,14 +1,13 @@
 // Pieces of code at accesses of scalars and structs.
 
-ghost use Rattle.std.specs.Prelude.{◌≡◌, true, IfOk};
-ghost use Rattle.lt_ir.specs.Ranges.{is_access};
+ghost use Rattle.std.specs.Prelude.{◌≡◌, ◌+◌, ◌<◌, ◌^◌, IfOk};
 ghost use Rattle.lt_code.specs.Code as code;
-ghost use Rattle.lt_emit.specs.Emission.{counts_at, Gives, HasPoint};
-ghost use Rattle.lt_emit.specs.Accesses.{PutsShape, PutsAccess, AccessStands};
+ghost use Rattle.lt_emit.specs.Emission.{Gives, HasPoint, TypedStands};
+ghost use Rattle.lt_emit.specs.Accesses.{PutsShape, PutsAccess, IsThere, AccessStands, LateStands, AssignmentStands};
 
 use crate::builder::Builder;
-use lt_ir::{Access, Node};
-use lt_tree::typed::TypeId;
+use lt_ir::{Access, Node, Parts};
+use lt_tree::typed::{TypeId, Value};
 use std::alloc::AllocError;
 
 impl<'t> Builder<'t> {
@@ -35,6 +34,48 @@ impl<'t> Builder<'t> {
         }
     }
 
+    /// What is to be written at the address in a register is no pending write.
+    pub fn target(
+        &mut self,
+        ty: TypeId,
+        access: Access,
+        register: u32,
+        to: u32,
+    ) -> Result<u32, AllocError>
+        requires point { HasPoint self.old to }
+        requires there { IsThere self.old access }
+        ensures { Gives self.old self.new result (AccessStands (λ s t. code.target s t register) ty access to) }
+    {
+        self.clash(Parts::Target { register, access }, to)
+    }
+
+    // The cells of a struct are read, where the access is to one.
+    fn reads_by(
+        &mut self,
+        ty: TypeId,
+        access: Access,
+        register: u32,
+        to: u32,
+    ) -> Result<u32, AllocError>
+        requires point { HasPoint self.old to }
+        requires there { IsThere self.old access }
+        ensures { Gives self.old self.new result (AccessStands (λ s t. code.reads s t register) ty access to) }
+    {
+        match access {
+            Access::Struct(_) => self.clash(Parts::Read { register, access }, to),
+            Access::Scalar(_) => Ok(to),
+        }
+    }
+
+    /// The cells of a struct are read where it is copied or passed on.
+    pub fn reads(&mut self, ty: TypeId, register: u32, to: u32) -> Result<u32, AllocError>
+        requires { HasPoint self.old to }
+        ensures { Gives self.old self.new result (TypedStands (λ s t. code.reads s t register) ty to) }
+    {
+        let access = self.access(ty)?;
+        self.reads_by(ty, access, register, to)
+    }
+
     /// A value goes to the address in a register, and is there then.
     pub fn assigned(
         &mut self,
@@ -45,7 +86,7 @@ impl<'t> Builder<'t> {
         to: u32,
     ) -> Result<u32, AllocError>
         requires point { HasPoint self.old to }
-        requires access { is_access (counts_at self.old) access ≡ true }
+        requires there { IsThere self.old access }
         ensures { Gives self.old self.new result (AccessStands (λ s t. code.up_to s value (code.assigned s t place value)) ty access to) }
     {
         match access {
@@ -65,5 +106,42 @@ impl<'t> Builder<'t> {
                 next: to,
             }),
         }
+    }
+
+    /// The outermost conversion of an expression, where it was left.
+    pub fn late(&mut self, v: &Value, register: u32, to: u32) -> Result<u32, AllocError>
+        requires { HasPoint self.old to }
+        ensures { Gives self.old self.new result (LateStands v.now register to) }
+    {
+        match v {
+            Value::Convert(ty, how, _) => self.conversion(*how, *ty, register, to),
+            _ => Ok(to),
+        }
+    }
+
+    /// The value of an expression, behind a register, goes to the address in it.
+    pub fn assignment(
+        &mut self,
+        ty: TypeId,
+        v: &Value,
+        register: u32,
+        to: u32,
+    ) -> Result<u32, AllocError>
+        requires point { HasPoint self.old to }
+        requires room { register + 4 < 2 ^ 32 }
+        ensures { Gives self.old self.new result (AssignmentStands ty v.now register to) }
+    {
+        let access = self.access(ty)?;
+        let stored = self.assigned(ty, access, register, register + 1, to)?;
+        let converted = self.late(v, register + 1, stored)?;
+        let aimed = self.target(ty, access, register, converted)?;
+        let joined = self.clash(
+            Parts::Unsequenced {
+                left: register,
+                right: register + 1,
+            },
+            aimed,
+        )?;
+        self.reads_by(ty, access, register + 1, joined)
     }
 }

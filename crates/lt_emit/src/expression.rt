@@ -1,4 +1,7 @@
 //! Code of expressions, C11 6.5.
+mod assigning;
+mod marking;
+mod operators;
 
 ghost use Rattle.std.specs.Prelude.{◌≡◌, ◌+◌, ◌<◌, ◌^◌, List, true};
 ghost use Rattle.lt_tree.specs.Typing.Types.{CType, Void};
@@ -9,11 +12,15 @@ ghost use Rattle.lt_emit.specs.Emission.{Gives, HasPoint};
 ghost use Rattle.lt_emit.specs.Stands.{ValueStands, TestStands, PlaceStands, HasPlain, HasPlace, HasTest, HasOperands, is_plain};
 
 use crate::builder::Builder;
+use crate::changes::Change;
 use crate::fate::Fate;
 use crate::pieces::room;
+use assigning::{assign, step, update};
 use lt_ir::{How, Node, Parts};
 use lt_model::{Content, Op, Scalar};
 use lt_tree::typed::{Place, TypeId, Value};
+use marking::after;
+use operators::{comparison, complement, conversion, distance, element, minus, movement, part};
 use std::alloc::AllocError;
 
 /// The code of an expression, whose value goes to a register.
@@ -39,6 +46,91 @@ pub fn value(
             ..
         } => arithmetic(b, *op, *operands, left, right, register, to),
         Value::Not(_, operand) => negation(b, operand, register, to),
+        Value::Whole(_, p) => place(b, p, register, to),
+        Value::Decay(_, p) => place(b, p, register, to),
+        Value::AddressOf(_, p) => place(b, p, register, to),
+        Value::Convert(ty, how, operand) => {
+            conversion(b, fate, *ty, *how, operand, register, to)
+        }
+        Value::Minus(ty, operand) => minus(b, *ty, operand, register, to),
+        Value::Complement(ty, operand) => complement(b, *ty, operand, register, to),
+        Value::Move {
+            op,
+            size,
+            pointer,
+            left,
+            right,
+            ..
+        } => movement(b, *op, *size, *pointer, left, right, register, to),
+        Value::Distance {
+            size,
+            left,
+            right,
+            ..
+        } => distance(b, *size, left, right, register, to),
+        Value::Compare(_, op, left, right) => comparison(b, *op, left, right, register, to),
+        Value::Assign(ty, target, v) => assign(b, *ty, target, v, register, to),
+        Value::Update {
+            ty,
+            op,
+            operands,
+            place,
+            value,
+        } => update(
+            b,
+            Change::Computed(*op, *operands),
+            *ty,
+            place,
+            value,
+            register,
+            to,
+        ),
+        Value::UpdatePointer {
+            ty,
+            op,
+            size,
+            place,
+            value,
+        } => update(
+            b,
+            Change::Moved(*op, *size),
+            *ty,
+            place,
+            value,
+            register,
+            to,
+        ),
+        Value::Step {
+            ty,
+            gives,
+            op,
+            operands,
+            place,
+        } => step(
+            b,
+            Change::Computed(*op, *operands),
+            *ty,
+            *gives,
+            place,
+            register,
+            to,
+        ),
+        Value::StepPointer {
+            ty,
+            gives,
+            op,
+            size,
+            place,
+        } => step(
+            b,
+            Change::Moved(*op, *size),
+            *ty,
+            *gives,
+            place,
+            register,
+            to,
+        ),
+        Value::After(_, operand, id) => after(b, fate, operand, *id, register, to),
         _ => Err(AllocError),
     }
 }
@@ -64,9 +156,9 @@ fn load(b: &mut Builder, ty: TypeId, p: &Place, register: u32, to: u32) -> Resul
     place(b, p, register, read)
 }
 
-// Two operands, and what is done with them.
+/// Two operands, and what is done with them.
 #[cycle(expression)]
-fn operands(
+pub fn operands(
     b: &mut Builder,
     left: &Value,
     right: &Value,
@@ -172,7 +264,14 @@ pub fn place(b: &mut Builder, p: &Place, register: u32, to: u32) -> Result<u32, 
         Place::Object(_, number) => b.address(register, *number, to),
         Place::Pointed(_, pointer) => pointed(b, pointer, register, to),
         Place::Held(_, pointer) => pointed(b, pointer, register, to),
-        _ => Err(AllocError),
+        Place::Element {
+            size,
+            pointer,
+            left,
+            right,
+            ..
+        } => element(b, *size, *pointer, left, right, register, to),
+        Place::Part { offset, whole, .. } => part(b, *offset, whole, register, to),
     }
 }
 

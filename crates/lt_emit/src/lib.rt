@@ -4,9 +4,11 @@
 mod accesses;
 mod builder;
 mod calm;
+mod changes;
 mod expression;
 mod fate;
 mod full;
+mod operations;
 mod pieces;
 mod pure;
 mod purity;

@@ -1,14 +1,21 @@
-use Rattle.std.proofs.Common.{◌≡◌, ℤ, ◌+◌, ap, sym, subst, ◌∙◌, SFits, rules}
+use Rattle.std.proofs.Common.{◌≡◌, ◌≢◌, ℕ, ℤ, ap, sym, subst, ◌∙◌, SFits, rules}
 use Rattle.std.specs.Int.{w128}
 use Rattle.std.proofs.lemmas.Int.{to_z-of_z}
 use Rattle.lt_code.specs.Code.{value_code}
 use Rattle.lt_tree.specs.Typing.Types.{Void}
 use Rattle.lt_tree.specs.Typing.TypeRows.{type_in}
-use Rattle.lt_tree.specs.Typing.ValueView.{value_of, place_of}
+use Rattle.lt_tree.specs.Typing.ValueView.{value_of, place_of, conversion_of, side_of, when_of}
 use Rattle.lt_tree.specs.Typing.TypedTree as e
+use Rattle.lt_tree.specs.declared.typed.tree.Conversion.{Conversion}
+use Rattle.lt_tree.specs.declared.typed.tree.Conversion.TheVariants as how
+use Rattle.lt_emit.specs.Fate.{fate_of}
 use Rattle.lt_emit.specs.Emission.{site_in}
-use Rattle.lt_emit.proofs.Adding.{last, last2, also}
-use Rattle.lt_emit.proofs.Arms.{plain_arm, place_arm, test_arm, plain_tested}
+use Rattle.lt_emit.specs.Operators.{changed}
+use Rattle.lt_emit.proofs.Adding.{last, last2, last3, last4, also}
+use Rattle.lt_emit.proofs.Changing.{update_is, update_knows, step_is, step_knows}
+use Rattle.lt_emit.proofs.Conversions.{converted_is, made_here, left_out, not_void}
+use Rattle.lt_emit.specs.Known.{named_in}
+use Rattle.lt_emit.proofs.Arms.{plain_arm, value_arm, fated, place_arm, test_arm, plain_tested}
 use Rattle.lt_emit.proofs.expression.+expression.Goals as goal
 
 pub load-returns : goal.load-returns
@@ -105,3 +112,245 @@ pub plain_test-returns : goal.plain_test-returns
 plain_test-returns t c =
     last c.in_ok-tested.ensures.code.adds c.value.ensures
     (λ from here it p q known. plain_tested (site_in here it) (it.point from) _ (c.requires.plain here.types) (q known) p.0)
+
+-- ---- conversions and operators
+
+pub operators::conversion-returns-in_ok-dropped : goal.operators::conversion-returns-in_ok-dropped
+operators::conversion-returns-in_ok-dropped t c =
+    let is : c.args.how ≡ how.ToVoid = search rules in
+    last c.in_ok-dropped.ensures.code.adds c.value.ensures (λ from here it p q known.
+    let Is : Conversion → Type 0 =
+    λ how. value_code (site_in here it) (fate_of c.args.fate) (e.Convert (conversion_of how) (type_in here.types c.args.ty)
+    (value_of here.types c.args.operand.now)) c.args.register (it.point from) (it.point c.args.to) in
+    subst Is (sym is) (p.0, (_, q known, p.1)))
+
+pub operators::conversion-returns-in_ok-converted : goal.operators::conversion-returns-in_ok-converted
+operators::conversion-returns-in_ok-converted t c =
+    let other : c.args.how ≢ how.ToVoid = search rules in
+    last c.in_ok-converted.ensures.code.adds c.value-then-converts.ensures (λ from here it p q known.
+    converted_is (site_in here it) (fate_of c.args.fate) (conversion_of c.args.how) _ _ c.args.register _ _ _
+    (not_void c.args.how other)
+    (fated (site_in here it) _ _ c.args.register _ _ c.inside.ensures (q known))
+    (made_here (site_in here it) (fate_of c.args.fate) (conversion_of c.args.how) _ c.args.register _ _
+    (sym c.if-converts.ensures) p))
+
+pub operators::conversion-returns-else-converts : goal.operators::conversion-returns-else-converts
+operators::conversion-returns-else-converts t c =
+    let other : c.args.how ≢ how.ToVoid = search rules in
+    also c.value-else-converts.ensures (λ from here it q known.
+    converted_is (site_in here it) (fate_of c.args.fate) (conversion_of c.args.how) _ _ c.args.register _ _ _
+    (not_void c.args.how other)
+    (fated (site_in here it) _ _ c.args.register _ _ c.inside-else-converts.ensures (q known))
+    (left_out (site_in here it) (fate_of c.args.fate) (conversion_of c.args.how) _ c.args.register _
+    (sym c.if-converts.ensures)))
+
+pub operators::minus-returns : goal.operators::minus-returns
+operators::minus-returns t c =
+    last c.in_ok-negated.ensures.code.adds c.value.ensures (λ from here it p q known fate. (p.0, (_, q known, p.1)))
+
+pub operators::complement-returns : goal.operators::complement-returns
+operators::complement-returns t c =
+    last c.in_ok-complemented.ensures.code.adds c.value.ensures (λ from here it p q known fate. (p.0, (_, q known, p.1)))
+
+pub operators::movement-returns : goal.operators::movement-returns
+operators::movement-returns t c =
+    last c.in_ok-moved.ensures.code.adds c.operands.ensures
+    (λ from here it p q known fate. (p.0, (_, q known.0 known.1, p.1)))
+
+pub operators::distance-returns : goal.operators::distance-returns
+operators::distance-returns t c =
+    last c.in_ok-subtracted.ensures.code.adds c.operands.ensures
+    (λ from here it p q known fate. (p.1.2, (_, q known.0 known.1, p.0)))
+
+pub operators::comparison-returns : goal.operators::comparison-returns
+operators::comparison-returns t c =
+    last c.in_ok-compared.ensures.code.adds c.operands.ensures
+    (λ from here it p q known fate. (p.1.2, (_, q known.0 known.1, p.0)))
+
+pub operators::element-returns : goal.operators::element-returns
+operators::element-returns t c =
+    last c.in_ok-moved.ensures.code.adds c.operands.ensures
+    (λ from here it p q known. (p.0, (_, q known.0 known.1, p.1)))
+
+pub operators::part-returns : goal.operators::part-returns
+operators::part-returns t c =
+    last c.in_ok-member.ensures.code.adds c.place.ensures (λ from here it p q known. (p.0, (_, q known, p.1)))
+
+-- ---- assignments
+
+pub assigning::assign-returns : goal.assigning::assign-returns
+assigning::assign-returns t c =
+    last2 c.in_ok-stored.ensures.code.adds c.in_ok-right.ensures.code.adds c.place.ensures
+    (λ from here it p q r known fate. (p.0, (_, r known.0, (_, q known.1, p.1))))
+
+pub assigning::update-returns : goal.assigning::update-returns
+assigning::update-returns t c =
+    last4 c.in_ok-changed.ensures.code.adds c.in_ok-joined.ensures.code.adds c.in_ok-right.ensures.code.adds
+    c.in_ok-read.ensures.code.adds c.place.ensures
+    (λ from here it p j q l r known fate.
+    let both = update_knows (named_in here) c.args.change _ _ _ known in
+    update_is (site_in here it) fate c.args.change _ _ _ c.args.register _ _
+    (p.0, (_, (_, r both.0, l.1), (_, (_, q both.1, j), p.1))))
+
+pub assigning::step-returns : goal.assigning::step-returns
+assigning::step-returns t c =
+    last3 c.in_ok-changed.ensures.code.adds c.in_ok-one.ensures.code.adds c.in_ok-read.ensures.code.adds c.place.ensures
+    (λ from here it p o l r known fate.
+    let Is : ℕ → Type 0 =
+    λ gives. changed c.args.change (site_in here it) (type_in here.types c.args.ty) c.args.register gives
+    (it.point c.in_ok-changed.changed) (it.point c.args.to) in
+    let new = subst Is c.kept_in-gives.ensures p in
+    step_is (site_in here it) fate c.args.change _ _ _ c.args.register _ _
+    (new.0, (_, (_, r (step_knows (named_in here) c.args.change _ _ _ known), l.1), (_, o.1, new.1))))
+
+-- ---- what is done in each case
+
+pub value-returns-in-Whole : goal.value-returns-in-Whole
+value-returns-in-Whole t c =
+    plain_arm c.args.v.now c.args.fate c.args.register c.args.to
+    (λ types. e.Whole (type_in types c.in-Whole.field-0) (place_of types c.deref-in-Whole.result.now))
+    (λ types. ap (value_of types) c.in-Whole.is
+    ∙ ap (λ p. e.Whole (type_in types c.in-Whole.field-0) (place_of types p)) (sym c.deref-in-Whole.ensures))
+    (also c.place.ensures (λ from here it p known fate. p known))
+
+pub value-returns-in-Decay : goal.value-returns-in-Decay
+value-returns-in-Decay t c =
+    plain_arm c.args.v.now c.args.fate c.args.register c.args.to
+    (λ types. e.Decay (type_in types c.in-Decay.field-0) (place_of types c.deref-in-Decay.result.now))
+    (λ types. ap (value_of types) c.in-Decay.is
+    ∙ ap (λ p. e.Decay (type_in types c.in-Decay.field-0) (place_of types p)) (sym c.deref-in-Decay.ensures))
+    (also c.place-in-Decay.ensures (λ from here it p known fate. p known))
+
+pub value-returns-in-AddressOf : goal.value-returns-in-AddressOf
+value-returns-in-AddressOf t c =
+    plain_arm c.args.v.now c.args.fate c.args.register c.args.to
+    (λ types. e.AddressOf (type_in types c.in-AddressOf.field-0) (place_of types c.deref-in-AddressOf.result.now))
+    (λ types. ap (value_of types) c.in-AddressOf.is
+    ∙ ap (λ p. e.AddressOf (type_in types c.in-AddressOf.field-0) (place_of types p)) (sym c.deref-in-AddressOf.ensures))
+    (also c.place-in-AddressOf.ensures (λ from here it p known fate. p known))
+
+pub value-returns-in-Convert : goal.value-returns-in-Convert
+value-returns-in-Convert t c =
+    value_arm c.args.v.now c.args.fate c.args.register c.args.to
+    (λ types. e.Convert (conversion_of c.in-Convert.how) (type_in types c.in-Convert.ty) (value_of types c.deref-in-Convert.result.now))
+    (λ types. ap (value_of types) c.in-Convert.is
+    ∙ ap (λ v. e.Convert (conversion_of c.in-Convert.how) (type_in types c.in-Convert.ty) (value_of types v)) (sym c.deref-in-Convert.ensures))
+    c.conversion.ensures
+
+pub value-returns-in-Minus : goal.value-returns-in-Minus
+value-returns-in-Minus t c =
+    plain_arm c.args.v.now c.args.fate c.args.register c.args.to
+    (λ types. e.Minus (type_in types c.in-Minus.ty) (value_of types c.deref-in-Minus.result.now))
+    (λ types. ap (value_of types) c.in-Minus.is
+    ∙ ap (λ v. e.Minus (type_in types c.in-Minus.ty) (value_of types v)) (sym c.deref-in-Minus.ensures))
+    c.minus.ensures
+
+pub value-returns-in-Complement : goal.value-returns-in-Complement
+value-returns-in-Complement t c =
+    plain_arm c.args.v.now c.args.fate c.args.register c.args.to
+    (λ types. e.Complement (type_in types c.in-Complement.ty) (value_of types c.deref-in-Complement.result.now))
+    (λ types. ap (value_of types) c.in-Complement.is
+    ∙ ap (λ v. e.Complement (type_in types c.in-Complement.ty) (value_of types v)) (sym c.deref-in-Complement.ensures))
+    c.complement.ensures
+
+pub value-returns-in-Move : goal.value-returns-in-Move
+value-returns-in-Move t c =
+    plain_arm c.args.v.now c.args.fate c.args.register c.args.to
+    (λ types. e.Move (type_in types c.in-Move.ty) c.in-Move.op c.in-Move.size (side_of c.in-Move.pointer) (value_of types c.deref-in-Move.result.now) (value_of types c.deref-in-Move-2.result.now))
+    (λ types. ap (value_of types) c.in-Move.is
+    ∙ ap (λ v. e.Move (type_in types c.in-Move.ty) c.in-Move.op c.in-Move.size (side_of c.in-Move.pointer) (value_of types v) (value_of types c.in-Move.right.value)) (sym c.deref-in-Move.ensures)
+    ∙ ap (λ v. e.Move (type_in types c.in-Move.ty) c.in-Move.op c.in-Move.size (side_of c.in-Move.pointer) (value_of types c.deref-in-Move.result.now) (value_of types v)) (sym c.deref-in-Move-2.ensures))
+    c.movement.ensures
+
+pub value-returns-in-Distance : goal.value-returns-in-Distance
+value-returns-in-Distance t c =
+    plain_arm c.args.v.now c.args.fate c.args.register c.args.to
+    (λ types. e.Distance (type_in types c.in-Distance.ty) c.in-Distance.size (value_of types c.deref-in-Distance.result.now) (value_of types c.deref-in-Distance-2.result.now))
+    (λ types. ap (value_of types) c.in-Distance.is
+    ∙ ap (λ v. e.Distance (type_in types c.in-Distance.ty) c.in-Distance.size (value_of types v) (value_of types c.in-Distance.right.value)) (sym c.deref-in-Distance.ensures)
+    ∙ ap (λ v. e.Distance (type_in types c.in-Distance.ty) c.in-Distance.size (value_of types c.deref-in-Distance.result.now) (value_of types v)) (sym c.deref-in-Distance-2.ensures))
+    c.distance.ensures
+
+pub value-returns-in-Compare : goal.value-returns-in-Compare
+value-returns-in-Compare t c =
+    plain_arm c.args.v.now c.args.fate c.args.register c.args.to
+    (λ types. e.Compare (type_in types c.in-Compare.field-0) c.in-Compare.op (value_of types c.deref-in-Compare.result.now) (value_of types c.deref-in-Compare-2.result.now))
+    (λ types. ap (value_of types) c.in-Compare.is
+    ∙ ap (λ v. e.Compare (type_in types c.in-Compare.field-0) c.in-Compare.op (value_of types v) (value_of types c.in-Compare.right.value)) (sym c.deref-in-Compare.ensures)
+    ∙ ap (λ v. e.Compare (type_in types c.in-Compare.field-0) c.in-Compare.op (value_of types c.deref-in-Compare.result.now) (value_of types v)) (sym c.deref-in-Compare-2.ensures))
+    c.comparison.ensures
+
+pub value-returns-in-Assign : goal.value-returns-in-Assign
+value-returns-in-Assign t c =
+    plain_arm c.args.v.now c.args.fate c.args.register c.args.to
+    (λ types. e.Assign (type_in types c.in-Assign.ty) (place_of types c.deref-in-Assign.result.now) (value_of types c.deref-in-Assign-2.result.now))
+    (λ types. ap (value_of types) c.in-Assign.is
+    ∙ ap (λ p. e.Assign (type_in types c.in-Assign.ty) (place_of types p) (value_of types c.in-Assign.v.value)) (sym c.deref-in-Assign.ensures)
+    ∙ ap (λ v. e.Assign (type_in types c.in-Assign.ty) (place_of types c.deref-in-Assign.result.now) (value_of types v)) (sym c.deref-in-Assign-2.ensures))
+    c.assign.ensures
+
+pub value-returns-in-Update : goal.value-returns-in-Update
+value-returns-in-Update t c =
+    plain_arm c.args.v.now c.args.fate c.args.register c.args.to
+    (λ types. e.Update (type_in types c.in-Update.ty) c.in-Update.op c.in-Update.operands (place_of types c.deref-in-Update.result.now) (value_of types c.deref-in-Update-2.result.now))
+    (λ types. ap (value_of types) c.in-Update.is
+    ∙ ap (λ p. e.Update (type_in types c.in-Update.ty) c.in-Update.op c.in-Update.operands (place_of types p) (value_of types c.in-Update.value.value)) (sym c.deref-in-Update.ensures)
+    ∙ ap (λ v. e.Update (type_in types c.in-Update.ty) c.in-Update.op c.in-Update.operands (place_of types c.deref-in-Update.result.now) (value_of types v)) (sym c.deref-in-Update-2.ensures))
+    c.update.ensures
+
+pub value-returns-in-UpdatePointer : goal.value-returns-in-UpdatePointer
+value-returns-in-UpdatePointer t c =
+    plain_arm c.args.v.now c.args.fate c.args.register c.args.to
+    (λ types. e.UpdatePointer (type_in types c.in-UpdatePointer.ty) c.in-UpdatePointer.op c.in-UpdatePointer.size (place_of types c.deref-in-UpdatePointer.result.now) (value_of types c.deref-in-UpdatePointer-2.result.now))
+    (λ types. ap (value_of types) c.in-UpdatePointer.is
+    ∙ ap (λ p. e.UpdatePointer (type_in types c.in-UpdatePointer.ty) c.in-UpdatePointer.op c.in-UpdatePointer.size (place_of types p) (value_of types c.in-UpdatePointer.value.value)) (sym c.deref-in-UpdatePointer.ensures)
+    ∙ ap (λ v. e.UpdatePointer (type_in types c.in-UpdatePointer.ty) c.in-UpdatePointer.op c.in-UpdatePointer.size (place_of types c.deref-in-UpdatePointer.result.now) (value_of types v)) (sym c.deref-in-UpdatePointer-2.ensures))
+    c.update-in-UpdatePointer.ensures
+
+pub value-returns-in-Step : goal.value-returns-in-Step
+value-returns-in-Step t c =
+    plain_arm c.args.v.now c.args.fate c.args.register c.args.to
+    (λ types. e.Step (type_in types c.in-Step.ty) (when_of c.in-Step.gives) c.in-Step.op c.in-Step.operands (place_of types c.deref-in-Step.result.now))
+    (λ types. ap (value_of types) c.in-Step.is
+    ∙ ap (λ p. e.Step (type_in types c.in-Step.ty) (when_of c.in-Step.gives) c.in-Step.op c.in-Step.operands (place_of types p)) (sym c.deref-in-Step.ensures))
+    c.step.ensures
+
+pub value-returns-in-StepPointer : goal.value-returns-in-StepPointer
+value-returns-in-StepPointer t c =
+    plain_arm c.args.v.now c.args.fate c.args.register c.args.to
+    (λ types. e.StepPointer (type_in types c.in-StepPointer.ty) (when_of c.in-StepPointer.gives) c.in-StepPointer.op c.in-StepPointer.size (place_of types c.deref-in-StepPointer.result.now))
+    (λ types. ap (value_of types) c.in-StepPointer.is
+    ∙ ap (λ p. e.StepPointer (type_in types c.in-StepPointer.ty) (when_of c.in-StepPointer.gives) c.in-StepPointer.op c.in-StepPointer.size (place_of types p)) (sym c.deref-in-StepPointer.ensures))
+    c.step-in-StepPointer.ensures
+
+pub place-returns-in-Element : goal.place-returns-in-Element
+place-returns-in-Element t c =
+    place_arm c.args.p.now c.args.register c.args.to
+    (λ types. e.Element (type_in types c.in-Element.ty) c.in-Element.size (side_of c.in-Element.pointer) (value_of types c.deref-in-Element.result.now) (value_of types c.deref-in-Element-2.result.now))
+    (λ types. ap (place_of types) c.in-Element.is
+    ∙ ap (λ v. e.Element (type_in types c.in-Element.ty) c.in-Element.size (side_of c.in-Element.pointer) (value_of types v) (value_of types c.in-Element.right.value)) (sym c.deref-in-Element.ensures)
+    ∙ ap (λ v. e.Element (type_in types c.in-Element.ty) c.in-Element.size (side_of c.in-Element.pointer) (value_of types c.deref-in-Element.result.now) (value_of types v)) (sym c.deref-in-Element-2.ensures))
+    c.element.ensures
+
+pub place-returns-in-Part : goal.place-returns-in-Part
+place-returns-in-Part t c =
+    place_arm c.args.p.now c.args.register c.args.to
+    (λ types. e.Part (type_in types c.in-Part.ty) c.in-Part.offset (place_of types c.deref-in-Part.result.now))
+    (λ types. ap (place_of types) c.in-Part.is
+    ∙ ap (λ p. e.Part (type_in types c.in-Part.ty) c.in-Part.offset (place_of types p)) (sym c.deref-in-Part.ensures))
+    c.part.ensures
+
+-- ---- marks behind expressions
+
+pub marking::after-returns : goal.marking::after-returns
+marking::after-returns t c =
+    last c.in_ok-marked.ensures.code.adds c.value.ensures (λ from here it p q known.
+    (_, fated (site_in here it) _ _ c.args.register _ _ c.of_last.ensures (q known.0), p known.1))
+
+pub value-returns-in-After : goal.value-returns-in-After
+value-returns-in-After t c =
+    value_arm c.args.v.now c.args.fate c.args.register c.args.to
+    (λ types. e.After (type_in types c.in-After.field-0) (value_of types c.deref-in-After.result.now) c.in-After.id)
+    (λ types. ap (value_of types) c.in-After.is
+    ∙ ap (λ v. e.After (type_in types c.in-After.field-0) (value_of types v) c.in-After.id) (sym c.deref-in-After.ensures))
+    c.after.ensures
