@@ -12,3 +12,12 @@ pub mod Conversions
 pub mod Changing
 pub mod Accessing
 pub mod Further
+pub mod Backwards
+pub mod UsedRegisters
+pub mod MarkRows
+pub mod Found
+pub mod CommaParts
+pub mod Arguments
+pub mod Connected
+pub mod Calls
+pub mod Begun

@@ -8,5 +8,6 @@ pub mod Accesses
 pub mod Calm
 pub mod Names
 pub mod Operators
-pub mod Accesses
 pub mod Marking
+pub mod Connecting
+pub mod Calling

@@ -1,14 +1,17 @@
 -- What is promised of the code of marks.
-use Rattle.std.specs.Prelude.{◌≡◌, ℕ, List, [], Bool, true, Some, slice_get}
+use Rattle.std.specs.Prelude.{◌≡◌, ℕ, List, [], Bool, true, not, Some, slice_get}
 use Rattle.std.specs.List.{list_all}
+use Rattle.lt_tree.specs.declared.typed.tree.Mark.{Mark}
+use Rattle.lt_tree.specs.Typing.ValueView.{marks_in}
 use Rattle.lt_ir.specs.declared.pure.Pure.{Pure}
 use Rattle.lt_ir.specs.declared.node.Node.TheVariants as node
 use Rattle.lt_ir.specs.PureView.{pure_of}
 use Rattle.lt_ir.specs.Ranges.{is_lookable}
-use Rattle.lt_code.specs.Code.{IsLabel, fixed_mark}
+use Rattle.lt_code.specs.Pieces.{◌▸◌}
+use Rattle.lt_code.specs.Code.{IsLabel, fixed_mark, marks}
 use Rattle.lt_emit.specs.declared.builder.Builder.{Builder}
 use Rattle.lt_emit.specs.Emission.{Here, Finished, site_in, counts_at}
-use Rattle.lt_emit.specs.Known.{IsLabelled}
+use Rattle.lt_emit.specs.Known.{IsLabelled, AreMarked}
 
 -- the variables that pure expressions name are there
 abbrev pub AreLookable : Builder → Pure → List Pure → Type 0
@@ -26,3 +29,15 @@ LabelStands id q qs to from here it =
 abbrev pub FixedMarkStands : (id : ℕ) → Bool → (to from : ℕ) → Here → Finished → Type 0
 FixedMarkStands id b to from here it =
     IsLabelled here id [] → fixed_mark (site_in here it) id b (it.point from) (it.point to)
+
+-- one that is true, and one that isn't
+abbrev pub BothMarksStand : (when_true when_false : ℕ) → Bool → (to from : ℕ) → Here → Finished → Type 0
+BothMarksStand when_true when_false b to from here it =
+    IsLabelled here when_true [] → IsLabelled here when_false []
+    → (fixed_mark (site_in here it) when_true b ▸ fixed_mark (site_in here it) when_false (not b)) (it.point from) (it.point to)
+
+-- marks, one behind the other
+abbrev pub MarksStand : List Mark → (to from : ℕ) → Here → Finished → Type 0
+MarksStand all to from here it =
+    AreMarked here (marks_in here.types all)
+    → marks (site_in here it) (marks_in here.types all) (it.point from) (it.point to)

@@ -1,5 +1,7 @@
 //! Code of expressions, C11 6.5.
 mod assigning;
+mod calling;
+mod connecting;
 mod marking;
 mod operators;
 
@@ -16,10 +18,13 @@ use crate::changes::Change;
 use crate::fate::Fate;
 use crate::pieces::room;
 use assigning::{assign, step, update};
+use calling::call;
+use connecting::{comma, conditional, connected, connected_test};
 use lt_ir::{How, Node, Parts};
 use lt_model::{Content, Op, Scalar};
 use lt_tree::typed::{Place, TypeId, Value};
-use marking::after;
+pub use marking::mark;
+use marking::{after, decided, decided_test, marked, marked_test};
 use operators::{comparison, complement, conversion, distance, element, minus, movement, part};
 use std::alloc::AllocError;
 
@@ -131,7 +136,19 @@ pub fn value(
             to,
         ),
         Value::After(_, operand, id) => after(b, fate, operand, *id, register, to),
-        _ => Err(AllocError),
+        Value::Logical(_, op, left, right) => connected(b, *op, left, right, register, to),
+        Value::Conditional(_, tested, left, right) => conditional(
+            b, fate, tested, left, right, register, to,
+        ),
+        Value::Call(ty, name, all) => call(b, fate, *ty, name, all.as_slice(), register, to),
+        Value::Comma(_, parts) => comma(b, fate, parts.as_slice(), register, to),
+        Value::Marked(_, marks, v) => marked(b, fate, marks.as_slice(), v, register, to),
+        Value::Decide {
+            operand,
+            when_true,
+            when_false,
+            ..
+        } => decided(b, operand, *when_true, *when_false, register, to),
     }
 }
 
@@ -215,7 +232,16 @@ pub fn test(b: &mut Builder, v: &Value, register: u32, on: u32, off: u32) -> Res
 {
     match v {
         Value::Not(_, operand) => negated_test(b, operand, register, on, off),
-        Value::Logical(..) | Value::Marked(..) | Value::Decide { .. } => Err(AllocError),
+        Value::Logical(_, op, left, right) => connected_test(
+            b, *op, left, right, register, on, off,
+        ),
+        Value::Marked(_, marks, v) => marked_test(b, marks.as_slice(), v, register, on, off),
+        Value::Decide {
+            operand,
+            when_true,
+            when_false,
+            ..
+        } => decided_test(b, operand, *when_true, *when_false, register, on, off),
         _ => plain_test(b, v, register, on, off),
     }
 }

@@ -1,14 +1,14 @@
-//! Code of full expressions, C11 6.8, and of marks.
+//! Code of full expressions, C11 6.8.
 
 ghost use Rattle.std.specs.Prelude.{◌≡◌, false};
 ghost use Rattle.lt_emit.specs.Emission.{Gives, HasPoint};
-ghost use Rattle.lt_emit.specs.Stands.{FullValueStands, FullTestStands, MarkStands};
+ghost use Rattle.lt_emit.specs.Stands.{FullValueStands, FullTestStands};
 
 use crate::builder::Builder;
 use crate::calm::{Grade, is_of};
 use crate::expression::{test, value};
 use crate::fate::Fate;
-use lt_tree::typed::{Mark, Value};
+use lt_tree::typed::Value;
 use std::alloc::AllocError;
 
 /// The code of a full expression, whose value goes to a register. Where nothing can clash it tracks no footprints.
@@ -46,12 +46,4 @@ pub fn full_test(
     let code = test(b, v, register, on, off);
     b.tracks = outside;
     code
-}
-
-/// The code of a mark.
-pub fn mark(b: &mut Builder, m: &Mark, to: u32) -> Result<u32, AllocError>
-    requires { HasPoint b.old to }
-    ensures { Gives b.old b.new result (MarkStands m.now to) }
-{
-    Err(AllocError)
 }

@@ -15,6 +15,7 @@ mod purity;
 mod turning;
 
 pub use builder::Builder;
+pub use expression::mark;
 pub use fate::Fate;
-pub use full::{full_test, full_value, mark};
+pub use full::{full_test, full_value};
 pub use turning::turned_round;

@@ -14,7 +14,7 @@ ghost use Rattle.lt_emit.specs.Stands.{CreateStands};
 
 use crate::builder::Builder;
 use crate::fate::Fate;
-use lt_ir::{Access, How, Node, Parts};
+use lt_ir::{Access, How, Node, Parts, Variable};
 use lt_model::Content;
 use lt_tree::typed::{Conversion, TypeId, Value};
 use std::alloc::AllocError;
@@ -202,6 +202,13 @@ impl<'t> Builder<'t> {
         requires { HasPoint self.old to }
         ensures { Gives self.old self.new result (CreateStands number is_zeroed to) }
     {
-        Err(AllocError)
+        match self.site.variable(number) {
+            Variable::Local(local) => self.emit(Node::Create {
+                local,
+                is_zeroed,
+                next: to,
+            }),
+            _ => Ok(to),
+        }
     }
 }

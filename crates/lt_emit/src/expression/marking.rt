@@ -1,20 +1,20 @@
-// Code of marks, and of what stands before them.
+// Code of marks, and of what stands behind them.
 
 ghost use Rattle.std.specs.Prelude.{◌≡◌, List};
 ghost use Rattle.lt_tree.specs.Typing.Types.{Void};
-ghost use Rattle.lt_tree.specs.Typing.ValueView.{value_of};
+ghost use Rattle.lt_tree.specs.Typing.ValueView.{value_of, marks_in};
 ghost use Rattle.lt_tree.specs.Typing.TypedTree as e;
 ghost use Rattle.lt_emit.specs.Emission.{Gives, HasPoint};
-ghost use Rattle.lt_emit.specs.Stands.{HasValue};
-ghost use Rattle.lt_emit.specs.Marking.{AreLookable, LabelStands, FixedMarkStands};
+ghost use Rattle.lt_emit.specs.Stands.{HasPlain, HasValue, HasTest, MarkStands};
+ghost use Rattle.lt_emit.specs.Marking.{AreLookable, LabelStands, FixedMarkStands, BothMarksStand, MarksStand};
 
 use crate::builder::Builder;
-use crate::expression::value;
+use crate::expression::{test, value};
 use crate::fate::Fate;
-use crate::pure::truth;
+use crate::pure::{pure, pures, truth};
 use lt_ir::{Node, Pure};
 use lt_model::Sequence;
-use lt_tree::typed::Value;
+use lt_tree::typed::{Mark, Value};
 use std::alloc::AllocError;
 
 impl<'t> Builder<'t> {
@@ -48,6 +48,116 @@ impl<'t> Builder<'t> {
     {
         self.label_mark(id, truth(holds), Vec::new(self.alloc), to)
     }
+
+    // The marks of `pc_decide`: the one for its truth, and the other.
+    fn both_marks(
+        &mut self,
+        when_true: u32,
+        when_false: u32,
+        holds: bool,
+        to: u32,
+    ) -> Result<u32, AllocError>
+        requires { HasPoint self.old to }
+        ensures { Gives self.old self.new result (BothMarksStand when_true when_false holds to) }
+    {
+        let second = self.fixed_mark(when_false, !holds, to)?;
+        self.fixed_mark(when_true, holds, second)
+    }
+}
+
+/// The code of a mark.
+pub fn mark(b: &mut Builder, m: &Mark, to: u32) -> Result<u32, AllocError>
+    requires { HasPoint b.old to }
+    ensures { Gives b.old b.new result (MarkStands m.now to) }
+{
+    let predicate = pure(b.alloc, b.site, &m.predicate)?;
+    let bound = pures(b.alloc, b.site, m.bound.as_slice())?;
+    b.label_mark(m.id, predicate, bound, to)
+}
+
+// Marks, one behind the other.
+fn marks(b: &mut Builder, all: &[Mark], to: u32) -> Result<u32, AllocError>
+    requires { HasPoint b.old to }
+    ensures { Gives b.old b.new result (MarksStand all.now to) }
+{
+    let mut from = to;
+    'marks: for at in (0..all.len()).rev() {
+        from = mark(b, &all[at], from)?;
+    }
+    Ok(from)
+}
+
+/// An expression behind marks.
+#[cycle(expression)]
+pub fn marked(
+    b: &mut Builder,
+    fate: Fate,
+    all: &[Mark],
+    v: &Value,
+    register: u32,
+    to: u32,
+) -> Result<u32, AllocError>
+    requires { HasPoint b.old to }
+    ensures { Gives b.old b.new result (HasValue (λ types. e.Marked Void (marks_in types all.now) (value_of types v.now)) fate register to) }
+{
+    let behind = value(b, fate.of_last(), v, register, to)?;
+    marks(b, all, behind)
+}
+
+/// The same as a test.
+#[cycle(expression)]
+pub fn marked_test(
+    b: &mut Builder,
+    all: &[Mark],
+    v: &Value,
+    register: u32,
+    on: u32,
+    off: u32,
+) -> Result<u32, AllocError>
+    requires on { HasPoint b.old on }
+    requires off { HasPoint b.old off }
+    ensures { Gives b.old b.new result (HasTest (λ types. e.Marked Void (marks_in types all.now) (value_of types v.now)) register on off) }
+{
+    let behind = test(b, v, register, on, off)?;
+    marks(b, all, behind)
+}
+
+/// `pc_decide`, whose value is whether its operand holds.
+#[cycle(expression)]
+pub fn decided(
+    b: &mut Builder,
+    operand: &Value,
+    when_true: u32,
+    when_false: u32,
+    register: u32,
+    to: u32,
+) -> Result<u32, AllocError>
+    requires { HasPoint b.old to }
+    ensures { Gives b.old b.new result (HasPlain (λ types. e.Decide Void (value_of types operand.now) when_true when_false) register to) }
+{
+    let on = b.truth(register, true, to)?;
+    let off = b.truth(register, false, to)?;
+    decided_test(b, operand, when_true, when_false, register, on, off)
+}
+
+/// The same as a test.
+#[cycle(expression)]
+pub fn decided_test(
+    b: &mut Builder,
+    operand: &Value,
+    when_true: u32,
+    when_false: u32,
+    register: u32,
+    on: u32,
+    off: u32,
+) -> Result<u32, AllocError>
+    requires on { HasPoint b.old on }
+    requires off { HasPoint b.old off }
+    ensures { Gives b.old b.new result (HasTest (λ types. e.Decide Void (value_of types operand.now) when_true when_false) register on off) }
+{
+    let marked_on = b.both_marks(when_true, when_false, true, on)?;
+    let marked_off = b.both_marks(when_true, when_false, false, off)?;
+    test(b, operand, register, marked_on, marked_off)
 }
 
 /// An expression, and the mark of `pc_after` behind it.

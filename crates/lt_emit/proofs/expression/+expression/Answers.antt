@@ -1,10 +1,12 @@
-use Rattle.std.proofs.Common.{◌≡◌, ◌≢◌, ℕ, ℤ, ap, sym, subst, ◌∙◌, SFits, rules}
+use Rattle.std.proofs.Common.{◌≡◌, ◌≢◌, ℕ, ℤ, ap, sym, subst, ◌∙◌, SFits, rules, ◌+◌, ◌-◌, ◌<◌, ◌≤◌, Bool, length, drop, nat_eq, refl, arith}
 use Rattle.std.specs.Int.{w128}
 use Rattle.std.proofs.lemmas.Int.{to_z-of_z}
-use Rattle.lt_code.specs.Code.{value_code}
+use Rattle.lt_meaning.specs.Expressions.{Fate}
+use Rattle.lt_code.specs.Code.{value_code, call}
 use Rattle.lt_tree.specs.Typing.Types.{Void}
 use Rattle.lt_tree.specs.Typing.TypeRows.{type_in}
-use Rattle.lt_tree.specs.Typing.ValueView.{value_of, place_of, conversion_of, side_of, when_of}
+use Rattle.lt_tree.specs.Typing.ValueView.{value_of, place_of, conversion_of, side_of, when_of, values_in, marks_in}
+use Rattle.lt_tree.proofs.TypedRows.{call_is, comma_is, marked_is}
 use Rattle.lt_tree.specs.Typing.TypedTree as e
 use Rattle.lt_tree.specs.declared.typed.tree.Conversion.{Conversion}
 use Rattle.lt_tree.specs.declared.typed.tree.Conversion.TheVariants as how
@@ -16,6 +18,14 @@ use Rattle.lt_emit.proofs.Changing.{update_is, update_knows, step_is, step_knows
 use Rattle.lt_emit.proofs.Conversions.{converted_is, made_here, left_out, not_void}
 use Rattle.lt_emit.specs.Known.{named_in}
 use Rattle.lt_emit.proofs.Arms.{plain_arm, value_arm, fated, place_arm, test_arm, plain_tested}
+use Rattle.lt_emit.specs.Stands.{HasTest}
+use Rattle.lt_emit.specs.Calling.{ArgumentsStand}
+use Rattle.lt_emit.specs.Connecting.{PartsStand, parts_from}
+use Rattle.lt_tree.specs.declared.expression.LogicalOp.{LogicalOp}
+use Rattle.lt_emit.proofs.Arguments.{arguments_counted, arguments_all, values_more, call_stands}
+use Rattle.lt_emit.proofs.Backwards.{none_left, one_more, all_of_them, last5}
+use Rattle.lt_emit.proofs.CommaParts.{last_is, part_stands, comma_stands}
+use Rattle.lt_emit.proofs.Connected.{connected_and, connected_or}
 use Rattle.lt_emit.proofs.expression.+expression.Goals as goal
 
 pub load-returns : goal.load-returns
@@ -354,3 +364,217 @@ value-returns-in-After t c =
     (λ types. ap (value_of types) c.in-After.is
     ∙ ap (λ v. e.After (type_in types c.in-After.field-0) (value_of types v) c.in-After.id) (sym c.deref-in-After.ensures))
     c.after.ensures
+
+-- ---- marks, and what stands behind them
+
+pub marking::marked-returns : goal.marking::marked-returns
+marking::marked-returns t c =
+    last c.in_ok-behind.ensures.code.adds c.marks.ensures (λ from here it p q known.
+    (_, q known.0, fated (site_in here it) (value_of here.types c.args.v.now) c.of_last.result _ _ _ c.of_last.ensures (p known.1)))
+
+pub marking::marked_test-returns : goal.marking::marked_test-returns
+marking::marked_test-returns t c =
+    last c.in_ok-behind.ensures.code.adds c.marks.ensures (λ from here it p q known. (_, q known.0, p known.1))
+
+pub marking::decided-returns : goal.marking::decided-returns
+marking::decided-returns t c =
+    last2 c.in_ok-on.ensures.code.adds c.in_ok-off.ensures.code.adds c.decided_test.ensures
+    (λ from here it p q r known fate. (p.0, (_, _, r known, p.1, q.1)))
+
+pub marking::decided_test-returns : goal.marking::decided_test-returns
+marking::decided_test-returns t c =
+    last2 c.in_ok-marked_on.ensures.code.adds c.in_ok-marked_off.ensures.code.adds c.test.ensures
+    (λ from here it p q r known. (_, _, r known.0, p known.1 known.2, q known.1 known.2))
+
+-- ---- `&&`, `||`, `?:` and `,`
+
+pub connecting::connected-returns : goal.connecting::connected-returns
+connecting::connected-returns t c =
+    last2 c.in_ok-on.ensures.code.adds c.in_ok-off.ensures.code.adds c.connected_test.ensures
+    (λ from here it p q r known fate. (p.0, (_, _, r known, p.1, q.1)))
+
+pub connecting::connected_test-returns-in-And : goal.connecting::connected_test-returns-in-And
+connecting::connected_test-returns-in-And t c =
+    also c.conjunction.ensures (λ from here it p.
+    let Is : LogicalOp → Type 0 = λ op. HasTest (λ types. e.Logical Void op (value_of types c.args.left.now) (value_of types c.args.right.now))
+    c.args.register c.args.on c.args.off from here it in
+    subst Is (sym c.in-And.is) p)
+
+pub connecting::connected_test-returns-in-Or : goal.connecting::connected_test-returns-in-Or
+connecting::connected_test-returns-in-Or t c =
+    also c.disjunction.ensures (λ from here it p.
+    let Is : LogicalOp → Type 0 = λ op. HasTest (λ types. e.Logical Void op (value_of types c.args.left.now) (value_of types c.args.right.now))
+    c.args.register c.args.on c.args.off from here it in
+    subst Is (sym c.in-Or.is) p)
+
+pub connecting::conjunction-returns : goal.connecting::conjunction-returns
+connecting::conjunction-returns t c =
+    last2 c.in_ok-further.ensures.code.adds c.in_ok-settled.ensures.code.adds c.test.ensures
+    (λ from here it p q r known. connected_and (site_in here it) (value_of here.types c.args.left.now) (value_of here.types c.args.right.now)
+    c.args.register (it.point from) (it.point c.args.on) (it.point c.args.off) _ _ (r known.0) (p known.1) q)
+
+pub connecting::disjunction-returns : goal.connecting::disjunction-returns
+connecting::disjunction-returns t c =
+    last2 c.in_ok-further.ensures.code.adds c.in_ok-settled.ensures.code.adds c.test.ensures
+    (λ from here it p q r known. connected_or (site_in here it) (value_of here.types c.args.left.now) (value_of here.types c.args.right.now)
+    c.args.register (it.point from) (it.point c.args.on) (it.point c.args.off) _ _ (r known.0) (p known.1) q)
+
+pub connecting::second-returns : goal.connecting::second-returns
+connecting::second-returns t c =
+    last3 c.in_ok-joined_on.ensures.code.adds c.in_ok-joined_off.ensures.code.adds c.in_ok-tested.ensures.code.adds c.clash-3.ensures
+    (λ from here it p q r s known. (_, _, (_, s, r known), p, q))
+
+pub connecting::conditional-returns : goal.connecting::conditional-returns
+connecting::conditional-returns t c =
+    last3 c.in_ok-joined.ensures.code.adds c.in_ok-on.ensures.code.adds c.in_ok-off.ensures.code.adds c.test.ensures
+    (λ from here it p q r s known. (p.0, (_, (_, _, s known.0, q known.1, r known.2), p.1)))
+
+pub connecting::branch-returns : goal.connecting::branch-returns
+connecting::branch-returns t c =
+    last c.in_ok-chosen.ensures.code.adds c.clash.ensures (λ from here it p q known.
+    (_, q, fated (site_in here it) (value_of here.types c.args.v.now) c.of_branch.result _ _ _ c.of_branch.ensures (p known)))
+
+pub connecting::comma_part-returns : goal.connecting::comma_part-returns
+connecting::comma_part-returns t c =
+    last c.in_ok-behind.ensures.code.adds c.value.ensures (λ from here it p q known.
+    (_, fated (site_in here it) (value_of here.types c.args.v.now) c.of_part.result _ _ _ c.of_part.ensures (q known), p))
+
+pub connecting::comma-parts-init : goal.connecting::comma-parts-init
+connecting::comma-parts-init t c =
+    none_left (λ row k. PartsStand c.of_last-last_fate.result row c.args.register c.args.to) c.args.parts.now _ c.args.to (omega arith) c.requires
+    (λ here it known. refl)
+
+pub connecting::comma-parts-preserved : goal.connecting::comma-parts-preserved
+connecting::comma-parts-preserved t c =
+    let parts = c.args.parts.now in
+    let k = c.parts.at in
+    let some : 0 < k = c.parts-test.true in
+    let fits : k ≤ length parts = omega (arith, c.parts.auto.at) in
+    let whole : (k - 1) + 1 ≡ k = omega (arith, some) in
+    one_more (λ row k. PartsStand c.of_last-last_fate.result row c.args.register c.args.to) parts k c.parts.from c.index-parts-at.result c.in_ok-from.from
+    some fits c.index-parts-at.is c.parts.invariant c.in_ok-from.ensures.code
+    (λ here it p q known. part_stands (site_in here it) (fate_of c.of_last-last_fate.result) _ (value_of here.types c.index-parts-at.result)
+    (values_in here.types (drop k parts)) c.args.register _ _ _
+    (ap (λ n. nat_eq n (length parts)) whole ∙ last_is here.types parts k fits) (q known.0) (p known.1))
+
+pub connecting::comma-returns : goal.connecting::comma-returns
+connecting::comma-returns t c =
+    last (all_of_them (λ row k. PartsStand c.of_last-last_fate.result row c.args.register c.args.to) c.args.parts.now c.parts.at c.parts.from (omega arith) c.parts.invariant).adds
+    c.constant.ensures
+    (λ from here it p q known.
+    let Of : Fate → Type 0 = λ f. parts_from (site_in here it) f (values_in here.types c.args.parts.now) c.args.register (it.point c.parts.from) (it.point c.args.to) in
+    comma_stands (site_in here it) (fate_of c.args.fate) (values_in here.types c.args.parts.now) c.args.register _ _ _ q (subst Of c.of_last-last_fate.ensures (p known)))
+
+-- ---- calls
+
+pub calling::values-arguments-init : goal.calling::values-arguments-init
+calling::values-arguments-init t c =
+    none_left (λ row k. ArgumentsStand row (c.args.register + k) c.args.to) c.args.arguments.now _ c.args.to (omega arith) c.requires.point
+    (λ here it known. refl)
+
+pub calling::values-arguments-preserved : goal.calling::values-arguments-preserved
+calling::values-arguments-preserved t c =
+    let row = c.args.arguments.now in
+    let k = c.arguments.at in
+    let some : 0 < k = c.arguments-test.true in
+    one_more (λ row k. ArgumentsStand row (c.args.register + k) c.args.to) row k c.arguments.from c.index-arguments-at.result c.in_ok-from.from
+    some (omega (arith, c.arguments.auto.at)) c.index-arguments-at.is c.arguments.invariant c.in_ok-from.ensures.code
+    (λ here it p q known. values_more (site_in here it) here.types (drop k row) c.args.register k _ _ _ c.index-arguments-at.result some
+    (q known.0) (p known.1))
+
+pub calling::values-returns : goal.calling::values-returns
+calling::values-returns t c = record {
+  code = arguments_all c.args.arguments.now c.arguments.at c.args.register c.args.to c.arguments.from (omega arith) c.arguments.invariant;
+}
+
+pub calling::call-returns : goal.calling::call-returns
+calling::call-returns t c =
+    last5 c.in_ok-called.ensures.code.adds c.in_ok-ticked.ensures.code.adds c.in_ok-passed.ensures.code.adds c.in_ok-settled.ensures.code.adds
+    c.in_ok-joined.ensures.code.adds c.values.ensures
+    (λ from here it p q r s u v known.
+    let t = type_in here.types c.args.ty in
+    let vs = values_in here.types c.args.arguments.now in
+    let Takes : Bool → Type 0 = λ b. call (site_in here it).stands here.stubs here.program.functions b c.args.name.now t c.args.register (length c.args.arguments.now)
+    (it.point c.in_ok-called.called) (it.point c.args.to) in
+    call_stands (site_in here it) (fate_of c.args.fate) t c.args.name.now vs c.args.register (length c.args.arguments.now) _ _ _ _ _ _ _ _
+    (arguments_counted here.types c.args.arguments.now) (v known.1) u.1 u.2 s r q.0 (subst Takes c.takes.ensures (p known.0)))
+
+-- ---- their arms
+
+pub value-returns-in-Logical : goal.value-returns-in-Logical
+value-returns-in-Logical t c =
+    plain_arm c.args.v.now c.args.fate c.args.register c.args.to
+    (λ types. e.Logical (type_in types c.in-Logical.field-0) c.in-Logical.op (value_of types c.deref-in-Logical.result.now) (value_of types c.deref-in-Logical-2.result.now))
+    (λ types. ap (value_of types) c.in-Logical.is
+    ∙ ap (λ v. e.Logical (type_in types c.in-Logical.field-0) c.in-Logical.op (value_of types v) (value_of types c.in-Logical.right.value)) (sym c.deref-in-Logical.ensures)
+    ∙ ap (λ v. e.Logical (type_in types c.in-Logical.field-0) c.in-Logical.op (value_of types c.deref-in-Logical.result.now) (value_of types v)) (sym c.deref-in-Logical-2.ensures))
+    c.connected.ensures
+
+pub test-returns-in-Logical : goal.test-returns-in-Logical
+test-returns-in-Logical t c =
+    test_arm c.args.v.now c.args.register c.args.on c.args.off
+    (λ types. e.Logical (type_in types c.in-Logical.field-0) c.in-Logical.op (value_of types c.deref-in-Logical.result.now) (value_of types c.deref-in-Logical-2.result.now))
+    (λ types. ap (value_of types) c.in-Logical.is
+    ∙ ap (λ v. e.Logical (type_in types c.in-Logical.field-0) c.in-Logical.op (value_of types v) (value_of types c.in-Logical.right.value)) (sym c.deref-in-Logical.ensures)
+    ∙ ap (λ v. e.Logical (type_in types c.in-Logical.field-0) c.in-Logical.op (value_of types c.deref-in-Logical.result.now) (value_of types v)) (sym c.deref-in-Logical-2.ensures))
+    c.connected_test.ensures
+
+pub value-returns-in-Conditional : goal.value-returns-in-Conditional
+value-returns-in-Conditional t c =
+    value_arm c.args.v.now c.args.fate c.args.register c.args.to
+    (λ types. e.Conditional (type_in types c.in-Conditional.field-0) (value_of types c.deref-in-Conditional.result.now) (value_of types c.deref-in-Conditional-2.result.now) (value_of types c.deref-in-Conditional-3.result.now))
+    (λ types. ap (value_of types) c.in-Conditional.is
+    ∙ ap (λ v. e.Conditional (type_in types c.in-Conditional.field-0) (value_of types v) (value_of types c.in-Conditional.left.value) (value_of types c.in-Conditional.right.value)) (sym c.deref-in-Conditional.ensures)
+    ∙ ap (λ v. e.Conditional (type_in types c.in-Conditional.field-0) (value_of types c.deref-in-Conditional.result.now) (value_of types v) (value_of types c.in-Conditional.right.value)) (sym c.deref-in-Conditional-2.ensures)
+    ∙ ap (λ v. e.Conditional (type_in types c.in-Conditional.field-0) (value_of types c.deref-in-Conditional.result.now) (value_of types c.deref-in-Conditional-2.result.now) (value_of types v)) (sym c.deref-in-Conditional-3.ensures))
+    c.conditional.ensures
+
+pub value-returns-in-Call : goal.value-returns-in-Call
+value-returns-in-Call t c =
+    value_arm c.args.v.now c.args.fate c.args.register c.args.to
+    (λ types. e.Call (type_in types c.in-Call.ty) c.in-Call.name (values_in types c.as_slice.result.now))
+    (λ types. call_is types c.in-Call.ty c.in-Call.name c.in-Call.all c.args.v.now c.in-Call.is
+    ∙ ap (λ row. e.Call (type_in types c.in-Call.ty) c.in-Call.name (values_in types row)) (sym c.as_slice.ensures.value))
+    c.call.ensures
+
+pub value-returns-in-Comma : goal.value-returns-in-Comma
+value-returns-in-Comma t c =
+    value_arm c.args.v.now c.args.fate c.args.register c.args.to
+    (λ types. e.Comma (type_in types c.in-Comma.field-0) (values_in types c.as_slice-in-Comma.result.now))
+    (λ types. comma_is types c.in-Comma.field-0 c.in-Comma.parts c.args.v.now c.in-Comma.is
+    ∙ ap (λ row. e.Comma (type_in types c.in-Comma.field-0) (values_in types row)) (sym c.as_slice-in-Comma.ensures.value))
+    c.comma.ensures
+
+pub value-returns-in-Marked : goal.value-returns-in-Marked
+value-returns-in-Marked t c =
+    value_arm c.args.v.now c.args.fate c.args.register c.args.to
+    (λ types. e.Marked (type_in types c.in-Marked.field-0) (marks_in types c.as_slice-in-Marked.result.now) (value_of types c.deref-in-Marked.result.now))
+    (λ types. marked_is types c.in-Marked.field-0 c.in-Marked.marks c.in-Marked.v c.args.v.now c.in-Marked.is
+    ∙ ap (λ row. e.Marked (type_in types c.in-Marked.field-0) (marks_in types row) (value_of types c.in-Marked.v.value)) (sym c.as_slice-in-Marked.ensures.value)
+    ∙ ap (λ v. e.Marked (type_in types c.in-Marked.field-0) (marks_in types c.as_slice-in-Marked.result.now) (value_of types v)) (sym c.deref-in-Marked.ensures))
+    c.marked.ensures
+
+pub test-returns-in-Marked : goal.test-returns-in-Marked
+test-returns-in-Marked t c =
+    test_arm c.args.v.now c.args.register c.args.on c.args.off
+    (λ types. e.Marked (type_in types c.in-Marked.field-0) (marks_in types c.as_slice.result.now) (value_of types c.deref-in-Marked.result.now))
+    (λ types. marked_is types c.in-Marked.field-0 c.in-Marked.marks c.in-Marked.v c.args.v.now c.in-Marked.is
+    ∙ ap (λ row. e.Marked (type_in types c.in-Marked.field-0) (marks_in types row) (value_of types c.in-Marked.v.value)) (sym c.as_slice.ensures.value)
+    ∙ ap (λ v. e.Marked (type_in types c.in-Marked.field-0) (marks_in types c.as_slice.result.now) (value_of types v)) (sym c.deref-in-Marked.ensures))
+    c.marked_test.ensures
+
+pub value-returns-in-Decide : goal.value-returns-in-Decide
+value-returns-in-Decide t c =
+    plain_arm c.args.v.now c.args.fate c.args.register c.args.to
+    (λ types. e.Decide (type_in types c.in-Decide.ty) (value_of types c.deref-in-Decide.result.now) c.in-Decide.when_true c.in-Decide.when_false)
+    (λ types. ap (value_of types) c.in-Decide.is
+    ∙ ap (λ v. e.Decide (type_in types c.in-Decide.ty) (value_of types v) c.in-Decide.when_true c.in-Decide.when_false) (sym c.deref-in-Decide.ensures))
+    c.decided.ensures
+
+pub test-returns-in-Decide : goal.test-returns-in-Decide
+test-returns-in-Decide t c =
+    test_arm c.args.v.now c.args.register c.args.on c.args.off
+    (λ types. e.Decide (type_in types c.in-Decide.ty) (value_of types c.deref-in-Decide.result.now) c.in-Decide.when_true c.in-Decide.when_false)
+    (λ types. ap (value_of types) c.in-Decide.is
+    ∙ ap (λ v. e.Decide (type_in types c.in-Decide.ty) (value_of types v) c.in-Decide.when_true c.in-Decide.when_false) (sym c.deref-in-Decide.ensures))
+    c.decided_test.ensures

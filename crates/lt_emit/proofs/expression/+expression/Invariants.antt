@@ -1,6 +1,10 @@
-use Rattle.std.proofs.Common.{◌+◌, ◌*◌, max}
+use denote.Param.Weighed.{most}
+use Rattle.std.proofs.Common.{◌+◌, ◌*◌, max, drop}
 use Rattle.lt_tree.specs.declared.typed.tree.Value.{size-Value}
 use Rattle.lt_tree.specs.declared.typed.tree.Place.{size-Place}
+use Rattle.lt_emit.specs.Emission.{Emits}
+use Rattle.lt_emit.specs.Connecting.{PartsStand}
+use Rattle.lt_emit.specs.Calling.{ArgumentsStand}
 use Rattle.lt_emit.proofs.expression.+expression.Given as goal
 
 -- measures: the depth of what is gone over, and which function calls which at the same depth
@@ -70,3 +74,58 @@ decreases-assigning::step l = 8 * goal.size-assigning::step l + 2
 
 abbrev pub decreases-marking::after : goal.decreases-marking::after
 decreases-marking::after l = 8 * goal.size-marking::after l + 2
+
+abbrev pub decreases-marking::marked : goal.decreases-marking::marked
+decreases-marking::marked l = 8 * size-Value l.v.now + 1
+
+abbrev pub decreases-marking::marked_test : goal.decreases-marking::marked_test
+decreases-marking::marked_test l = 8 * size-Value l.v.now + 3
+
+abbrev pub decreases-marking::decided_test : goal.decreases-marking::decided_test
+decreases-marking::decided_test l = 8 * size-Value l.operand.now + 3
+
+abbrev pub decreases-marking::decided : goal.decreases-marking::decided
+decreases-marking::decided l = 8 * size-Value l.operand.now + 4
+
+abbrev pub decreases-connecting::second : goal.decreases-connecting::second
+decreases-connecting::second l = 8 * size-Value l.right.now + 3
+
+abbrev pub decreases-connecting::conjunction : goal.decreases-connecting::conjunction
+decreases-connecting::conjunction l = 8 * max (size-Value l.left.now) (size-Value l.right.now) + 4
+
+abbrev pub decreases-connecting::disjunction : goal.decreases-connecting::disjunction
+decreases-connecting::disjunction l = 8 * max (size-Value l.left.now) (size-Value l.right.now) + 4
+
+abbrev pub decreases-connecting::connected_test : goal.decreases-connecting::connected_test
+decreases-connecting::connected_test l = 8 * max (size-Value l.left.now) (size-Value l.right.now) + 5
+
+abbrev pub decreases-connecting::connected : goal.decreases-connecting::connected
+decreases-connecting::connected l = 8 * max (size-Value l.left.now) (size-Value l.right.now) + 6
+
+abbrev pub decreases-connecting::branch : goal.decreases-connecting::branch
+decreases-connecting::branch l = 8 * size-Value l.v.now + 1
+
+abbrev pub decreases-connecting::conditional : goal.decreases-connecting::conditional
+decreases-connecting::conditional l = 8 * max (size-Value l.tested.now) (max (size-Value l.left.now) (size-Value l.right.now)) + 3
+
+abbrev pub decreases-connecting::comma_part : goal.decreases-connecting::comma_part
+decreases-connecting::comma_part l = 8 * size-Value l.v.now + 1
+
+abbrev pub decreases-connecting::comma : goal.decreases-connecting::comma
+decreases-connecting::comma l = 8 * most size-Value l.parts.now + 2
+
+abbrev pub decreases-calling::values : goal.decreases-calling::values
+decreases-calling::values l = 8 * most size-Value l.arguments.now + 2
+
+abbrev pub decreases-calling::call : goal.decreases-calling::call
+decreases-calling::call l = 8 * most size-Value l.arguments.now + 3
+
+-- the parts of a comma expression from one on
+abbrev pub invariant-connecting::comma-parts : goal.invariant-connecting::comma-parts
+invariant-connecting::comma-parts l =
+    Emits l.initial.b l.b l.from (PartsStand l.last_fate (drop l.at l.parts) l.register l.to l.from)
+
+-- the arguments of a call from one on
+abbrev pub invariant-calling::values-arguments : goal.invariant-calling::values-arguments
+invariant-calling::values-arguments l =
+    Emits l.initial.b l.b l.from (ArgumentsStand (drop l.at l.arguments) (l.register + l.at) l.to l.from)

@@ -15,3 +15,8 @@ reads_by-requires-clause-there c =
     (there_still _ c.in_ok-aimed.ensures.code.adds.grows
     (there_still _ c.in_ok-converted.ensures.code.adds.grows
     (there_still _ c.in_ok-stored.ensures.code.adds.grows c.in_ok-access.ensures.there)))
+
+pub target-requires-clause-there : goal.target-requires-clause-there
+target-requires-clause-there c =
+    there_still _ c.in_ok-converted.ensures.code.adds.grows
+    (there_still _ c.in_ok-stored.ensures.code.adds.grows c.in_ok-access.ensures.there)
