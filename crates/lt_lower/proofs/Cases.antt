@@ -1,5 +1,5 @@
 -- The statements of a `switch`, and where their labels lead.
-use Rattle.std.proofs.Common.{◌≡◌, ℕ, suc, ◌+◌, ◌-◌, ◌<◌, ◌≤◌, List, [], ◌∷◌, ◌++◌, map, reverse, length, drop, get_or, true, ◌&&◌, Some, None, Option, slice_get, refl, sym, subst, ap, ◌∙◌, arith}
+use Rattle.std.proofs.Common.{◌≡◌, ℕ, ◌-◌, ◌<◌, ◌≤◌, List, [], ◌∷◌, ◌++◌, map, reverse, length, drop, get_or, true, ◌&&◌, Some, None, Option, slice_get, refl, sym, subst, ap, ◌∙◌, arith}
 use Rattle.std.specs.Prelude.{IfSome, unwrap_or}
 use Rattle.std.proofs.Common.{Bool, false, nat_lt}
 use Rattle.std.proofs.lemmas.Bool.{lt-ltb, ltb-true}
@@ -7,21 +7,18 @@ use Rattle.std.proofs.lemmas.List.{drop_all, reverse-append}
 use Rattle.lt_tree.specs.declared.typed.statement.Case.{Case}
 use Rattle.lt_tree.specs.declared.typed.statement.Label.{Label}
 use Rattle.lt_tree.specs.declared.typed.statement.Label.TheVariants as label
-use Rattle.lt_tree.specs.Typing.TypedTree as e
-use Rattle.lt_tree.specs.Typing.StatementView.{label_of, statement_of, cases_in}
+use Rattle.lt_tree.specs.Typing.StatementView.{label_of}
 use Rattle.lt_ir.specs.declared.node.Arm.{Arm}
 use Rattle.lt_ir.specs.declared.node.Node.TheVariants as node
-use Rattle.lt_code.specs.Bodies as code
 use Rattle.lt_code.specs.Bodies.{Entry, arms_of, default_of, labels_at}
 use Rattle.lt_emit.specs.declared.builder.Builder.{Builder}
 use Rattle.lt_emit.specs.Turning.{turned_arm, are_below}
-use Rattle.lt_emit.specs.Emission.{Here, here_of, Finished, site_in, Grows, Adds, Emits, HasPoint}
+use Rattle.lt_emit.specs.Emission.{Here, Finished, Grows, Adds, HasPoint}
 use Rattle.lt_emit.proofs.Adding.{both}
 use Rattle.lt_lower.specs.declared.flow.Exits.{Exits as HeldExits}
 use Rattle.lt_lower.specs.declared.flow.Entered.{Entered}
-use Rattle.lt_lower.specs.Known.{AreKnownCases}
-use Rattle.lt_lower.specs.Stands.{HasExits, exits_in, HasCases, HasArms, arms_at, default_at, FlowStands, PutsLabels, PutsCase, ChoiceStands}
-use Rattle.lt_lower.proofs.Flows.{nothing_added, adds_too, row_from, point_after}
+use Rattle.lt_lower.specs.Stands.{HasCases, HasArms, arms_at, default_at, FlowStands, PutsLabels, PutsCase, ChoiceStands}
+use Rattle.lt_lower.proofs.Flows.{nothing_added, row_from, point_after}
 
 -- ---- labels
 

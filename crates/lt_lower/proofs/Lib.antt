@@ -1,5 +1,10 @@
 pub mod Flows
 pub mod Objects
+pub mod Parameters
+pub mod Codes
+pub mod ZeroRows
+pub mod Lowerable
+pub mod Programs
 pub mod Ends
 pub mod Items
 pub mod Cases

@@ -1,5 +1,5 @@
 -- First values of objects: their parts, and the letters of strings.
-use Rattle.std.proofs.Common.{◌≡◌, ℕ, suc, Bool, true, false, ◌+◌, ◌-◌, ◌<◌, ◌≤◌, List, [], ◌∷◌, map, length, drop, get_or, drop-cons, Option, None, Some, Result, refl, sym, ap, subst, ◌∙◌, arith}
+use Rattle.std.proofs.Common.{◌≡◌, ℕ, suc, Bool, true, false, ◌+◌, ◌-◌, ◌<◌, ◌≤◌, List, ◌∷◌, length, drop, get_or, drop-cons, Result, refl, sym, ap, subst, ◌∙◌, arith}
 use Rattle.std.proofs.lemmas.List.{drop_all}
 use Rattle.std.specs.declared.alloc.AllocError.{AllocError}
 use Rattle.lt_model.specs.declared.scalar.Scalar.{Scalar}
@@ -10,9 +10,8 @@ use Rattle.lt_tree.specs.Typing.StatementView.{start_part_of}
 use Rattle.lt_ir.specs.declared.node.Access.{Access}
 use Rattle.lt_ir.specs.declared.node.Access.TheVariants as access
 use Rattle.lt_code.specs.Code.{Site, IsAccessTo, tracking_at}
-use Rattle.lt_code.specs.Bodies as code
 use Rattle.lt_emit.specs.declared.builder.Builder.{Builder}
-use Rattle.lt_emit.specs.Emission.{Here, Finished, site_in, Adds, Emits, Gives, HasPoint}
+use Rattle.lt_emit.specs.Emission.{Emits, Gives, HasPoint}
 use Rattle.lt_emit.proofs.Adding.{also, both}
 use Rattle.lt_lower.specs.Stands.{ObjectStands, HasPart, PartStands, PartsStand, LettersStand, letter}
 use Rattle.lt_lower.proofs.Flows.{nothing_added, row_from}

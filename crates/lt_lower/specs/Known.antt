@@ -1,12 +1,8 @@
 -- That what the statements of a function name is known: labels, called functions, and the objects that they begin.
-use Rattle.std.specs.Prelude.{◌≡◌, ℕ, List, [], ◌∷◌, true, Option, Some, None, slice_get}
-use Rattle.lt_tree.specs.Typing.Types.{CType}
-use Rattle.lt_tree.specs.Typing.Entities.{Function}
-use Rattle.lt_tree.specs.Typing.Programs.{Program}
+use Rattle.std.specs.Prelude.{List, [], ◌∷◌, Option, Some, None}
 use Rattle.lt_tree.specs.Typing.TypedTree as e
 use Rattle.lt_tree.specs.Typing.TypedTree.{Value, Statement, Items, Cases, Local, StartPart}
 use Rattle.lt_meaning.specs.Statements.{parts_in}
-use Rattle.lt_tables.specs.Lookups.{stubs_of}
 use Rattle.lt_emit.specs.Emission.{Here}
 use Rattle.lt_emit.specs.Known.{IsKnown, IsMarked, IsOwn}
 
@@ -64,16 +60,3 @@ abbrev mutual
   pub AreKnownCases : Here → Cases → Type 0
   AreKnownCases here e.no_cases = Unit {0}
   AreKnownCases here (e.a_case labels first rest) = IsKnownStatement here first × AreKnownCases here rest
-
--- ---- programs
-
--- what is known of a function of a program
-abbrev pub here_in : Program → List CType → Function → Here
-here_in program types f =
-    record { program = program; types = types; function = f; stubs = stubs_of program; tracks = true }
-
--- In each function all that its statements name is known.
-abbrev pub IsLowerable : Program → Type 0
-IsLowerable program =
-    (k : ℕ) (f : Function) (types : List CType) → slice_get program.functions k ≡ Some f
-    → AreKnownItems (here_in program types f) f.body

@@ -1,2 +1,5 @@
 pub mod Known
 pub mod Stands
+pub mod Zeros
+pub mod Functions
+pub mod Programs

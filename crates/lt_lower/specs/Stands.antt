@@ -21,7 +21,6 @@ use Rattle.lt_tree.specs.Typing.StatementView.{statement_of, items_in, cases_in,
 use Rattle.lt_model.specs.declared.cell.Content.TheVariants as content
 use Rattle.lt_model.specs.declared.scalar.Scalar.{Scalar}
 use Rattle.lt_ir.specs.declared.variable.Variable.{Variable}
-use Rattle.lt_ir.specs.declared.code.Code.{Code}
 use Rattle.lt_ir.specs.declared.node.Arm.{Arm}
 use Rattle.lt_ir.specs.declared.node.Node.TheVariants as node
 use Rattle.lt_ir.specs.Tables.{arm_of}
@@ -30,15 +29,13 @@ use Rattle.lt_meaning.specs.Expressions.{dropped, cell_type}
 use Rattle.lt_code.specs.Code.{Site as CodeSite, mark, full_value, up_to, constant, program_in}
 use Rattle.lt_code.specs.Bodies as code
 use Rattle.lt_code.specs.Bodies.{Exits, Entry, arms_of, default_of, HasCode, HasEnds, label_of}
-use Rattle.lt_tables.specs.declared.site.Site.{Site}
-use Rattle.lt_tables.specs.Views.{program_at, types_at, function_at}
 use Rattle.lt_emit.specs.Turning.{turned_arm, are_below}
 use Rattle.lt_emit.specs.declared.builder.Builder.{Builder}
 use Rattle.lt_emit.specs.Emission.{Here, Finished, site_in, Adds, Emits, HasPoint}
 use Rattle.lt_emit.specs.Known.{IsKnown, IsMarked}
 use Rattle.lt_lower.specs.declared.flow.Exits.{Exits as HeldExits}
 use Rattle.lt_lower.specs.declared.flow.Entered.{Entered}
-use Rattle.lt_lower.specs.Known.{here_in, IsKnownPart, AreKnownParts, IsKnownStatement, AreKnownItems, AreKnownCases, IsKnownLocal, AreKnownLocals, IsKnownIfThere}
+use Rattle.lt_lower.specs.Known.{IsKnownPart, AreKnownParts, IsKnownStatement, AreKnownItems, AreKnownCases, IsKnownLocal, AreKnownLocals, IsKnownIfThere}
 
 -- ---- where statements lead
 
@@ -289,12 +286,3 @@ abbrev pub ChoiceStands : List Arm → (default from : ℕ) → Here → Finishe
 ChoiceStands arms default from here it =
     (table : List Arm) × (slice_get it.nodes (it.point from)
     ≡ Some (node.Switch 0 (map (turned_arm it.point) arms) table (it.point default)))
-
--- ---- functions
-
--- The code of a function, where what it names is known.
-abbrev pub CodeStands : Site → Code → Type 0
-CodeStands site it =
-    AreKnownItems (here_in (program_at site.tables.now) (types_at site.tables.now) (function_at site)) (function_at site).body
-    → HasCode (program_at site.tables.now) (map label_of (program_at site.tables.now).labels)
-    site.tables.now.stubs.items (function_at site) it

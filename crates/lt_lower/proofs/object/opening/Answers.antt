@@ -1,8 +1,7 @@
-use Rattle.std.proofs.Common.{◌≡◌, List, Option, None, Some, refl, sym, subst, ap, ◌∙◌}
+use Rattle.std.proofs.Common.{List, Option, refl, sym, subst}
 use Rattle.std.specs.Prelude.{option_map}
 use Rattle.lt_tree.specs.declared.typed.statement.Start.{Start}
 use Rattle.lt_tree.specs.declared.typed.statement.StartPart.{StartPart}
-use Rattle.lt_tree.specs.Typing.TypedTree as e
 use Rattle.lt_tree.specs.Typing.StatementView.{start_of}
 use Rattle.lt_meaning.specs.Statements.{parts_in}
 use Rattle.lt_code.specs.Bodies as code
