@@ -1,5 +1,5 @@
-// The machine runs graphs: `run_into` shows a watch each mark of a run, and `run` keeps the marks. `specs/Promise.antt` says what they
-// promise.
+// The machine runs graphs step by step, and shows a watch each mark that is made. `specs/Standing.antt` says what its steps promise, and
+// `specs/Promise.antt` what a whole run will.
 #![tactic(auto)]
 
 mod acting;
