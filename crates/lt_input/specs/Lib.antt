@@ -1,3 +1,5 @@
+pub mod SmallTree
+pub mod SmallMeaning
 pub mod Cases
 pub mod Lines
 pub mod Suite

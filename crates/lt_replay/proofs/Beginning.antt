@@ -7,9 +7,9 @@ use Rattle.std.proofs.lemmas.List.{append-nil, map-append, length-map, length-re
 use Rattle.std.proofs.lemmas.List.Elements.{All-head, All-tail, All-weaker}
 use Rattle.lt_model.specs.Memory.{Memory}
 use Rattle.lt_model.specs.declared.cell.Content.TheVariants as content
-use Rattle.lt_tree.specs.SmallTree.{Label, Program, id_of, labels_in, names_in}
-use Rattle.lt_tree.specs.SmallMeaning as M
-use Rattle.lt_tree.specs.SmallMeaning.{At, Bound, Answer, object_of, with_params, with_locals, run, over}
+use Rattle.lt_input.specs.SmallTree.{Label, Program, id_of, labels_in, names_in}
+use Rattle.lt_input.specs.SmallMeaning as M
+use Rattle.lt_input.specs.SmallMeaning.{At, Bound, Answer, object_of, with_params, with_locals, run, over}
 use Rattle.lt_replay.specs.declared.code.Code.{Code}
 use Rattle.lt_replay.specs.Code.{steps_in}
 use Rattle.lt_replay.specs.Form.{variables, ids_in}

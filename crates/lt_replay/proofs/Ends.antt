@@ -8,8 +8,8 @@ use Rattle.lt_model.specs.declared.cell.Content.TheVariants as content
 use Rattle.lt_model.specs.Memory.{Memory, store}
 use Rattle.lt_model.specs.State.{Gives, Ends, bind}
 use Rattle.lt_tree.specs.Tree as t
-use Rattle.lt_tree.specs.SmallTree.{Program, labels_before, behind_labels}
-use Rattle.lt_tree.specs.SmallMeaning.{At, Answer, Flow, Next, Returns, after, answered, spent, tested, choose, stored, turns, assigned, evaluated, exec, exec_items, over, run, marked, marked_all, value, object_of, int}
+use Rattle.lt_input.specs.SmallTree.{Program, labels_before, behind_labels}
+use Rattle.lt_input.specs.SmallMeaning.{At, Answer, Flow, Next, Returns, after, answered, spent, tested, choose, stored, turns, assigned, evaluated, exec, exec_items, over, run, marked, marked_all, value, object_of, int}
 
 -- an end of a small function
 abbrev pub IsSmallEnd : End → Type 0

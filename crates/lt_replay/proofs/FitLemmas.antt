@@ -6,7 +6,7 @@ use Rattle.lt_tree.specs.declared.expression.UnaryOp.TheVariants as prefix
 use Rattle.lt_tree.specs.declared.stop.Stop.{Stop}
 use Rattle.lt_tree.specs.declared.stop.Stop.TheVariants.{NotOfForm, NoMemory}
 use Rattle.lt_tree.specs.Tree as t
-use Rattle.lt_tree.specs.SmallTree.{IsSmallExpression, a_name, a_constant, a_minus, a_negation, an_operation, AreSmallMarks, marks_end, marks_more, IsSmallTest, plain, behind_marks, IsSmallStatement, a_block, an_assignment, an_if, an_if_else, a_while, a_return, AreSmallItems, items_end, items_statement, items_label, IsSmallBody, body_items, body_local, Program, predicate_of, labels_of, names_in_expression, names_in_labels, names_in_test, names_evaluated, names_in_statement, names_in}
+use Rattle.lt_input.specs.SmallTree.{IsSmallExpression, a_name, a_constant, a_minus, a_negation, an_operation, AreSmallMarks, marks_end, marks_more, IsSmallTest, plain, behind_marks, IsSmallStatement, a_block, an_assignment, an_if, an_if_else, a_while, a_return, AreSmallItems, items_end, items_statement, items_label, IsSmallBody, body_items, body_local, Program, predicate_of, labels_of, names_in_expression, names_in_labels, names_in_test, names_evaluated, names_in_statement, names_in}
 use Rattle.lt_replay.specs.Form.{variables, NamesFit, IdsFit}
 use Rattle.lt_replay.specs.Resolving.{fits, fits_mark, fits_marks, fits_test, fits_evaluated, fits_statement, fits_items, Gives, IsResolved}
 use Rattle.lt_replay.specs.Numbers.{Numbers, has_name, AreNumbered}

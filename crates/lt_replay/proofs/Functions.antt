@@ -1,7 +1,7 @@
 -- A function is read as it is derived.
 use Rattle.std.proofs.Common.{◌≡◌, ℕ, zero, suc, ◌<◌, ◌≤◌, Bool, true, false, cond, List, [], ◌∷◌, length, drop, Option, Some, refl, sym, ap, subst, ◌∙◌, arith}
 use Rattle.lt_tree.specs.Tree.{Items, a_declaration, Unit as UnitTree}
-use Rattle.lt_tree.specs.SmallTree.{int_object, int_function}
+use Rattle.lt_input.specs.SmallTree.{int_object, int_function}
 use Rattle.lt_replay.specs.declared.read.token.Fixed.TheVariants as f
 use Rattle.lt_replay.specs.declared.read.token.Token.{Token}
 use Rattle.lt_replay.specs.declared.read.token.Token.TheVariants as token

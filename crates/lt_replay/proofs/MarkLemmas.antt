@@ -6,7 +6,7 @@ use Rattle.lt_tree.specs.declared.mark.Binding.{Binding}
 use Rattle.lt_tree.specs.Tree as t
 use Rattle.lt_tree.specs.View.{expression_of, mark_of}
 use Rattle.lt_tree.specs.Records.{bindings_in}
-use Rattle.lt_tree.specs.SmallTree.{number_of, id_of, tag_of}
+use Rattle.lt_input.specs.SmallTree.{number_of, id_of, tag_of}
 use Rattle.lt_tree.proofs.Rows.{mark_out}
 use Rattle.lt_replay.specs.Resolving.{fits_mark}
 

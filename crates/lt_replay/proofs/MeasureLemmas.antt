@@ -5,8 +5,8 @@ use Rattle.std.proofs.lemmas.Bool.{cases_eq, cases_lt}
 use Rattle.std.proofs.lemmas.List.{length-set, get_or-set_same, get_or-set_other}
 use Rattle.std.proofs.lemmas.Option.{slice_get_within, get_or_from_slice_get, slice_get-get_or}
 use Rattle.lt_model.specs.declared.run.End.{End}
-use Rattle.lt_tree.specs.SmallTree.{Label, Program, id_of, tag_of}
-use Rattle.lt_tree.specs.SmallMeaning.{run, covers, is_ended, has_true}
+use Rattle.lt_input.specs.SmallTree.{Label, Program, id_of, tag_of}
+use Rattle.lt_input.specs.SmallMeaning.{run, covers, is_ended, has_true}
 use Rattle.lt_replay.specs.Form.{ids_in}
 use Rattle.lt_input.specs.Cases.{TestCase}
 use Rattle.std.specs.Prelude.{map, option_map}

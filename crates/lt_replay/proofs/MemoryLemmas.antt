@@ -12,7 +12,7 @@ use Rattle.lt_model.specs.declared.operator.Ub.{Ub}
 use Rattle.lt_model.specs.declared.cell.Content.{Content}
 use Rattle.lt_model.specs.declared.cell.Content.TheVariants as content
 use Rattle.lt_model.specs.Memory.{Block, Memory, then_result, if_alive, held_at, with_held, usable, as_type, load, store, replaced as replaced_block}
-use Rattle.lt_tree.specs.SmallMeaning.{int, int_object, number_in}
+use Rattle.lt_input.specs.SmallMeaning.{int, int_object, number_in}
 use Rattle.lt_replay.specs.Running.{held, replaced}
 
 abbrev pub content_of : Option ℤ → Content

@@ -9,7 +9,7 @@ use Rattle.std.proofs.lemmas.Slice.Eq.{bytes_eq-Decides}
 use Rattle.std.proofs.lemmas.Map.Text.{btree_map_updates_str}
 use Rattle.std.proofs.lemmas.List.Quantifiers.{all_pairs_push}
 use Rattle.lt_model.specs.declared.cell.Address.{Address}
-use Rattle.lt_tree.specs.SmallMeaning.{Bound, object_of}
+use Rattle.lt_input.specs.SmallMeaning.{Bound, object_of}
 use Rattle.lt_replay.specs.Resolving.{bound_from, place_in, number_of}
 use Rattle.lt_replay.specs.Numbers.{Numbers, found, number_by, IsScope}
 use Rattle.std.specs.Map.{lookup}

@@ -2,7 +2,7 @@
 use Rattle.std.proofs.Common.{◌≡◌, ℕ, suc, ◌+◌, ◌<◌, ◌≤◌, List, [], ◌∷◌, ◌++◌, length, drop, get_or, drop-cons, refl, sym, ap, ◌∙◌, arith}
 use Rattle.std.proofs.lemmas.List.{drop_all}
 use Rattle.lt_tree.specs.Tree.{ParameterList, Items, no_parameters, a_parameter, a_declaration}
-use Rattle.lt_tree.specs.SmallTree.{int_specifiers, named, int_object, int_parameters}
+use Rattle.lt_input.specs.SmallTree.{int_specifiers, named, int_object, int_parameters}
 use Rattle.lt_tree.specs.Records.{specifiers_of, declarator_of, parameter_list_in}
 use Rattle.lt_tree.specs.UnitView.{item_before}
 use Rattle.lt_tree.specs.declared.declarator.Parameter.{Parameter}

@@ -4,7 +4,7 @@ use Rattle.std.specs.Prelude.{All, map}
 use Rattle.std.specs.List.Sorted.{IsPermutation}
 use Rattle.lt_model.specs.declared.run.End.{End}
 use Rattle.lt_model.specs.declared.run.End.TheVariants.{Returned, Stopped, Undefined, NoInput, Steps, Deep, Cells}
-use Rattle.lt_tree.specs.SmallTree.{Label, Program, id_of, tag_of, labels_in}
+use Rattle.lt_input.specs.SmallTree.{Label, Program, id_of, tag_of, labels_in}
 use Rattle.lt_input.specs.Cases.{TestCase}
 use Rattle.lt_replay.specs.Coverage.{IsTable, IsBy, row_of_test, most_ticks}
 use Rattle.lt_model.specs.Plain.{IsPlain}

@@ -11,7 +11,7 @@ use Rattle.lt_tree.specs.declared.expression.Expr.TheVariants as variant
 use Rattle.lt_tree.specs.Tree as t
 use Rattle.lt_tree.specs.View.{expression_of}
 use Rattle.lt_tree.specs.UnitView.{items_in}
-use Rattle.lt_tree.specs.SmallTree.{Label, id_of, labels_before, labels_in_statement}
+use Rattle.lt_input.specs.SmallTree.{Label, id_of, labels_before, labels_in_statement}
 use Rattle.lt_replay.specs.declared.code.Command.{Command}
 use Rattle.lt_replay.specs.Code.{Check, Step, Steps, Block, If, Mark, end, then_steps, step_of, steps_in}
 use Rattle.lt_replay.specs.Resolving.{numbered_label, numbered_test, numbered_statement, numbered_items, ids_of}

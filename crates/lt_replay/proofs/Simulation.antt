@@ -19,9 +19,9 @@ use Rattle.lt_model.specs.Memory.{Memory, then_result, load, store}
 use Rattle.lt_model.specs.State.{Made, Gives, Ends, bind}
 use Rattle.lt_tree.specs.declared.expression.UnaryOp.TheVariants as prefix
 use Rattle.lt_tree.specs.Tree as t
-use Rattle.lt_tree.specs.SmallTree.{Label, predicate_of, id_of, labels_before, behind_labels, labels_in, labels_in_statement, names_in_expression, names_in_labels, names_in_test, names_in_assignment, names_evaluated, names_in_statement, names_in}
-use Rattle.lt_tree.specs.SmallMeaning as M
-use Rattle.lt_tree.specs.SmallMeaning.{At, Bound, Answer, object_of, number_in, int, holds, has_true, marked, marked_all}
+use Rattle.lt_input.specs.SmallTree.{Label, predicate_of, id_of, labels_before, behind_labels, labels_in, labels_in_statement, names_in_expression, names_in_labels, names_in_test, names_in_assignment, names_evaluated, names_in_statement, names_in}
+use Rattle.lt_input.specs.SmallMeaning as M
+use Rattle.lt_input.specs.SmallMeaning.{At, Bound, Answer, object_of, number_in, int, holds, has_true, marked, marked_all}
 use Rattle.lt_replay.specs.declared.running.Flow.TheVariants as F
 use Rattle.lt_replay.specs.Code.{Spot, Block, end}
 use Rattle.lt_replay.specs.Running as R

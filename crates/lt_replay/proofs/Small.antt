@@ -3,8 +3,8 @@ use Rattle.std.proofs.Common.{◌≡◌, ℕ, List, [], Some, refl, subst}
 use Rattle.lt_tree.specs.declared.expression.UnaryOp.{UnaryOp}
 use Rattle.lt_tree.specs.Tree.{Expression, Marks, Statement, Items, Unit as UnitTree}
 use Rattle.lt_tree.specs.Tree as tree
-use Rattle.lt_tree.specs.SmallTree as small
-use Rattle.lt_tree.specs.SmallTree.{IsSmallExpression, AreSmallMarks, IsSmallTest, IsSmallStatement, AreSmallItems, IsSmallBody, IsSmallUnit, labels_before, program_of}
+use Rattle.lt_input.specs.SmallTree as small
+use Rattle.lt_input.specs.SmallTree.{IsSmallExpression, AreSmallMarks, IsSmallTest, IsSmallStatement, AreSmallItems, IsSmallBody, IsSmallUnit, labels_before, program_of}
 use Rattle.lt_replay.specs.declared.read.token.Fixed.TheVariants as f
 use Rattle.lt_replay.specs.declared.read.token.Token.{Token}
 use Rattle.lt_replay.specs.declared.read.token.Token.TheVariants as token

@@ -7,7 +7,7 @@ use Rattle.lt_model.specs.Plain.{is_plain_byte, IsPlain}
 use Rattle.lt_replay.specs.Lexing.{is_tag_byte}
 use Rattle.std.proofs.Common.{◌≡◌, ℕ, Bool, true, false, List, [], ◌∷◌, ◌++◌, refl, sym, subst, arith}
 use Rattle.lt_tree.specs.Tree.{Expression, Marks, Mark, Statement, Items, Unit as UnitTree}
-use Rattle.lt_tree.specs.SmallTree.{Label, tag_of, labels_of, labels_before, program_of, labels_in_statement, labels_in}
+use Rattle.lt_input.specs.SmallTree.{Label, tag_of, labels_of, labels_before, program_of, labels_in_statement, labels_in}
 use Rattle.lt_replay.specs.declared.read.token.Token.{Token}
 use Rattle.lt_replay.specs.declared.read.token.Token.TheVariants as token
 use Rattle.lt_replay.specs.Lexing.{is_tag, IsToken, IsCut}

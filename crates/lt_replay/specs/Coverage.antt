@@ -4,8 +4,8 @@ use Rattle.std.specs.List.Sorted.{IsPermutation, IsSortedByKey}
 use Rattle.std.specs.Ordering.{nat_cmp}
 use Rattle.std.specs.Cmp.Lexicographic.{slice_cmp}
 use Rattle.std.specs.declared.cmp.Ordering.TheVariants.{Greater}
-use Rattle.lt_tree.specs.SmallTree.{Label, Program, id_of, tag_of, labels_in}
-use Rattle.lt_tree.specs.SmallMeaning.{run, covers}
+use Rattle.lt_input.specs.SmallTree.{Label, Program, id_of, tag_of, labels_in}
+use Rattle.lt_input.specs.SmallMeaning.{run, covers}
 use Rattle.lt_input.specs.Cases.{TestCase}
 use Rattle.lt_replay.specs.declared.table.TestRow.{TestRow}
 use Rattle.lt_replay.specs.declared.table.LabelRow.{LabelRow}

@@ -1,7 +1,7 @@
 -- What replaying a suite on a small function gives.
 use Rattle.std.specs.Prelude.{◌≡◌, ◌⊎◌, ℕ, List}
 use Rattle.lt_tree.specs.Tree.{Unit as UnitTree}
-use Rattle.lt_tree.specs.SmallTree.{program_of}
+use Rattle.lt_input.specs.SmallTree.{program_of}
 use Rattle.lt_input.specs.Cases.{TestCase}
 use Rattle.lt_replay.specs.Form.{NamesFit, IdsFit}
 use Rattle.lt_replay.specs.Parsed.{IsParsed}

@@ -1,6 +1,6 @@
 -- The conditions on the names and the labels of a small function.
 use Rattle.std.specs.Prelude.{◌≢◌, ℕ, ◌≤◌, List, ◌∷◌, ◌++◌, map, All, Contains, AllPairs}
-use Rattle.lt_tree.specs.SmallTree.{Program, id_of, labels_in, names_in}
+use Rattle.lt_input.specs.SmallTree.{Program, id_of, labels_in, names_in}
 
 -- the parameters and the local variables
 abbrev pub variables : Program → List (List ℕ)

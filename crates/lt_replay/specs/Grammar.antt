@@ -6,7 +6,7 @@ use Rattle.lt_tree.specs.declared.expression.UnaryOp.{UnaryOp}
 use Rattle.lt_tree.specs.declared.expression.UnaryOp.TheVariants as prefix
 use Rattle.lt_tree.specs.Tree.{Expression, Marks, Mark, Statement, Items, Unit as UnitTree}
 use Rattle.lt_tree.specs.Tree as tree
-use Rattle.lt_tree.specs.SmallTree.{int_object, int_function}
+use Rattle.lt_input.specs.SmallTree.{int_object, int_function}
 use Rattle.lt_replay.specs.declared.read.token.Fixed.{Fixed}
 use Rattle.lt_replay.specs.declared.read.token.Fixed.TheVariants as f
 use Rattle.lt_replay.specs.declared.read.token.Token.{Token}

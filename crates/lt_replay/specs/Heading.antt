@@ -1,7 +1,7 @@
 -- A function with its names, as it is taken out of a unit.
 use Rattle.std.specs.Prelude.{◌≡◌, ℕ, List, map, Result, Ok, Err}
 use Rattle.lt_tree.specs.Tree as t
-use Rattle.lt_tree.specs.SmallTree.{Program, IsSmallUnit, name_of, program_of}
+use Rattle.lt_input.specs.SmallTree.{Program, IsSmallUnit, name_of, program_of}
 use Rattle.lt_tree.specs.UnitView.{items_in}
 use Rattle.lt_tree.specs.declared.stop.Stop.{Stop}
 use Rattle.lt_tree.specs.declared.stop.Stop.TheVariants.{NotOfForm, NoMemory}

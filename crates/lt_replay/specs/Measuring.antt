@@ -1,6 +1,6 @@
 -- The first of the tests, in their order, that covers each label.
 use Rattle.std.specs.Prelude.{◌≡◌, ℕ, suc, ◌<◌, List, [], ◌∷◌, length, Option, Some, None, option_map, slice_get, slice_set, slice_index_or}
-use Rattle.lt_tree.specs.SmallTree.{Label, Program, id_of, tag_of}
+use Rattle.lt_input.specs.SmallTree.{Label, Program, id_of, tag_of}
 use Rattle.lt_replay.specs.declared.table.TestRow.{TestRow}
 use Rattle.lt_replay.specs.declared.table.LabelRow.{LabelRow}
 use Rattle.lt_replay.specs.Form.{ids_in}

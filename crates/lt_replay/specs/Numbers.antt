@@ -5,8 +5,8 @@ use Rattle.std.specs.Ordering.{nat_cmp}
 use Rattle.std.specs.Cmp.Lexicographic.{slice_cmp}
 use Rattle.std.specs.BTreeMap.{BTreeMap, get_by, btree_map_len}
 use Rattle.lt_model.specs.declared.cell.Address.{Address}
-use Rattle.lt_tree.specs.SmallMeaning.{object_of}
-use Rattle.lt_tree.specs.SmallTree.{Program}
+use Rattle.lt_input.specs.SmallMeaning.{object_of}
+use Rattle.lt_input.specs.SmallTree.{Program}
 use Rattle.lt_replay.specs.Form.{variables}
 use Rattle.lt_replay.specs.Resolving.{bound_from}
 

@@ -6,8 +6,8 @@ use Rattle.lt_model.specs.declared.run.End.{End}
 use Rattle.lt_model.specs.declared.run.End.TheVariants as E
 use Rattle.lt_tree.specs.declared.expression.UnaryOp.TheVariants as prefix
 use Rattle.lt_tree.specs.Tree as t
-use Rattle.lt_tree.specs.SmallTree.{IsSmallBody, Label, Program, number_of as number_written, predicate_of, id_of, labels_before, behind_labels, labels_in, labels_in_statement}
-use Rattle.lt_tree.specs.SmallMeaning.{Bound, object_of, run, has_true}
+use Rattle.lt_input.specs.SmallTree.{IsSmallBody, Label, Program, number_of as number_written, predicate_of, id_of, labels_before, behind_labels, labels_in, labels_in_statement}
+use Rattle.lt_input.specs.SmallMeaning.{Bound, object_of, run, has_true}
 use Rattle.lt_replay.specs.declared.code.Code.{Code}
 use Rattle.lt_tree.specs.declared.stop.Stop.{Stop}
 use Rattle.lt_tree.specs.declared.stop.Stop.TheVariants.{NotOfForm, NoMemory}

@@ -9,7 +9,7 @@ use Rattle.lt_model.specs.declared.operator.Ub.TheVariants as U
 use Rattle.lt_model.specs.Scalar.{convert_of}
 use Rattle.lt_model.specs.Operators.{truth, value_of}
 use Rattle.lt_model.specs.Memory.{then_result}
-use Rattle.lt_tree.specs.SmallMeaning.{holds}
+use Rattle.lt_input.specs.SmallMeaning.{holds}
 use Rattle.lt_replay.specs.declared.running.Flow.{Flow}
 use Rattle.lt_replay.specs.declared.running.Flow.TheVariants.{Next, Returned, Undefined, Steps as NoTicks}
 use Rattle.lt_replay.specs.Code.{Formula, Variable, Constant, Minus, Not, Binary, Spot, Check, Step, Steps, Block, Assign, If, While, Return, Mark, end, then_steps}

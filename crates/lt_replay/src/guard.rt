@@ -1,7 +1,7 @@
 ghost use Rattle.std.specs.Prelude.{◌≡◌, ◌&&◌, ℕ, List, Bool};
 ghost use Rattle.lt_tree.specs.View.{expression_of};
 ghost use Rattle.lt_tree.specs.Records.{marks_in};
-ghost use Rattle.lt_tree.specs.SmallTree.{labels_of, labels_before, behind_labels};
+ghost use Rattle.lt_input.specs.SmallTree.{labels_of, labels_before, behind_labels};
 ghost use Rattle.lt_replay.specs.Resolving.{fits, fits_marks, fits_test};
 
 use lt_tree::{Expr, Mark};

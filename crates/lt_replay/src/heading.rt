@@ -1,6 +1,6 @@
 // What stands in a unit of one function; `specs/Heading.antt` says what that comes to.
 ghost use Rattle.std.specs.Prelude.{◌≡◌, ◌++◌, ◌∷◌, [], IfOk, OnOk};
-ghost use Rattle.lt_tree.specs.SmallTree.{name_of, names_of, params_of, locals_of, program_of};
+ghost use Rattle.lt_input.specs.SmallTree.{name_of, names_of, params_of, locals_of, program_of};
 ghost use Rattle.lt_tree.specs.Tree as t;
 ghost use Rattle.lt_tree.specs.View.{parameters_of};
 ghost use Rattle.lt_tree.specs.Records.{declarator_of, parts_in, parameter_list_in};

@@ -1,7 +1,7 @@
 ghost use Rattle.std.specs.Prelude.{◌≡◌, ℕ, List, All};
 ghost use Rattle.lt_model.specs.Plain.{IsPlain};
 ghost use Rattle.lt_tree.specs.Tree.{Unit as UnitTree};
-ghost use Rattle.lt_tree.specs.SmallTree.{Label, IsSmallUnit, tag_of, labels_in, program_of};
+ghost use Rattle.lt_input.specs.SmallTree.{Label, IsSmallUnit, tag_of, labels_in, program_of};
 ghost use Rattle.lt_tree.specs.UnitView.{unit_of};
 ghost use Rattle.lt_replay.specs.declared.read.token.Token.{Token};
 ghost use Rattle.lt_tree.specs.Outcome.{Reads};

@@ -2,7 +2,7 @@ ghost use Rattle.std.specs.Prelude.{◌≡◌, MatchBool, MatchOption, Contains,
 ghost use Rattle.lt_tree.specs.View.{expression_of, mark_of};
 ghost use Rattle.lt_tree.specs.Records.{marks_in};
 ghost use Rattle.lt_tree.specs.UnitView.{statement_of, items_in};
-ghost use Rattle.lt_tree.specs.SmallTree.{number_of as number_written, id_of, labels_of, labels_before, labels_in, labels_in_statement};
+ghost use Rattle.lt_input.specs.SmallTree.{number_of as number_written, id_of, labels_of, labels_before, labels_in, labels_in_statement};
 ghost use Rattle.lt_replay.specs.Heading.{function_of};
 ghost use Rattle.lt_replay.specs.Code.{formula_of, spot_of, check_of, step_of, steps_in};
 ghost use Rattle.lt_replay.specs.Resolving.{numbered, numbered_label, numbered_labels, numbered_test, numbered_assignment, numbered_evaluated, numbered_statement, numbered_items, ids_of, fits, fits_mark, fits_marks, fits_test, fits_assigned, fits_evaluated, fits_statement, fits_items, Gives, IsResolved};

@@ -1,10 +1,10 @@
 ghost use Rattle.std.specs.Prelude.{◌≡◌, pos, suc, List, Bool, MatchBool, MatchResult, IfOk, length, ◌+◌, ◌*◌, ◌^◌, Some, Ok, None, true, map, not, OnErr, slice_get, slice_set, slice_index_or};
 ghost use Rattle.std.specs.Ordering.{int_eq};
 ghost use Rattle.lt_model.specs.Scalar.{convert_of};
-ghost use Rattle.lt_tree.specs.SmallMeaning.{holds};
+ghost use Rattle.lt_input.specs.SmallMeaning.{holds};
 ghost use Rattle.lt_replay.specs.Code.{Assign, Return, While, formula_of, spot_of, check_of, step_of, steps_in};
 ghost use Rattle.lt_replay.specs.Running.{held, formula_value, hits_after, hits_after_all, truth_of, replaced, turns, ends, step, steps};
-ghost use Rattle.lt_tree.specs.SmallTree.{Program};
+ghost use Rattle.lt_input.specs.SmallTree.{Program};
 ghost use Rattle.lt_replay.specs.Resolving.{first_values, end_of, IsCodeOf, IsRunOf};
 
 use crate::code::{Code, Command, Guard, Point, Term};

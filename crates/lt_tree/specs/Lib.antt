@@ -9,8 +9,6 @@ pub mod View
 pub mod Records
 pub mod UnitView
 pub mod Symbols
-pub mod SmallTree
-pub mod SmallMeaning
 pub mod Outcome
 pub mod TypeWords
 pub mod Scope

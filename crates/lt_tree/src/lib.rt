@@ -1,4 +1,4 @@
-// Trees of C; `specs/Tree.antt` has them as values, and `specs/SmallMeaning.antt` says what a function of the small language does.
+// Trees of C; `specs/Tree.antt` has them as values.
 #![tactic(auto)]
 
 mod constants;

@@ -4,7 +4,7 @@ use Rattle.lt_outside.specs.Shelf.{Files}
 use Rattle.lt_replay.specs.First.{IsReplay, IsSmall, IsNoSmall, IsNoSuite, StopsAt}
 use Rattle.lt_replay.specs.declared.replay.FirstStop.TheVariants as first
 use Rattle.lt_input.specs.Suite.{IsSuite}
-use Rattle.lt_tree.specs.SmallTree.{program_of}
+use Rattle.lt_input.specs.SmallTree.{program_of}
 use Rattle.ltest.specs.Words.{Plan}
 use Rattle.ltest.specs.Top.{IsDue, no_file, long_file, no_suite_file, long_suite_file, no_small_text, no_suite, replayed, IsRead, IsLong, AreRead, Gave, ReadEnds, Ends, PutEnds, IsText, IsOutside}
 use Rattle.ltest.specs.declared.status.Status.{Status}

@@ -3,7 +3,7 @@ ghost use Rattle.std.specs.Prelude.{◌≡◌, IfOk, Some};
 ghost use Rattle.lt_tree.specs.View.{parameters_of};
 ghost use Rattle.lt_tree.specs.Records.{specifiers_of, declarator_of, parameter_list_in};
 ghost use Rattle.lt_tree.specs.UnitView.{declaration_of, items_in, unit_of};
-ghost use Rattle.lt_tree.specs.SmallTree as small;
+ghost use Rattle.lt_input.specs.SmallTree as small;
 ghost use Rattle.lt_tree.specs.Tree as tree;
 ghost use Rattle.lt_replay.specs.Reading as reading;
 

@@ -1,7 +1,7 @@
 use Rattle.std.proofs.Common.{◌≡◌, ◌++◌, drop}
 use Rattle.std.specs.Prelude.{map}
 use Rattle.lt_tree.specs.Tree as t
-use Rattle.lt_tree.specs.SmallTree.{name_of}
+use Rattle.lt_input.specs.SmallTree.{name_of}
 use Rattle.lt_tree.specs.UnitView.{init_declarator_of, declaration_of}
 use Rattle.lt_replay.specs.Heading.{declared_in}
 use Rattle.lt_replay.proofs.heading.add_declared.Given as goal

@@ -1,5 +1,5 @@
 use Rattle.std.proofs.Common.{◌≡◌, ◌++◌, drop}
-use Rattle.lt_tree.specs.SmallTree.{locals_of}
+use Rattle.lt_input.specs.SmallTree.{locals_of}
 use Rattle.lt_tree.specs.UnitView.{items_in}
 use Rattle.lt_replay.proofs.heading.locals_of.Given as goal
 

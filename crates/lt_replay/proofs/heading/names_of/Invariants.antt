@@ -1,5 +1,5 @@
 use Rattle.std.proofs.Common.{◌≡◌, ◌++◌, drop}
-use Rattle.lt_tree.specs.SmallTree.{names_of}
+use Rattle.lt_input.specs.SmallTree.{names_of}
 use Rattle.lt_tree.specs.Records.{parameter_list_in}
 use Rattle.lt_replay.proofs.heading.names_of.Given as goal
 

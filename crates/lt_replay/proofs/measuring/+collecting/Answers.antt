@@ -4,7 +4,7 @@ use Rattle.std.proofs.lemmas.List.{map-append}
 use Rattle.lt_tree.specs.Tree as tree
 use Rattle.lt_tree.specs.View.{mark_of}
 use Rattle.lt_tree.specs.UnitView.{statement_of, items_in}
-use Rattle.lt_tree.specs.SmallTree.{Label, labels_in, labels_in_statement}
+use Rattle.lt_input.specs.SmallTree.{Label, labels_in, labels_in_statement}
 use Rattle.lt_tree.specs.declared.mark.Mark.{Mark}
 use Rattle.lt_tree.specs.declared.statement.Item.{Item}
 use Rattle.lt_tree.proofs.UnitRows.{compound_is}

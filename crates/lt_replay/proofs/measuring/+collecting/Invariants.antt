@@ -2,7 +2,7 @@ use Rattle.std.proofs.Common.{◌≡◌, ◌++◌, drop, Bor}
 use Rattle.std.specs.Prelude.{map}
 use Rattle.lt_tree.specs.View.{mark_of}
 use Rattle.lt_tree.specs.UnitView.{items_in}
-use Rattle.lt_tree.specs.SmallTree.{labels_in}
+use Rattle.lt_input.specs.SmallTree.{labels_in}
 use Rattle.lt_tree.specs.declared.mark.Mark.{Mark}
 use Rattle.lt_replay.proofs.measuring.+collecting.Given as goal
 

@@ -6,7 +6,7 @@ use Rattle.std.specs.List.Sorted.{IsPermutation, IsSortedByKey}
 use Rattle.std.proofs.lemmas.List.Sorted.{IsPermutation-map, All-permutation}
 use Rattle.lt_tree.specs.View.{mark_of}
 use Rattle.lt_tree.specs.UnitView.{items_in}
-use Rattle.lt_tree.specs.SmallTree.{Label, labels_in}
+use Rattle.lt_input.specs.SmallTree.{Label, labels_in}
 use Rattle.lt_tree.specs.declared.mark.Mark.{Mark}
 use Rattle.lt_replay.specs.Heading.{function_of}
 use Rattle.lt_replay.specs.declared.table.LabelRow.{LabelRow}

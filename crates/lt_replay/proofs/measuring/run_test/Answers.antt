@@ -1,6 +1,6 @@
 use Rattle.std.proofs.Common.{◌≡◌, ◌++◌, ◌∷◌, [], length, subst, sym, ap, ◌∙◌}
 use Rattle.std.proofs.lemmas.List.{length-map}
-use Rattle.lt_tree.specs.SmallTree.{id_of, labels_in}
+use Rattle.lt_input.specs.SmallTree.{id_of, labels_in}
 use Rattle.lt_input.specs.Cases.{case_of}
 use Rattle.lt_replay.specs.Coverage.{most_ticks, row_of_test}
 use Rattle.lt_replay.specs.Resolving.{IsRunOf}

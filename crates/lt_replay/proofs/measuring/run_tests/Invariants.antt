@@ -1,6 +1,6 @@
 use Rattle.std.proofs.Common.{◌≡◌, take, length}
 use Rattle.std.specs.Prelude.{map}
-use Rattle.lt_tree.specs.SmallTree.{Program}
+use Rattle.lt_input.specs.SmallTree.{Program}
 use Rattle.lt_input.specs.Cases.{cases_of}
 use Rattle.lt_replay.specs.Coverage.{row_of_test}
 use Rattle.lt_replay.specs.Resolving.{IsCodeOf}

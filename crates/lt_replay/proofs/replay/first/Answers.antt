@@ -1,7 +1,7 @@
 use Rattle.std.proofs.Common.{◌≡◌, refl, inl, inr, subst, sym}
 use Rattle.std.specs.Prelude.{All}
 use Rattle.lt_model.specs.Plain.{IsPlain}
-use Rattle.lt_tree.specs.SmallTree.{Label, Program, IsSmallBody, tag_of, program_of, labels_in}
+use Rattle.lt_input.specs.SmallTree.{Label, Program, IsSmallBody, tag_of, program_of, labels_in}
 use Rattle.lt_tree.specs.UnitView.{unit_of}
 use Rattle.lt_tree.specs.Tree.{Unit as UnitTree}
 use Rattle.lt_input.specs.Cases.{cases_of}

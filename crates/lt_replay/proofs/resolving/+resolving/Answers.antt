@@ -6,7 +6,7 @@ use Rattle.lt_tree.specs.Tree as tree
 use Rattle.lt_tree.specs.View.{expression_of, mark_of}
 use Rattle.lt_tree.specs.UnitView.{statement_of, items_in}
 use Rattle.lt_tree.proofs.UnitRows.{compound_is}
-use Rattle.lt_tree.specs.SmallTree.{id_of, labels_in, labels_in_statement}
+use Rattle.lt_input.specs.SmallTree.{id_of, labels_in, labels_in_statement}
 use Rattle.lt_replay.specs.Code.{Block, Mark, end, check_of, step_of, steps_in}
 use Rattle.lt_replay.specs.Resolving.{numbered_label, numbered_statement, numbered_items, ids_of, fits_statement, fits_items}
 use Rattle.lt_replay.specs.Numbers.{number_by, has_name}

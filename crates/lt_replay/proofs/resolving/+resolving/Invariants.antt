@@ -1,6 +1,6 @@
 use Rattle.std.proofs.Common.{◌≡◌, ◌++◌, length, drop}
 use Rattle.lt_tree.specs.UnitView.{items_in}
-use Rattle.lt_tree.specs.SmallTree.{labels_in}
+use Rattle.lt_input.specs.SmallTree.{labels_in}
 use Rattle.lt_replay.specs.Resolving.{numbered_items, ids_of, fits_items}
 use Rattle.lt_replay.specs.Numbers.{number_by, has_name}
 use Rattle.lt_replay.proofs.ResolveLemmas.{before}

@@ -1,6 +1,6 @@
 use Rattle.std.proofs.Common.{◌≡◌, length, Vec, Global, Err, true, subst, sym, ap, ◌∙◌, arith, rules}
 use Rattle.std.proofs.lemmas.List.{length-map}
-use Rattle.lt_tree.specs.SmallTree.{id_of, labels_in}
+use Rattle.lt_input.specs.SmallTree.{id_of, labels_in}
 use Rattle.lt_replay.specs.Heading.{function_of}
 use Rattle.lt_replay.specs.declared.code.Command.{Command}
 use Rattle.lt_replay.specs.Code.{steps_in}

@@ -1,7 +1,7 @@
 use Rattle.std.proofs.Common.{◌≡◌, ◌++◌, length, drop}
 use Rattle.std.specs.Prelude.{map}
 use Rattle.lt_tree.specs.Records.{marks_in}
-use Rattle.lt_tree.specs.SmallTree.{labels_of}
+use Rattle.lt_input.specs.SmallTree.{labels_of}
 use Rattle.lt_replay.specs.Code.{spot_of}
 use Rattle.lt_replay.specs.Resolving.{numbered_labels, ids_of, fits_marks}
 use Rattle.lt_replay.specs.Numbers.{number_by, has_name}

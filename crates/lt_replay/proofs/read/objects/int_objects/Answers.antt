@@ -1,6 +1,6 @@
 use Rattle.std.proofs.Common.{ap, ◌∙◌}
 use Rattle.lt_tree.specs.Tree.{a_declaration}
-use Rattle.lt_tree.specs.SmallTree.{int_object}
+use Rattle.lt_input.specs.SmallTree.{int_object}
 use Rattle.lt_replay.proofs.Objects.{more_objects, all_objects}
 use Rattle.lt_replay.proofs.read.objects.int_objects.Goals as goal
 

@@ -1,5 +1,5 @@
 use Rattle.std.proofs.Common.{ap, ◌∙◌}
-use Rattle.lt_tree.specs.SmallTree.{named}
+use Rattle.lt_input.specs.SmallTree.{named}
 use Rattle.lt_replay.proofs.Objects.{more_parameters, all_parameters}
 use Rattle.lt_replay.proofs.read.objects.int_parameters.Goals as goal
 

@@ -1,5 +1,5 @@
 use Rattle.std.proofs.Common.{◌≡◌, drop}
-use Rattle.lt_tree.specs.SmallTree.{int_parameters}
+use Rattle.lt_input.specs.SmallTree.{int_parameters}
 use Rattle.lt_replay.proofs.Objects.{params_before}
 use Rattle.lt_replay.proofs.read.objects.int_parameters.Given as goal
 

@@ -23,7 +23,7 @@ use Rattle.lt_model.specs.State.{Made, Gives, Ends, bind}
 use Rattle.lt_model.specs.State as state
 use Rattle.lt_tree.specs.declared.expression.UnaryOp.TheVariants as prefix
 use Rattle.lt_tree.specs.Tree as t
-use Rattle.lt_tree.specs.SmallTree.{Program, Label, number_of, predicate_of, id_of, labels_before, behind_labels}
+use Rattle.lt_input.specs.SmallTree.{Program, Label, number_of, predicate_of, id_of, labels_before, behind_labels}
 
 -- variables go by their names
 abbrev pub Bound : Type 0
