@@ -12,6 +12,7 @@ mod machine;
 mod objects;
 mod outcome;
 mod parameters;
+mod running;
 mod statics;
 mod stepping;
 mod stubbing;
@@ -19,4 +20,5 @@ mod values;
 mod watch;
 
 pub use outcome::{Brief, Outcome};
+pub use running::{run, run_into};
 pub use watch::{MarkList, Watch};
