@@ -15,6 +15,7 @@ use Rattle.std.specs.Prelude.{slice_get, Some}
 use Rattle.lt_ir.specs.declared.variable.Variable.TheVariants.{Parameter}
 use Rattle.lt_ir.specs.Running.{At, Answer, Bound, Step, ◌>>◌, begins, begin_parameters, statics_of, most_calls}
 use Rattle.lt_ir.specs.Evaluation.{store_parameters}
+use Rattle.lt_ir.specs.Starting.{start_parameters}
 use Rattle.lt_ir.specs.Graph.{Stops, shapes_in, contents_from, entering, begun, calls, caller, going}
 use Rattle.lt_ir.specs.Prepared.{place_of}
 use Rattle.lt_acts.specs.Ends.{end_of}
@@ -33,7 +34,7 @@ use Rattle.lt_mach.proofs.Passing.{first_gives}
 use Rattle.lt_mach.proofs.Ways.{after_gives, after_ends}
 use Rattle.lt_mach.proofs.Returning.{innermost}
 
--- ---- parameters that aren't zeroed
+-- ---- parameters that aren't zeroed, and those of the entry, which are
 
 abbrev then_step : Step (Unit {0}) → Answer (Unit {0}) → Answer (Unit {0})
 then_step step (Gives a at) = step at
@@ -46,6 +47,10 @@ then_same s t (Ends end at) h = refl
 plain : (k : ℕ) (shapes : List Shape) (at : At) → begin_parameters k shapes at ≡ begin_all false k shapes at
 plain k [] at = refl
 plain k (shape ∷ shapes) at = then_same (begin_parameters (suc k) shapes) (begin_all false (suc k) shapes) (begins (Parameter k) shape false at) (plain (suc k) shapes)
+
+pub zeroed : (k : ℕ) (shapes : List Shape) (at : At) → start_parameters k shapes at ≡ begin_all true k shapes at
+zeroed k [] at = refl
+zeroed k (shape ∷ shapes) at = then_same (start_parameters (suc k) shapes) (begin_all true (suc k) shapes) (begins (Parameter k) shape true at) (zeroed (suc k) shapes)
 
 -- ---- one call more
 

@@ -21,7 +21,7 @@ saw_both saw a b c (x ∷ xs) ys s h = (s.0, s.1, saw_both saw s.0 b c xs ys s.2
 pub saw_made : {W : Type 0} (saw : W → Mark → W → Type 0) (a b c : W) (xs ys : List Made) → SawAll saw a (map mark_of xs) b → SawAll saw b (map mark_of ys) c → SawAll saw a (map mark_of (xs ++ ys)) c
 saw_made saw a b c xs ys s h = rw map-append (saw_both saw a b c (map mark_of xs) (map mark_of ys) s h)
 
-both_fit : (m m1 m2 : Machine) → StaysFit m m1 → StaysFit m1 m2 → StaysFit m m2
+pub both_fit : (m m1 m2 : Machine) → StaysFit m m1 → StaysFit m1 m2 → StaysFit m m2
 both_fit m m1 m2 h f = record {
   model = f.model ∙ h.model;
   places = f.places ∙ h.places;

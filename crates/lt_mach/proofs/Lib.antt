@@ -8,3 +8,7 @@ pub mod Showing
 pub mod Finishing
 pub mod Filling
 pub mod Naming
+pub mod Rooted
+pub mod SetCells
+pub mod Beginning
+pub mod Whole

@@ -1,5 +1,5 @@
 -- The named objects of an input, one after the other.
-use Rattle.std.proofs.Common.{◌≡◌, ℕ, suc, ◌+◌, nat_le, List, [], ◌∷◌, length, length-append, Bool, true, false, Option, Some, None, Result, Ok, Err, refl, ap, sym, ◌∙◌, arith, if◌then◌else◌}
+use Rattle.std.proofs.Common.{◌≡◌, ℕ, suc, ◌+◌, ◌<◌, nat_le, List, [], ◌∷◌, length, length-append, Bool, true, false, Option, Some, None, Result, Ok, Err, refl, ap, sym, ◌∙◌, arith, if◌then◌else◌}
 use Rattle.lt_model.specs.declared.input.BlockIn.{BlockIn}
 use Rattle.lt_model.specs.declared.cell.Shape.{Shape}
 use Rattle.lt_model.specs.declared.run.End.TheVariants.{Cells as CellsEnd}
@@ -24,8 +24,8 @@ pub one_longer : (m m1 : Memory) (shape : Shape) → create_shaped m shape true 
 unfolding create_shaped
 one_longer m m1 shape e = longer (nat_le (cells_alive m + length shape.cells) most_cells) m m1 (new_block shape true true) e
 
-pub one_named : (it : BlockIn) (rest : List BlockIn) (m m1 m2 : Memory) (result : Result (Unit {0}) Stop) (at : At) → create_shaped m it.shape true true ≡ Some m1 → Made rest result (length m1) (on m2 at) (start_blocks rest (on m1 at)) → Made (it ∷ rest) result (length m) (on m2 at) (start_blocks (it ∷ rest) (on m at))
-one_named it rest m m1 m2 (Ok done) at e h =
+pub one_named : (it : BlockIn) (rest : List BlockIn) (m m1 m2 : Memory) (result : Result ℕ Stop) (at : At) → create_shaped m it.shape true true ≡ Some m1 → Made rest result (length m1) (on m2 at) (start_blocks rest (on m1 at)) → Made (it ∷ rest) result (length m) (on m2 at) (start_blocks (it ∷ rest) (on m at))
+one_named it rest m m1 m2 (Ok first) at e h =
     first_gives (created it.shape true) _ (on m at) (on m1 at) (length m) (made it.shape at.scope m m1 (length m) at refl e)
     ∙ first_gives (start_blocks rest) _ (on m1 at) (on m2 at) (roots_from (length m1) rest) h
     ∙ ap (λ n. Gives (record { name = it.name; block = length m; cells = it.shape.cells } ∷ roots_from n rest) (on m2 at)) (one_longer m m1 it.shape e)
@@ -38,3 +38,8 @@ one_named it rest m m1 m2 (Err NoMemory) at e h = tt
 pub none_named : (it : BlockIn) (rest : List BlockIn) (m : Memory) (at : At) → create_shaped m it.shape true true ≡ None → Made (it ∷ rest) (Err (Over Cells)) (length m) (on m at) (start_blocks (it ∷ rest) (on m at))
 none_named it rest m at e =
     first_ends (created it.shape true) _ (on m at) (on m at) CellsEnd (ap (λ (o : Option Memory). elim o as (λ _. Answer ℕ) [ None ↦ Ends CellsEnd (on m at) | Some memory ↦ Gives (length m) (on memory at) ]) e)
+
+-- the names, where the number of the first is known as soon as there is one
+pub first_named : (its : List BlockIn) (first n : ℕ) → (0 < length its → first ≡ n) → roots_from first its ≡ roots_from n its
+first_named [] first n h = refl
+first_named (it ∷ its) first n h = ap (λ k. roots_from k (it ∷ its)) (h (omega arith))

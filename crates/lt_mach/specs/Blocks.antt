@@ -16,10 +16,10 @@ roots_from n [] = []
 roots_from n (it ∷ its) = record { name = it.name; block = n; cells = it.shape.cells } ∷ roots_from (suc n) its
 
 -- The named objects are there, with their names, or the run is over so; where there is no memory nothing is said.
-abbrev pub Made : List BlockIn → Result (Unit {0}) Stop → ℕ → At → Answer (List Root) → Type 0
-Made its (Ok done) n at answer = answer ≡ Gives (roots_from n its) at
+abbrev pub Made : List BlockIn → Result ℕ Stop → ℕ → At → Answer (List Root) → Type 0
+Made its (Ok first) n at answer = answer ≡ Gives (roots_from n its) at
 Made its (Err (stop.Over why)) n at answer = answer ≡ Ends (end_of why) at
 Made its (Err stop.NoMemory) n at answer = Unit {0}
 
-abbrev pub StartsBlocks : List BlockIn → Result (Unit {0}) Stop → Memory → Memory → Type 0
+abbrev pub StartsBlocks : List BlockIn → Result ℕ Stop → Memory → Memory → Type 0
 StartsBlocks its result m m1 = (at : At) → Made its result (length m) (on m1 at) (start_blocks its (on m at))

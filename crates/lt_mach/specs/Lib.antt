@@ -6,5 +6,7 @@ pub mod Does
 pub mod Calling
 pub mod Parameters
 pub mod Blocks
+pub mod Roots
+pub mod Launching
 pub mod Promise
 pub use Rattle.lt_mem.specs.Image

@@ -1,13 +1,11 @@
 -- Where a machine stands, as the meaning of graphs has it. A machine keeps no marks: they are told beside it.
 use Rattle.std.specs.Prelude.{◌≡◌, ℕ, List, [], ◌∷◌, ◌++◌, map, Some}
-use Rattle.lt_model.specs.declared.input.Input.{Input}
 use Rattle.lt_model.specs.declared.run.Mark.{Mark}
 use Rattle.lt_model.specs.declared.run.End.{End as RunEnd}
 use Rattle.lt_model.specs.State.{Made}
 use Rattle.lt_ir.specs.declared.graph.Graph.{Graph}
 use Rattle.lt_ir.specs.Running.{At, Over}
-use Rattle.lt_ir.specs.Starting.{nowhere}
-use Rattle.lt_ir.specs.Graph.{Frame, State, Next, Goes, Stops, step, steps, launch, code_at}
+use Rattle.lt_ir.specs.Graph.{Frame, State, Next, Goes, Stops, step, steps}
 use Rattle.lt_ir.specs.Outcomes.{mark_of}
 use Rattle.lt_ir.specs.Prepared.{place_of}
 use Rattle.lt_ends.specs.Gauge.{IsCounted}
@@ -74,9 +72,3 @@ pub record Finishes {W : Type 0} (saw : W → Mark → W → Type 0) (g : Graph)
 abbrev pub GoesReady : Flow → Graph → Machine → Type 0
 GoesReady flow.Goes g m = IsReady g m
 GoesReady (flow.Over end) g m = Unit {0}
-
--- Where nothing was there yet, the run of a function begins so.
-pub record Launches (g : Graph) (entry : ℕ) (input : Input) (flow : Flow) (old new : Machine) : Type 0 where
-  pub is : (steps : ℕ) → at_of old [] ≡ nowhere input steps → launch g (code_at g entry) entry input steps ≡ comes flow new []
-  pub ready : GoesReady flow g new
-  pub fit : StaysFit old new

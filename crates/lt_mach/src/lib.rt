@@ -1,5 +1,4 @@
-// The machine runs graphs step by step, and shows a watch each mark that is made. `specs/Standing.antt` says what its steps promise, and
-// `specs/Promise.antt` what a whole run will.
+// The machine runs graphs step by step, and shows a watch each mark that is made; `specs/Promise.antt` says what a run comes to.
 #![tactic(auto)]
 
 mod acting;
@@ -7,12 +6,15 @@ mod blocks;
 mod calling;
 mod finding;
 mod flow;
+mod launching;
 mod leading;
 mod machine;
 mod objects;
 mod outcome;
 mod parameters;
+mod roots;
 mod running;
+mod setting;
 mod statics;
 mod stepping;
 mod stubbing;
