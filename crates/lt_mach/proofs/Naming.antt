@@ -1,15 +1,13 @@
 -- The named objects of an input, one after the other.
-use Rattle.std.proofs.Common.{◌≡◌, ℕ, suc, ◌+◌, ◌<◌, nat_le, List, [], ◌∷◌, length, length-append, Bool, true, false, Option, Some, None, Result, Ok, Err, refl, ap, sym, ◌∙◌, arith, if◌then◌else◌}
+use Rattle.std.proofs.Common.{◌≡◌, ℕ, suc, ◌+◌, ◌<◌, nat_le, List, [], ◌∷◌, length, length-append, Bool, true, false, Some, None, Result, Ok, Err, refl, ap, sym, ◌∙◌, arith, if◌then◌else◌}
 use Rattle.lt_model.specs.declared.input.BlockIn.{BlockIn}
 use Rattle.lt_model.specs.declared.cell.Shape.{Shape}
-use Rattle.lt_model.specs.declared.run.End.TheVariants.{Cells as CellsEnd}
 use Rattle.lt_model.specs.Memory.{Memory, Block, create, new_block, create_shaped, cells_alive, most_cells}
-use Rattle.lt_model.specs.State.{Gives, Ends}
-use Rattle.lt_ir.specs.Running.{At, Answer, created}
+use Rattle.lt_model.specs.State.{Gives}
+use Rattle.lt_ir.specs.Running.{At, created}
 use Rattle.lt_ir.specs.Starting.{start_blocks}
 use Rattle.lt_acts.specs.Acts.{on}
 use Rattle.lt_acts.specs.Ends.{end_of}
-use Rattle.lt_acts.specs.declared.flow.Fault.TheVariants.{Cells}
 use Rattle.lt_acts.specs.declared.flow.Stop.{Stop}
 use Rattle.lt_acts.specs.declared.flow.Stop.TheVariants.{Over, NoMemory}
 use Rattle.lt_mach.specs.Blocks.{Made, roots_from}
@@ -33,11 +31,6 @@ one_named it rest m m1 m2 (Err (Over why)) at e h =
     first_gives (created it.shape true) _ (on m at) (on m1 at) (length m) (made it.shape at.scope m m1 (length m) at refl e)
     ∙ first_ends (start_blocks rest) _ (on m1 at) (on m2 at) (end_of why) h
 one_named it rest m m1 m2 (Err NoMemory) at e h = tt
-
--- too many cells would be alive
-pub none_named : (it : BlockIn) (rest : List BlockIn) (m : Memory) (at : At) → create_shaped m it.shape true true ≡ None → Made (it ∷ rest) (Err (Over Cells)) (length m) (on m at) (start_blocks (it ∷ rest) (on m at))
-none_named it rest m at e =
-    first_ends (created it.shape true) _ (on m at) (on m at) CellsEnd (ap (λ (o : Option Memory). elim o as (λ _. Answer ℕ) [ None ↦ Ends CellsEnd (on m at) | Some memory ↦ Gives (length m) (on memory at) ]) e)
 
 -- the names, where the number of the first is known as soon as there is one
 pub first_named : (its : List BlockIn) (first n : ℕ) → (0 < length its → first ≡ n) → roots_from first its ≡ roots_from n its

@@ -1,5 +1,5 @@
 -- Names that a map finds, and cells that are found by their offsets.
-use Rattle.std.proofs.Common.{◌≡◌, ◌≢◌, ◌↔◌, ℕ, zero, suc, ◌+◌, ◌-◌, ◌<◌, ◌≤◌, List, [], ◌∷◌, ◌++◌, length, get_or, drop, drop-cons, Option, Some, None, Result, Ok, Err, Bor, Bool, true, false, cond, IsTrue, refl, sym, subst, ap, ◌∙◌, arith}
+use Rattle.std.proofs.Common.{◌≡◌, ◌≢◌, ◌↔◌, ℕ, zero, suc, ◌+◌, ◌-◌, ◌<◌, ◌≤◌, List, [], ◌∷◌, ◌++◌, length, get_or, drop, drop-cons, Some, None, Result, Ok, Err, Bor, Bool, true, false, cond, IsTrue, refl, sym, subst, ap, ◌∙◌, arith}
 use Rattle.std.specs.Prelude.{if◌then◌else◌, nat_lt, ◌==◌}
 use Rattle.std.specs.Str.{bytes_eq}
 use Rattle.std.specs.Ordering.{nat_cmp, ordering_index}
@@ -62,13 +62,6 @@ one_block blocks first p place number d rest old new e h is are put =
     ∙ ap (λ n. root_of (get_or blocks p d) (first + p) ∷ (roots_from n (drop (suc p) blocks) ++ rest)) next
     ∙ ap (λ l. roots_from (first + p) l ++ rest) (sym (drop-cons blocks p d within)))
     (put (roots_from (first + place) (drop place blocks) ++ rest) are)
-
--- a parameter has a name where it has a block
-pub named_some : (it : BlockIn) (o : Option ℕ) (block : ℕ) (old new : BTreeMap (Bor (List ℕ)) Root) → o ≡ Some block → Puts old new (root_of it block) → (rest : List Root) → AreFound rest old → AreFound (named it.name it.shape.cells o rest) new
-named_some it o block old new e put rest are = same_found _ _ new (ap (λ p. named it.name it.shape.cells p rest) (sym e)) (put rest are)
-
-pub named_none : (it : BlockIn) (o : Option ℕ) (roots : BTreeMap (Bor (List ℕ)) Root) → o ≡ None → (rest : List Root) → AreFound rest roots → AreFound (named it.name it.shape.cells o rest) roots
-named_none it o roots e rest are = same_found _ _ roots (ap (λ p. named it.name it.shape.cells p rest) (sym e)) are
 
 -- what a name finds after a parameter of a number was put in front, if it has a block
 abbrev pub PutsNamed : (old new : BTreeMap (Bor (List ℕ)) Root) → List Bound → BlockIn → ℕ → Type 0
@@ -147,14 +140,3 @@ found_at cells offset k d up here = sym (first_at cells offset k d here.0 (here.
 
 pub nowhere_at : (cells : List ShapeCell) (offset : ℕ) → IsAt cells offset None → None ≡ type_at offset cells
 nowhere_at cells offset none = sym (none_at cells offset none)
-
--- a walk along cells
-pub walked_on : (cells : List ShapeCell) (offset k : ℕ) (d : ShapeCell) → k < length cells → (get_or cells k d).offset ≢ offset → type_at offset (drop k cells) ≡ type_at offset (drop (suc k) cells)
-walked_on cells offset k d h apart =
-    let other : ((get_or cells k d).offset == offset) ≡ false = grind (arith, nat_tests, apart) in
-    ap (type_at offset) (drop-cons cells k d h) ∙ ap (λ b. if b then Some (get_or cells k d).ty else type_at offset (drop (suc k) cells)) other
-
-pub walked_to : (cells : List ShapeCell) (offset k : ℕ) (d : ShapeCell) → k < length cells → (get_or cells k d).offset ≡ offset → type_at offset (drop k cells) ≡ Some (get_or cells k d).ty
-walked_to cells offset k d h e =
-    let same : ((get_or cells k d).offset == offset) ≡ true = grind (arith, nat_tests, e) in
-    ap (type_at offset) (drop-cons cells k d h) ∙ ap (λ b. if b then Some (get_or cells k d).ty else type_at offset (drop (suc k) cells)) same

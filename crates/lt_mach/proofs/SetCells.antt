@@ -1,5 +1,5 @@
 -- Cells that an input sets.
-use Rattle.std.proofs.Common.{◌≡◌, ℕ, ◌+◌, ◌<◌, Bor, List, ◌++◌, length, get_or, drop, drop-cons, Option, Some, None, Result, Ok, sym, subst, ap, ◌∙◌, add-one}
+use Rattle.std.proofs.Common.{◌≡◌, ℕ, ◌+◌, ◌<◌, Bor, List, ◌++◌, length, get_or, drop, drop-cons, Option, Some, Result, sym, subst, ap, ◌∙◌, add-one}
 use Rattle.lt_model.specs.declared.cell.CellType.{CellType}
 use Rattle.lt_model.specs.declared.cell.Content.{Content}
 use Rattle.std.specs.BTreeMap.{BTreeMap}
@@ -11,25 +11,16 @@ use Rattle.lt_ir.specs.declared.code.Static.{Static}
 use Rattle.lt_ir.specs.Running.{At, Bound, ◌>>◌}
 use Rattle.lt_ir.specs.Starting.{Root, type_at, put_if_there, put_in, set_one, set_all, sets, parameter_roots, static_roots}
 use Rattle.lt_ir.specs.Graph.{names_in, shapes_in}
-use Rattle.lt_acts.specs.Acts.{on}
 use Rattle.lt_acts.specs.Placing.{standing, Changes}
 use Rattle.lt_acts.specs.declared.flow.Stop.{Stop}
 use Rattle.lt_mach.specs.Blocks.{roots_from}
 use Rattle.lt_mach.specs.Parameters.{Stores, put_at}
 use Rattle.lt_mach.specs.Roots.{AreFound}
 
--- no cell stands at the offset
-pub put_none : (model : DataModel) (root : Root) (offset : ℕ) (c : Content) (m : Memory) → None ≡ type_at offset root.cells → Stores (put_in model (Some root) offset c) m (Ok tt) m
-put_none model root offset c m e at = ap (λ ty. put_if_there model root.block offset ty c (on m at)) (sym e)
-
 pub put_some : (model : DataModel) (root : Root) (block offset : ℕ) (ty : CellType) (c : Content) (m m1 : Memory) (result : Result (Unit {0}) Stop) → block ≡ root.block → Some ty ≡ type_at offset root.cells → Stores (put_at model ty (Some (record { block = block; offset = offset })) c) m result m1 → Stores (put_in model (Some root) offset c) m result m1
 put_some model root block offset ty c m m1 result b e h =
     subst (λ (o : Option CellType). Stores (put_if_there model root.block offset o c) m result m1) e
     (subst (λ (n : ℕ). Stores (put_at model ty (Some (record { block = n; offset = offset })) c) m result m1) b h)
-
--- what is put where a name names
-pub put_so : (model : DataModel) (o o1 : Option Root) (offset : ℕ) (c : Content) (m m1 : Memory) (result : Result (Unit {0}) Stop) → o ≡ o1 → Stores (put_in model o offset c) m result m1 → Stores (put_in model o1 offset c) m result m1
-put_so model o o1 offset c m m1 result e h = subst (λ (p : Option Root). Stores (put_in model p offset c) m result m1) e h
 
 -- one cell more
 pub set_next : (model : DataModel) (list : List Root) (cells : List CellSet) (k : ℕ) (d : CellSet) (at : At) → k < length cells → set_all model list (drop k cells) at ≡ (set_one model list (get_or cells k d) >> set_all model list (drop (k + 1) cells)) at
