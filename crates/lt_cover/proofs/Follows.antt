@@ -13,7 +13,7 @@ use Rattle.lt_cover.specs.declared.rows.Row.{Row}
 use Rattle.lt_cover.specs.declared.rows.Row.TheVariants.{Test, Label, Hyper}
 use Rattle.lt_cover.specs.declared.rows.Version.{Version}
 use Rattle.lt_cover.specs.declared.rows.Version.TheVariants.{One, Two}
-use Rattle.lt_cover.specs.Coverage.Table.{Table, IsTable, IsTestRow, IsLabelRow, IsHyperRow, NamesRise, names_of, label_ids, hyper_ids}
+use Rattle.lt_cover.specs.Coverage.Table.{Table, IsOrdered, IsTable, IsTestRow, IsLabelRow, IsHyperRow, IsCoveredBy, NamesRise, names_of, label_ids, hyper_ids}
 use Rattle.lt_cover.specs.Coverage.Text.{AreRowsOf, StandFor, MayHold, header, row_fields, rows_in}
 use Rattle.lt_cover.specs.Coverage.Rows.{IsRow, MayFollow, added}
 use Rattle.lt_cover.proofs.RowFields.{row_inj}
@@ -45,30 +45,44 @@ label_ids_push labels x = map-append (λ (l : LabelRow). l.id) labels (x ∷ [])
 hyper_ids_push : (hypers : List HyperRow) (x : HyperRow) → hyper_ids (hypers ++ x ∷ []) ≡ hyper_ids hypers ++ x.id ∷ []
 hyper_ids_push hypers x = map-append (λ (h : HyperRow). h.id) hypers (x ∷ [])
 
+order_added : (version : Version) (t : Table) (row : Row) → IsOrdered t → IsRow row → MayFollow version t row → IsOrdered (added t row)
+order_added version t (Test x) order form h = record {
+  tests_rise = subst NamesRise (sym (names_push t.tests x)) (rise_push (slice_cmp nat_cmp) (names_of t.tests) x.name order.tests_rise h.above);
+  labels_rise = order.labels_rise;
+  hypers_rise = order.hypers_rise;
+  covered = All-same (IsCoveredBy (names_of (t.tests ++ x ∷ []))) t.labels [] h.labels (All-nil (IsCoveredBy (names_of (t.tests ++ x ∷ []))));
+}
+order_added version t (Label x) order form h = record {
+  tests_rise = order.tests_rise;
+  labels_rise = subst (IsStrictlySortedBy nat_cmp) (sym (label_ids_push t.labels x)) (rise_push nat_cmp (label_ids t.labels) x.id order.labels_rise h.above);
+  hypers_rise = order.hypers_rise;
+  covered = All-push (IsCoveredBy (names_of t.tests)) t.labels x order.covered (record { rise = form.by.rise; known = h.known });
+}
+order_added version t (Hyper x) order form h = record {
+  tests_rise = order.tests_rise;
+  labels_rise = order.labels_rise;
+  hypers_rise = subst (IsStrictlySortedBy nat_cmp) (sym (hyper_ids_push t.hypers x)) (rise_push nat_cmp (hyper_ids t.hypers) x.id order.hypers_rise h);
+  covered = order.covered;
+}
+
 table_added : (version : Version) (t : Table) (row : Row) → IsTable t → IsRow row → MayFollow version t row → IsTable (added t row)
 table_added version t (Test x) table form h = record {
+  ordered = order_added version t (Test x) table.ordered form h;
   each_test = All-push IsTestRow t.tests x table.each_test form;
-  each_label = All-same (IsLabelRow (names_of (t.tests ++ x ∷ []))) t.labels [] h.labels (All-nil (IsLabelRow (names_of (t.tests ++ x ∷ []))));
+  each_label = table.each_label;
   each_hyper = table.each_hyper;
-  tests_rise = subst NamesRise (sym (names_push t.tests x)) (rise_push (slice_cmp nat_cmp) (names_of t.tests) x.name table.tests_rise h.above);
-  labels_rise = table.labels_rise;
-  hypers_rise = table.hypers_rise;
 }
 table_added version t (Label x) table form h = record {
+  ordered = order_added version t (Label x) table.ordered form h;
   each_test = table.each_test;
-  each_label = All-push (IsLabelRow (names_of t.tests)) t.labels x table.each_label (record { id = form.id; tag = form.tag; rise = form.by.rise; known = h.known });
+  each_label = All-push IsLabelRow t.labels x table.each_label form.row;
   each_hyper = table.each_hyper;
-  tests_rise = table.tests_rise;
-  labels_rise = subst (IsStrictlySortedBy nat_cmp) (sym (label_ids_push t.labels x)) (rise_push nat_cmp (label_ids t.labels) x.id table.labels_rise h.above);
-  hypers_rise = table.hypers_rise;
 }
 table_added version t (Hyper x) table form h = record {
+  ordered = order_added version t (Hyper x) table.ordered form h;
   each_test = table.each_test;
   each_label = table.each_label;
   each_hyper = All-push IsHyperRow t.hypers x table.each_hyper form;
-  tests_rise = table.tests_rise;
-  labels_rise = table.labels_rise;
-  hypers_rise = subst (IsStrictlySortedBy nat_cmp) (sym (hyper_ids_push t.hypers x)) (rise_push nat_cmp (hyper_ids t.hypers) x.id table.hypers_rise h);
 }
 
 holds_added : (version : Version) (t : Table) (row : Row) → All (MayHold version) t.labels → MayFollow version t row → All (MayHold version) (added t row).labels
@@ -195,22 +209,22 @@ follows version t u (Test x) table holds e =
     record {
       labels = sym labels ∙ none.0;
       hypers = sym hypers ∙ none.1;
-      above = rise_back (slice_cmp nat_cmp) (names_of t.tests) x.name (subst NamesRise (ap names_of tests ∙ names_push t.tests x) table.tests_rise);
+      above = rise_back (slice_cmp nat_cmp) (names_of t.tests) x.name (subst NamesRise (ap names_of tests ∙ names_push t.tests x) table.ordered.tests_rise);
     }
 follows version t u (Label x) table holds e =
     let tests : u.tests ≡ t.tests = tests_grown t u (Label x) e ∙ append-nil t.tests in
     let labels : u.labels ≡ t.labels ++ x ∷ [] = labels_grown t u (Label x) e in
     let hypers : u.hypers ≡ t.hypers = hypers_grown t u (Label x) e ∙ append-nil t.hypers in
-    let row : IsLabelRow (names_of u.tests) x = last_holds (IsLabelRow (names_of u.tests)) t.labels x (subst (All (IsLabelRow (names_of u.tests))) labels table.each_label) in
+    let row : IsCoveredBy (names_of u.tests) x = last_holds (IsCoveredBy (names_of u.tests)) t.labels x (subst (All (IsCoveredBy (names_of u.tests))) labels table.ordered.covered) in
     record {
       hypers = sym hypers ∙ behind_label u (rows_in t) x e;
-      above = rise_back nat_cmp (label_ids t.labels) x.id (subst (IsStrictlySortedBy nat_cmp) (ap label_ids labels ∙ label_ids_push t.labels x) table.labels_rise);
+      above = rise_back nat_cmp (label_ids t.labels) x.id (subst (IsStrictlySortedBy nat_cmp) (ap label_ids labels ∙ label_ids_push t.labels x) table.ordered.labels_rise);
       known = subst (λ (z : List TestRow). All (λ name. Contains (names_of z) name) x.by) tests row.known;
       holds = last_holds (MayHold version) t.labels x (subst (All (MayHold version)) labels holds);
     }
 follows version t u (Hyper x) table holds e =
     let hypers : u.hypers ≡ t.hypers ++ x ∷ [] = hypers_grown t u (Hyper x) e in
-    rise_back nat_cmp (hyper_ids t.hypers) x.id (subst (IsStrictlySortedBy nat_cmp) (ap hyper_ids hypers ∙ hyper_ids_push t.hypers x) table.hypers_rise)
+    rise_back nat_cmp (hyper_ids t.hypers) x.id (subst (IsStrictlySortedBy nat_cmp) (ap hyper_ids hypers ∙ hyper_ids_push t.hypers x) table.ordered.hypers_rise)
 
 abbrev version_byte : List (List ℕ) → ℕ
 version_byte fields = get_or (get_or fields 1 []) 0 0
@@ -235,12 +249,15 @@ only version t rows fields u are (other, h) =
 pub first_row : (version : Version) → AreRowsOf version (record { tests = []; labels = []; hypers = [] }) (header version ∷ [])
 first_row version = record {
   table = record {
+    ordered = record {
+      tests_rise = rise_nil (slice_cmp nat_cmp);
+      labels_rise = rise_nil nat_cmp;
+      hypers_rise = rise_nil nat_cmp;
+      covered = All-nil (IsCoveredBy []);
+    };
     each_test = All-nil IsTestRow;
-    each_label = All-nil (IsLabelRow []);
+    each_label = All-nil IsLabelRow;
     each_hyper = All-nil IsHyperRow;
-    tests_rise = rise_nil (slice_cmp nat_cmp);
-    labels_rise = rise_nil nat_cmp;
-    hypers_rise = rise_nil nat_cmp;
   };
   holds = All-nil (MayHold version);
   are = refl;

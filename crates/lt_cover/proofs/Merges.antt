@@ -5,7 +5,7 @@ use Rattle.lt_cover.specs.declared.rows.LabelRow.{LabelRow}
 use Rattle.lt_cover.specs.declared.rows.HyperRow.{HyperRow}
 use Rattle.lt_cover.specs.declared.rows.HyperState.{HyperState}
 use Rattle.lt_cover.specs.declared.rows.HyperState.TheVariants.{Uncovered, TooWide, Covered}
-use Rattle.lt_cover.specs.Coverage.Table.{Table, IsTable}
+use Rattle.lt_cover.specs.Coverage.Table.{Table, IsOrdered}
 use Rattle.lt_cover.specs.Coverage.Merge.{EachMerged, IsMerge, IsMergedHyper, IsMergedLabel, greater}
 
 other : {A B : Type 0} → A ⊎ B → B ⊎ A
@@ -54,15 +54,15 @@ hyper_other x y z h = record { left = h.right; right = h.left; state = h.state �
 
 pub commutative : (a b m : Table) → IsMerge a b m → IsMerge b a m
 commutative a b m h = record {
-  table = h.table;
+  ordered = h.ordered;
   tests = λ x. (λ k. other ((h.tests x).0 k), λ k. (h.tests x).1 (other k));
   labels = each_other IsMergedLabel label_other a.labels b.labels m.labels h.labels;
   hypers = each_other IsMergedHyper hyper_other a.hypers b.hypers m.hypers h.hypers;
 }
 
-pub idempotent : (a : Table) → IsTable a → IsMerge a a a
+pub idempotent : (a : Table) → IsOrdered a → IsMerge a a a
 idempotent a h = record {
-  table = h;
+  ordered = h;
   tests = λ x. (λ k. inl k, λ k. either k);
   labels = each_self IsMergedLabel (λ x. record { left = (refl, refl); right = (refl, refl); by = λ name. (λ k. inl k, λ k. either k) }) a.labels;
   hypers = each_self IsMergedHyper (λ x. record { left = (refl, refl); right = (refl, refl); state = greater_self x.state }) a.hypers;
@@ -127,7 +127,7 @@ hyper_grouped a b c m n x h k l = record {
 
 pub associative : (a b c m n x : Table) → IsMerge a b m → IsMerge b c n → IsMerge m c x → IsMerge a n x
 associative a b c m n x h k l = record {
-  table = l.table;
+  ordered = l.ordered;
   tests = λ t. regroup (h.tests t) (k.tests t) (l.tests t);
   labels = each_grouped IsMergedLabel label_grouped a.labels b.labels c.labels m.labels n.labels x.labels h.labels k.labels l.labels;
   hypers = each_grouped IsMergedHyper hyper_grouped a.hypers b.hypers c.hypers m.hypers n.hypers x.hypers h.hypers k.hypers l.hypers;

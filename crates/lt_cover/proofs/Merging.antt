@@ -10,7 +10,7 @@ use Rattle.lt_cover.specs.declared.rows.TestRow.{TestRow}
 use Rattle.lt_cover.specs.declared.rows.LabelRow.{LabelRow}
 use Rattle.lt_cover.specs.declared.rows.HyperRow.{HyperRow}
 use Rattle.lt_cover.specs.Coverage.Names.{IsId, IsTag}
-use Rattle.lt_cover.specs.Coverage.Table.{Table, IsTable, IsTestRow, IsLabelRow, IsHyperRow, NamesRise, names_of, label_ids, hyper_ids}
+use Rattle.lt_cover.specs.Coverage.Table.{Table, IsOrdered, IsTable, IsTestRow, IsLabelRow, IsHyperRow, IsCoveredBy, NamesRise, names_of, label_ids, hyper_ids}
 use Rattle.lt_cover.specs.Coverage.Merge.{EachMerged, IsMerge, IsMergedHyper, IsMergedLabel, label_keys, hyper_keys}
 use Rattle.lt_cover.specs.Coverage.Keys.{IsRisingLabel, IsSameLabel, IsSameHyper, KeysRise}
 
@@ -101,23 +101,16 @@ each_known names a b m h k l = λ i d within. by (get_or m.by i d) ((h.by (get_o
     by name (inl c) = subst (Contains names) c.2 (k c.0 name c.1)
     by name (inr c) = subst (Contains names) c.2 (l c.0 name c.1)
 
--- the tests, labels and hyperlabels of a merge are a table
-merged_table : (a b m : Table) → IsTable a → IsTable b → NamesRise (names_of m.tests) → ((x : TestRow) → Contains m.tests x ↔ (Contains a.tests x ⊎ Contains b.tests x)) → EachMerged IsRisingLabel a.labels b.labels m.labels → EachMerged IsMergedHyper a.hypers b.hypers m.hypers → IsTable m
-merged_table a b m ha hb rise tests labels hypers = record {
-  each_test = all_of_either IsTestRow a.tests b.tests m.tests tests ha.each_test hb.each_test;
-  each_label = each_has IsRisingLabel (IsLabelRow (names_of a.tests)) (IsLabelRow (names_of b.tests)) (IsLabelRow (names_of m.tests)) (λ x y z h k l. record {
-    id = subst IsId (sym h.merged.left.0) k.id;
-    tag = subst IsTag (sym h.merged.left.1) k.tag;
-    rise = h.rise;
-    known = each_known (names_of m.tests) x y z h.merged (known_by (names_of a.tests) (names_of m.tests) x.by first k.known) (known_by (names_of b.tests) (names_of m.tests) y.by second l.known);
-  }) a.labels b.labels m.labels labels ha.each_label hb.each_label;
-  each_hyper = each_has IsMergedHyper IsHyperRow IsHyperRow IsHyperRow (λ x y z h k l. record {
-    id = subst IsId (sym h.left.0) k.id;
-    tag = subst IsTag (sym h.left.1) k.tag;
-  }) a.hypers b.hypers m.hypers hypers ha.each_hyper hb.each_hyper;
+-- the tests, labels and hyperlabels of a merge are in order
+merged_order : (a b m : Table) → IsOrdered a → IsOrdered b → NamesRise (names_of m.tests) → ((x : TestRow) → Contains m.tests x ↔ (Contains a.tests x ⊎ Contains b.tests x)) → EachMerged IsRisingLabel a.labels b.labels m.labels → EachMerged IsMergedHyper a.hypers b.hypers m.hypers → IsOrdered m
+merged_order a b m ha hb rise tests labels hypers = record {
   tests_rise = rise;
   labels_rise = subst (IsStrictlySortedBy nat_cmp) (sym (each_key IsRisingLabel (λ (l : LabelRow). l.id) (λ x y z h. h.merged.left.0) a.labels b.labels m.labels labels)) ha.labels_rise;
   hypers_rise = subst (IsStrictlySortedBy nat_cmp) (sym (each_key IsMergedHyper (λ (h : HyperRow). h.id) (λ x y z h. h.left.0) a.hypers b.hypers m.hypers hypers)) ha.hypers_rise;
+  covered = each_has IsRisingLabel (IsCoveredBy (names_of a.tests)) (IsCoveredBy (names_of b.tests)) (IsCoveredBy (names_of m.tests)) (λ x y z h k l. record {
+    rise = h.rise;
+    known = each_known (names_of m.tests) x y z h.merged (known_by (names_of a.tests) (names_of m.tests) x.by first k.known) (known_by (names_of b.tests) (names_of m.tests) y.by second l.known);
+  }) a.labels b.labels m.labels labels ha.covered hb.covered;
 }
   where
     first : (name : List ℕ) → Contains (names_of a.tests) name → Contains (names_of m.tests) name
@@ -126,16 +119,31 @@ merged_table a b m ha hb rise tests labels hypers = record {
     second : (name : List ℕ) → Contains (names_of b.tests) name → Contains (names_of m.tests) name
     second = names_kept b.tests m.tests (λ x c. (tests x).1 (inr c))
 
-merged : (a b m : Table) → IsTable a → IsTable b → NamesRise (names_of m.tests) → ((x : TestRow) → Contains m.tests x ↔ (Contains a.tests x ⊎ Contains b.tests x)) → EachMerged IsRisingLabel a.labels b.labels m.labels → EachMerged IsMergedHyper a.hypers b.hypers m.hypers → IsMerge a b m
+-- a merge of tables of coverage files is one
+pub merge_table : (a b m : Table) → IsTable a → IsTable b → IsMerge a b m → IsTable m
+merge_table a b m ha hb h = record {
+  ordered = h.ordered;
+  each_test = all_of_either IsTestRow a.tests b.tests m.tests h.tests ha.each_test hb.each_test;
+  each_label = each_has IsMergedLabel IsLabelRow IsLabelRow IsLabelRow (λ x y z k l r. record {
+    id = subst IsId (sym k.left.0) l.id;
+    tag = subst IsTag (sym k.left.1) l.tag;
+  }) a.labels b.labels m.labels h.labels ha.each_label hb.each_label;
+  each_hyper = each_has IsMergedHyper IsHyperRow IsHyperRow IsHyperRow (λ x y z k l r. record {
+    id = subst IsId (sym k.left.0) l.id;
+    tag = subst IsTag (sym k.left.1) l.tag;
+  }) a.hypers b.hypers m.hypers h.hypers ha.each_hyper hb.each_hyper;
+}
+
+merged : (a b m : Table) → IsOrdered a → IsOrdered b → NamesRise (names_of m.tests) → ((x : TestRow) → Contains m.tests x ↔ (Contains a.tests x ⊎ Contains b.tests x)) → EachMerged IsRisingLabel a.labels b.labels m.labels → EachMerged IsMergedHyper a.hypers b.hypers m.hypers → IsMerge a b m
 merged a b m ha hb rise tests labels hypers = record {
-  table = merged_table a b m ha hb rise tests labels hypers;
+  ordered = merged_order a b m ha hb rise tests labels hypers;
   tests = tests;
   labels = each_weaker IsRisingLabel IsMergedLabel (λ x y z h. h.merged) a.labels b.labels m.labels labels;
   hypers = hypers;
 }
 
 -- the same of lists by other names
-pub merged_of : (a b : Table) (ta tb tests : List TestRow) (la lb labels : List LabelRow) (ga gb hypers : List HyperRow) → IsTable a → IsTable b → ta ≡ a.tests → tb ≡ b.tests → la ≡ a.labels → lb ≡ b.labels → ga ≡ a.hypers → gb ≡ b.hypers
+pub merged_of : (a b : Table) (ta tb tests : List TestRow) (la lb labels : List LabelRow) (ga gb hypers : List HyperRow) → IsOrdered a → IsOrdered b → ta ≡ a.tests → tb ≡ b.tests → la ≡ a.labels → lb ≡ b.labels → ga ≡ a.hypers → gb ≡ b.hypers
     → NamesRise (names_of tests) → ((x : TestRow) → Contains tests x ↔ (Contains ta x ⊎ Contains tb x)) → EachMerged IsRisingLabel la lb labels → EachMerged IsMergedHyper ga gb hypers → IsMerge a b (record { tests = tests; labels = labels; hypers = hypers })
 merged_of a b ta tb tests la lb labels ga gb hypers ha hb et eu el em eg eh rise each_test each_label each_hyper =
     merged a b (record { tests = tests; labels = labels; hypers = hypers }) ha hb rise
@@ -185,9 +193,9 @@ same_hyper a b i x y e ia xi yi =
     let same = same_key (λ (h : HyperRow). (h.id, h.tag)) a b i x y e (omega (arith, ia, as_many_hypers a b e)) xi yi in
     (ap (λ (k : ℕ × List ℕ). k.0) same, ap (λ (k : ℕ × List ℕ). k.1) same)
 
-pub labels_rise : (t : Table) (labels : List LabelRow) → IsTable t → labels ≡ t.labels → All (λ (l : LabelRow). NamesRise l.by) labels
+pub labels_rise : (t : Table) (labels : List LabelRow) → IsOrdered t → labels ≡ t.labels → All (λ (l : LabelRow). NamesRise l.by) labels
 labels_rise t labels h e =
-    subst (All (λ (l : LabelRow). NamesRise l.by)) (sym e) (All-weaker (IsLabelRow (names_of t.tests)) (λ (l : LabelRow). NamesRise l.by) (λ l k. k.rise) t.labels h.each_label)
+    subst (All (λ (l : LabelRow). NamesRise l.by)) (sym e) (All-weaker (IsCoveredBy (names_of t.tests)) (λ (l : LabelRow). NamesRise l.by) (λ l k. k.rise) t.labels h.covered)
 
 pub rising_label : (a b : LabelRow) (tag given : List ℕ) (left right names by : List (List ℕ)) → IsSameLabel a b → tag ≡ given → given ≡ a.tag → left ≡ a.by → right ≡ b.by → by ≡ names → NamesRise names → ((name : List ℕ) → Contains names name ↔ (Contains left name ⊎ Contains right name)) → IsRisingLabel a b (record { id = a.id; tag = tag; by = by })
 rising_label a b tag given left right names by same t g l r n rise h = record {

@@ -8,7 +8,7 @@ use Rattle.std.proofs.lemmas.List.Elements.{All-head, All-tail, All-weaker, All-
 use Rattle.lt_cover.specs.declared.rows.TestRow.{TestRow}
 use Rattle.lt_cover.specs.declared.rows.LabelRow.{LabelRow}
 use Rattle.lt_cover.specs.Coverage.Names.{is_name_byte, IsTestName}
-use Rattle.lt_cover.specs.Coverage.Table.{IsTestRow, IsLabelRow, names_of}
+use Rattle.lt_cover.specs.Coverage.Table.{IsTestRow, IsLabelRow, IsCoveredBy, names_of}
 use Rattle.lt_cover.specs.Coverage.Text.{names_text, label_word}
 use Rattle.lt_cover.specs.Coverage.Rows.{IsLabelForm}
 
@@ -34,11 +34,10 @@ names_inj (a ∷ more) [] ha hb w e = absurd (omega (arith, ap first_byte w))
 names_inj (a ∷ more) (b ∷ bs) ha hb w e = sym (split_names a more ha) ∙ (ap (slice_split (λ x. eqb x 32)) e ∙ split_names b bs hb)
 
 -- a label of a table has the names of tests
-pub label_form : (tests : List TestRow) (label : LabelRow) → All IsTestRow tests → IsLabelRow (names_of tests) label → IsLabelForm label
-label_form tests label each h =
+pub label_form : (tests : List TestRow) (label : LabelRow) → All IsTestRow tests → IsLabelRow label → IsCoveredBy (names_of tests) label → IsLabelForm label
+label_form tests label each row h =
     let names : All IsTestName (names_of tests) = All-map IsTestName (λ (t : TestRow). t.name) tests (All-weaker IsTestRow (λ (t : TestRow). IsTestName t.name) (λ t k. k.name) tests each) in
     record {
-      id = h.id;
-      tag = h.tag;
+      row = row;
       by = record { each = All-weaker (λ name. Contains (names_of tests) name) IsTestName (λ name k. All-contains IsTestName (names_of tests) name names k) label.by h.known; rise = h.rise };
     }

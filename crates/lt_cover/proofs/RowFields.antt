@@ -31,7 +31,7 @@ hyper_same a b p q r = λ i. record { id = p i; tag = q i; state = r i }
 pub row_inj : (a b : Row) → IsRow a → IsRow b → row_fields a ≡ row_fields b → a ≡ b
 row_inj (Test a) (Test b) ha hb e = ap Test (test_same a b (ap (field 1) e) (end_inj a.end b.end (ap (field 3) e)))
 row_inj (Label a) (Label b) ha hb e =
-    let id : a.id ≡ b.id = decimal_injective a.id b.id (omega (arith, ha.id.1)) (omega (arith, hb.id.1)) (ap (field 1) e) in
+    let id : a.id ≡ b.id = decimal_injective a.id b.id (omega (arith, ha.row.id.1)) (omega (arith, hb.row.id.1)) (ap (field 1) e) in
     ap Label (label_same a b id (ap (field 2) e) (names_inj a.by b.by ha.by.each hb.by.each (ap (field 3) e) (ap (field 4) e)))
 row_inj (Hyper a) (Hyper b) ha hb e =
     let id : a.id ≡ b.id = decimal_injective a.id b.id (omega (arith, ha.id.1)) (omega (arith, hb.id.1)) (ap (field 1) e) in

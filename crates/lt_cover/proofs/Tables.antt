@@ -1,14 +1,14 @@
 -- The rows of a table tell the table.
-use Rattle.std.proofs.Common.{◌≡◌, List, [], ◌∷◌, ◌++◌, refl, sym, ap, ◌∙◌}
+use Rattle.std.proofs.Common.{◌≡◌, List, [], ◌∷◌, ◌++◌, get_or, refl, sym, ap, ◌∙◌}
 use Rattle.std.specs.Prelude.{All, map}
 use Rattle.std.proofs.lemmas.List.{append-nil}
-use Rattle.std.proofs.lemmas.List.Elements.{All-append, All-map, All-weaker}
+use Rattle.std.proofs.lemmas.List.Elements.{All-append, All-map}
 use Rattle.lt_cover.specs.declared.rows.TestRow.{TestRow}
 use Rattle.lt_cover.specs.declared.rows.LabelRow.{LabelRow}
 use Rattle.lt_cover.specs.declared.rows.HyperRow.{HyperRow}
 use Rattle.lt_cover.specs.declared.rows.Row.{Row}
 use Rattle.lt_cover.specs.declared.rows.Row.TheVariants.{Test, Label, Hyper}
-use Rattle.lt_cover.specs.Coverage.Table.{Table, IsTable, IsLabelRow, names_of}
+use Rattle.lt_cover.specs.Coverage.Table.{Table, IsTable}
 use Rattle.lt_cover.specs.Coverage.Text.{row_fields, rows_in}
 use Rattle.lt_cover.specs.Coverage.Rows.{IsRow, IsLabelForm}
 use Rattle.lt_cover.proofs.NameFields.{label_form}
@@ -101,7 +101,7 @@ rows_tell : (a b : Table) → rows_in a ≡ rows_in b → a ≡ b
 rows_tell a b e = table_same a b (sym (tests_are a) ∙ (ap tests_in e ∙ tests_are b)) (sym (labels_are a) ∙ (ap labels_in e ∙ labels_are b)) (sym (hypers_are a) ∙ (ap hypers_in e ∙ hypers_are b))
 
 pub each_form : (t : Table) → IsTable t → All IsLabelForm t.labels
-each_form t h = All-weaker (IsLabelRow (names_of t.tests)) IsLabelForm (λ l k. label_form t.tests l h.each_test k) t.labels h.each_label
+each_form t h = λ i d within. label_form t.tests (get_or t.labels i d) h.each_test (h.each_label i d within) (h.ordered.covered i d within)
 
 pub each_row : (t : Table) → IsTable t → All IsRow (rows_in t)
 each_row t h =

@@ -29,7 +29,7 @@ header_line = record { bare = row_of_bare (codes "ltest-cover") (version_word Tw
 
 row_line : (row : Row) → IsRow row → IsLine (row_fields row)
 row_line (Test t) h = record { bare = row_of_bare (codes "test") t.name [] (end_word t.end) [] refl (bare_name t.name h.name) refl (bare_end t.end h.end) refl; back = refl }
-row_line (Label l) h = record { bare = row_of_bare (codes "label") (decimal l.id) l.tag (label_word l.by) (names_text l.by) refl (bare_id l.id h.id) (bare_tag l.tag h.tag) (bare_label_word l.by) (bare_names l.by h.by.each); back = refl }
+row_line (Label l) h = record { bare = row_of_bare (codes "label") (decimal l.id) l.tag (label_word l.by) (names_text l.by) refl (bare_id l.id h.row.id) (bare_tag l.tag h.row.tag) (bare_label_word l.by) (bare_names l.by h.by.each); back = refl }
 row_line (Hyper x) h = record { bare = row_of_bare (codes "hyper") (decimal x.id) x.tag (state_word x.state) [] refl (bare_id x.id h.id) (bare_tag x.tag h.tag) (bare_state x.state) refl; back = refl }
 
 reached : (rows : List (List (List ℕ))) → All IsLine rows → Reached default_config StartRecord (flat_map line rows) rows StartRecord []

@@ -3,7 +3,7 @@
 ghost use Rattle.std.specs.Prelude.{◌≡◌, ◌↔◌, [], IsTrue, IfOk, OnOk, All, Contains};
 ghost use Rattle.std.specs.List.Sorted.{IsStrictlySortedBy};
 ghost use Rattle.std.specs.Ordering.{nat_cmp};
-ghost use Rattle.lt_cover.specs.Coverage.Table.{IsTable, NamesRise, names_of, label_ids, hyper_ids};
+ghost use Rattle.lt_cover.specs.Coverage.Table.{IsOrdered, NamesRise, names_of, label_ids, hyper_ids};
 ghost use Rattle.lt_cover.specs.Coverage.Text.{MayHold};
 ghost use Rattle.lt_cover.specs.Coverage.Rows.{IsBelowName, IsBelowId, MayFollow, TestMayFollow, LabelMayFollow, Takes, added};
 ghost use Rattle.lt_cover.specs.Coverage.Draft.{table_of};
@@ -104,7 +104,7 @@ impl Draft {
     }
 
     fn test_may_follow(&self, test: &TestRow) -> bool
-        requires { IsTable (table_of self.now) }
+        requires { IsOrdered (table_of self.now) }
         ensures { IsTrue result ↔ TestMayFollow (table_of self.now) test.now }
     {
         if !self.labels.as_slice().is_empty() {
@@ -117,7 +117,7 @@ impl Draft {
     }
 
     fn label_may_follow(&self, label: &LabelRow) -> bool
-        requires { IsTable (table_of self.now) }
+        requires { IsOrdered (table_of self.now) }
         ensures { IsTrue result ↔ LabelMayFollow self.now.version (table_of self.now) label.now }
     {
         if !self.hypers.as_slice().is_empty() {
@@ -134,7 +134,7 @@ impl Draft {
 
     // Whether a row may come next.
     fn may_follow(&self, row: &Row) -> bool
-        requires { IsTable (table_of self.now) }
+        requires { IsOrdered (table_of self.now) }
         ensures { IsTrue result ↔ MayFollow self.now.version (table_of self.now) row.now }
     {
         match row {
@@ -158,7 +158,7 @@ impl Draft {
 
     /// Takes the row with these fields, if there is one and it may come next; whether it is so.
     pub fn take(&mut self, alloc: Global, fields: &[Sequence<u8>]) -> Result<bool, AllocError>
-        requires { IsTable (table_of self.old) }
+        requires { IsOrdered (table_of self.old) }
         ensures version { self.new.version ≡ self.old.version }
         ensures row { IfOk result (λ taken. Takes self.old.version (table_of self.old) fields.now taken (table_of self.new)) }
     {
@@ -174,7 +174,7 @@ impl Draft {
 
     /// The table.
     pub fn into_coverage(self) -> Coverage
-        requires { IsTable (table_of self) }
+        requires { IsOrdered (table_of self) }
         ensures { result ≡ table_of self }
     {
         Coverage::new(self.tests, self.labels, self.hypers)

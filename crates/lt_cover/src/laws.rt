@@ -1,6 +1,6 @@
 // Laws of the definitions.
 ghost use Rattle.std.specs.Prelude.{◌≡◌, ℕ, List};
-ghost use Rattle.lt_cover.specs.Coverage.Table.{Table, IsTable};
+ghost use Rattle.lt_cover.specs.Coverage.Table.{Table, IsOrdered, IsTable};
 ghost use Rattle.lt_cover.specs.Coverage.Text.{IsCoverText, cover_text};
 ghost use Rattle.lt_cover.specs.Coverage.Merge.{IsMerge};
 
@@ -21,7 +21,12 @@ pub fn merge_is_commutative()
 
 /// A table merged with itself is that table.
 pub fn merge_is_idempotent()
-    ensures { (a : Table) → IsTable a → IsMerge a a a }
+    ensures { (a : Table) → IsOrdered a → IsMerge a a a }
+{}
+
+/// A merge of two tables of coverage files is one.
+pub fn merge_is_a_table()
+    ensures { (a b m : Table) → IsTable a → IsTable b → IsMerge a b m → IsTable m }
 {}
 
 /// Three tables have one merge, however they are grouped.

@@ -20,8 +20,8 @@ mod write;
 
 pub use combine::merge;
 pub use laws::{
-    a_text_stands_for_one_table, merge_is_associative, merge_is_commutative, merge_is_idempotent,
-    what_is_written_is_read,
+    a_text_stands_for_one_table, merge_is_a_table, merge_is_associative, merge_is_commutative,
+    merge_is_idempotent, what_is_written_is_read,
 };
 pub use read::read_cover;
 pub use rows::{Coverage, HyperRow, HyperState, LabelRow, TestEnd, TestRow};

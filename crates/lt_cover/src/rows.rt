@@ -1,6 +1,6 @@
 // The table of a coverage file of either version, and its rows.
 ghost use Rattle.std.specs.Prelude.{◌≡◌};
-ghost use Rattle.lt_cover.specs.Coverage.Table.{Table, IsTable};
+ghost use Rattle.lt_cover.specs.Coverage.Table.{Table, IsOrdered};
 
 use lt_model::{End, Name, Sequence};
 use std::marker::Model;
@@ -62,7 +62,8 @@ pub enum Version {
 }
 
 /// What a suite covers. `specs/Coverage/Table.antt` says what always holds of it: the tests stand in byte order of their names, the
-/// labels and hyperlabels in the order of their ids, and names, tags and ids have their forms.
+/// labels and hyperlabels in the order of their ids, and labels are covered by tests of the table. That names, tags and ids have
+/// their forms holds of what `read_cover` gives.
 #[derive(Drop)]
 pub struct Coverage {
     tests: Vec<TestRow>,
@@ -71,19 +72,19 @@ pub struct Coverage {
 }
 
 impl Model for Coverage {
-    ghost use Rattle.lt_cover.specs.Coverage.Table.{Table, IsTable};
+    ghost use Rattle.lt_cover.specs.Coverage.Table.{Table, IsOrdered};
 
     ghost Value = { Table };
 
     ghost view = { λ c. record { tests = c.tests.items; labels = c.labels.items; hypers = c.hypers.items } };
 
-    ghost invariant = { λ c. IsTable (record { tests = c.tests.items; labels = c.labels.items; hypers = c.hypers.items }) };
+    ghost invariant = { λ c. IsOrdered (record { tests = c.tests.items; labels = c.labels.items; hypers = c.hypers.items }) };
 }
 
 impl Coverage {
     /// The table of these rows. It takes no memory.
     pub fn new(tests: Vec<TestRow>, labels: Vec<LabelRow>, hypers: Vec<HyperRow>) -> Coverage
-        requires { IsTable (record { tests = tests.items; labels = labels.items; hypers = hypers.items }) }
+        requires { IsOrdered (record { tests = tests.items; labels = labels.items; hypers = hypers.items }) }
         ensures { result ≡ (record { tests = tests.items; labels = labels.items; hypers = hypers.items }) }
     {
         Coverage {
@@ -96,7 +97,7 @@ impl Coverage {
     /// How each test is over, in byte order of the names.
     pub fn tests(&self) -> &[TestRow]
         ensures rows { result.now ≡ self.now.tests }
-        ensures table { IsTable self.now }
+        ensures ordered { IsOrdered self.now }
     {
         self.tests.as_slice()
     }
@@ -104,7 +105,7 @@ impl Coverage {
     /// The labels, in the order of their ids.
     pub fn labels(&self) -> &[LabelRow]
         ensures rows { result.now ≡ self.now.labels }
-        ensures table { IsTable self.now }
+        ensures ordered { IsOrdered self.now }
     {
         self.labels.as_slice()
     }
@@ -112,7 +113,7 @@ impl Coverage {
     /// The hyperlabels, in the order of their ids.
     pub fn hypers(&self) -> &[HyperRow]
         ensures rows { result.now ≡ self.now.hypers }
-        ensures table { IsTable self.now }
+        ensures ordered { IsOrdered self.now }
     {
         self.hypers.as_slice()
     }

@@ -10,7 +10,7 @@ use Rattle.lt_cover.specs.declared.rows.HyperState.{HyperState}
 use Rattle.lt_cover.specs.declared.rows.HyperState.TheVariants.{Uncovered, TooWide, Covered}
 use Rattle.lt_cover.specs.declared.stops.MergeStop.{MergeStop}
 use Rattle.lt_cover.specs.declared.stops.MergeStop.TheVariants as stop
-use Rattle.lt_cover.specs.Coverage.Table.{Table, IsTable}
+use Rattle.lt_cover.specs.Coverage.Table.{Table, IsOrdered}
 
 -- the ids with their tags
 abbrev pub label_keys : List LabelRow → List (ℕ × List ℕ)
@@ -62,9 +62,9 @@ EachMerged R [] [] [] = Unit {0}
 EachMerged R (x ∷ a) (y ∷ b) (z ∷ m) = R x y z × EachMerged R a b m
 EachMerged R _ _ _ = ⊥
 
--- The merge has the tests of both tables, and their labels and hyperlabels, which are the same ones.
+-- The merge stands in order and has the tests of both tables, and their labels and hyperlabels, which are the same ones.
 pub record IsMerge (a b m : Table) : Type 0 where
-  pub table : IsTable m
+  pub ordered : IsOrdered m
   pub tests : (x : TestRow) → Contains m.tests x ↔ (Contains a.tests x ⊎ Contains b.tests x)
   pub labels : EachMerged IsMergedLabel a.labels b.labels m.labels
   pub hypers : EachMerged IsMergedHyper a.hypers b.hypers m.hypers

@@ -11,8 +11,8 @@ use Rattle.lt_cover.specs.declared.rows.LabelRow.{LabelRow}
 use Rattle.lt_cover.specs.declared.rows.Row.{Row}
 use Rattle.lt_cover.specs.declared.rows.Row.TheVariants.{Test, Label, Hyper}
 use Rattle.lt_cover.specs.declared.rows.Version.{Version}
-use Rattle.lt_cover.specs.Coverage.Names.{IsTestName, IsTag, IsId}
-use Rattle.lt_cover.specs.Coverage.Table.{IsTestRow, IsHyperRow, NamesRise, Table, names_of, label_ids, hyper_ids}
+use Rattle.lt_cover.specs.Coverage.Names.{IsTestName}
+use Rattle.lt_cover.specs.Coverage.Table.{IsTestRow, IsLabelRow, IsHyperRow, NamesRise, Table, names_of, label_ids, hyper_ids}
 use Rattle.lt_cover.specs.Coverage.Text.{MayHold, row_fields, label_word, names_text}
 
 -- The words are those of this value of the form, or of none.
@@ -44,9 +44,9 @@ pub record AreCovering (names : List (List ℕ)) : Type 0 where
 abbrev pub covering_words : List (List ℕ) → List ℕ × List ℕ
 covering_words names = (label_word names, names_text names)
 
+-- a label by itself: its covering names have their form and rise, too
 pub record IsLabelForm (label : LabelRow) : Type 0 where
-  pub id : IsId label.id
-  pub tag : IsTag label.tag
+  pub row : IsLabelRow label
   pub by : AreCovering label.by
 
 abbrev pub IsRow : Row → Type 0

@@ -1,4 +1,4 @@
--- The table of a coverage file.
+-- The rows of coverage, in order, and the table of a coverage file.
 use Rattle.std.specs.Prelude.{ℕ, List, map, All, Contains}
 use Rattle.std.specs.List.Sorted.{IsStrictlySortedBy}
 use Rattle.std.specs.Ordering.{nat_cmp}
@@ -38,11 +38,13 @@ abbrev pub names_of : List TestRow → List (List ℕ)
 names_of tests = map (λ (t : TestRow). t.name) tests
 
 -- A label's covering names rise, and each is the name of a test of the table.
-pub record IsLabelRow (names : List (List ℕ)) (label : LabelRow) : Type 0 where
-  pub id : IsId label.id
-  pub tag : IsTag label.tag
+pub record IsCoveredBy (names : List (List ℕ)) (label : LabelRow) : Type 0 where
   pub rise : NamesRise label.by
   pub known : All (λ name. Contains names name) label.by
+
+pub record IsLabelRow (label : LabelRow) : Type 0 where
+  pub id : IsId label.id
+  pub tag : IsTag label.tag
 
 pub record IsHyperRow (hyper : HyperRow) : Type 0 where
   pub id : IsId hyper.id
@@ -54,11 +56,16 @@ label_ids labels = map (λ (l : LabelRow). l.id) labels
 abbrev pub hyper_ids : List HyperRow → List ℕ
 hyper_ids hypers = map (λ (h : HyperRow). h.id) hypers
 
--- What holds of each table.
-pub record IsTable (t : Table) : Type 0 where
-  pub each_test : All IsTestRow t.tests
-  pub each_label : All (IsLabelRow (names_of t.tests)) t.labels
-  pub each_hyper : All IsHyperRow t.hypers
+-- Rows stand in order, each once, and labels are covered by tests of the table: what a table keeps, whatever its names are.
+pub record IsOrdered (t : Table) : Type 0 where
   pub tests_rise : NamesRise (names_of t.tests)
   pub labels_rise : IsStrictlySortedBy nat_cmp (label_ids t.labels)
   pub hypers_rise : IsStrictlySortedBy nat_cmp (hyper_ids t.hypers)
+  pub covered : All (IsCoveredBy (names_of t.tests)) t.labels
+
+-- The table of a coverage file: its names, tags and ids have their forms, too.
+pub record IsTable (t : Table) : Type 0 where
+  pub ordered : IsOrdered t
+  pub each_test : All IsTestRow t.tests
+  pub each_label : All IsLabelRow t.labels
+  pub each_hyper : All IsHyperRow t.hypers
