@@ -9,7 +9,7 @@ pub fn a_text_stands_for_one_table()
     ensures { (text : List ℕ) (a b : Table) → IsCoverText text a → IsCoverText text b → a ≡ b }
 {}
 
-/// What is written of a table stands for it.
+/// What is written of the table of a coverage file stands for it.
 pub fn what_is_written_is_read()
     ensures { (t : Table) → IsTable t → IsCoverText (cover_text t) t }
 {}
@@ -24,7 +24,7 @@ pub fn merge_is_idempotent()
     ensures { (a : Table) → IsOrdered a → IsMerge a a a }
 {}
 
-/// A merge of two tables of coverage files is one.
+/// A merge of two tables of coverage files is the table of a coverage file.
 pub fn merge_is_a_table()
     ensures { (a b m : Table) → IsTable a → IsTable b → IsMerge a b m → IsTable m }
 {}

@@ -105,7 +105,7 @@ fn put_hypers(alloc: Global, text: &mut Vec<u8>, hypers: &[HyperRow]) -> Result<
     Ok(())
 }
 
-/// The coverage file of a table, in version 2. It fails by want of memory alone.
+/// The text of a table, in version 2: a coverage file, where names, tags and ids have their forms. It fails by want of memory alone.
 pub fn write_cover(alloc: Global, c: &Coverage) -> Result<Vec<u8>, AllocError>
     ensures { IfOk result (λ v. v.items ≡ cover_text c.now) }
 {
