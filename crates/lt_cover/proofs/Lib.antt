@@ -7,6 +7,7 @@ pub mod Texts
 pub mod Bare
 pub mod Written
 pub mod Merges
+pub mod Loops
 pub mod Lines
 pub mod Rests
 pub mod Ids
@@ -21,3 +22,4 @@ pub mod Walks
 pub mod NameWalks
 pub mod TestWalks
 pub mod Merging
+pub mod Headers

@@ -1,5 +1,5 @@
 -- Texts that are written piece by piece.
-use Rattle.std.proofs.Common.{◌≡◌, ℕ, List, [], ◌∷◌, ◌++◌, sym, ap, ◌∙◌, append_assoc, length, take, ◌≤◌}
+use Rattle.std.proofs.Common.{◌≡◌, ℕ, List, [], ◌∷◌, ◌++◌, sym, ap, ◌∙◌, append_assoc, length, take, get_or, ◌+◌, ◌<◌, ◌≤◌}
 use Rattle.std.proofs.lemmas.List.{append-nil, take_all}
 use Rattle.std.specs.Prelude.{map}
 use Rattle.std.specs.List.{flat_map}
@@ -13,10 +13,19 @@ use Rattle.lt_cover.specs.declared.rows.Row.TheVariants.{Test, Label, Hyper}
 use Rattle.lt_cover.specs.declared.rows.Version.TheVariants.{Two}
 use Rattle.lt_cover.specs.Coverage.Table.{Table}
 use Rattle.lt_cover.specs.Coverage.Text.{cover_text, header, line, names_text, row_fields, rows_in}
+use Rattle.lt_cover.proofs.Loops.{more_put}
 
 -- five fields one by one
-pub row_put : (t a b c d e : List ℕ) → ((((((((((t ++ a) ++ 44 ∷ []) ++ b) ++ 44 ∷ []) ++ c) ++ 44 ∷ []) ++ d) ++ 44 ∷ []) ++ e) ++ 10 ∷ []) ≡ t ++ line (a ∷ b ∷ c ∷ d ∷ e ∷ [])
-row_put t a b c d e = simp append_assoc
+fields_put : (t a b c d e : List ℕ) → ((((t ++ (a ++ 44 ∷ [])) ++ (b ++ 44 ∷ [])) ++ (c ++ 44 ∷ [])) ++ (d ++ 44 ∷ [])) ++ (e ++ 10 ∷ []) ≡ t ++ line (a ∷ b ∷ c ∷ d ∷ e ∷ [])
+fields_put t a b c d e = simp append_assoc
+
+pub row_put : (t a b c d e t1 t2 t3 t4 t5 : List ℕ) → t1 ≡ t ++ (a ++ 44 ∷ []) → t2 ≡ t1 ++ (b ++ 44 ∷ []) → t3 ≡ t2 ++ (c ++ 44 ∷ []) → t4 ≡ t3 ++ (d ++ 44 ∷ []) → t5 ≡ t4 ++ (e ++ 10 ∷ []) → t5 ≡ t ++ line (a ∷ b ∷ c ∷ d ∷ e ∷ [])
+row_put t a b c d e t1 t2 t3 t4 t5 e1 e2 e3 e4 e5 = e5 ∙ ((λ i. (e4 ∙ (λ j. (e3 ∙ (λ k. (e2 ∙ (λ l. e1 l ++ (b ++ 44 ∷ []))) k ++ (c ++ 44 ∷ []))) j ++ (d ++ 44 ∷ []))) i ++ (e ++ 10 ∷ [])) ∙ fields_put t a b c d e)
+
+-- one more name behind a space
+pub name_put : (before text text2 text3 name found : List ℕ) (rest : List (List ℕ)) (i : ℕ) → i < length rest → name ≡ get_or rest i name → found ≡ name → text ≡ before ++ flat_map (λ name. 32 ∷ name) (take i rest) → text2 ≡ text ++ 32 ∷ [] → text3 ≡ text2 ++ found → text3 ≡ before ++ flat_map (λ name. 32 ∷ name) (take (i + 1) rest)
+name_put before text text2 text3 name found rest i within is same kept e2 e3 =
+    more_put (λ name. 32 ∷ name) before text text3 rest i name within is kept (e3 ∙ ((λ j. e2 j ++ same j) ∙ append_assoc text (32 ∷ []) name))
 
 -- a name, and then each of the others behind a space
 pub names_put : (first : List ℕ) (rest : List (List ℕ)) → first ++ flat_map (λ name. 32 ∷ name) rest ≡ names_text (first ∷ rest)

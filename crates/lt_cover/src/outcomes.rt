@@ -25,7 +25,8 @@ fn is_same_end(alloc: Global, a: &TestEnd, b: &TestEnd) -> Result<bool, AllocErr
 fn without_input(alloc: Global, stub: &Name) -> Result<End, AllocError>
     ensures { IfOk result (λ end. end ≡ NoInput stub.now) }
 {
-    Ok(End::NoInput(Name::new(alloc, stub.as_slice())?))
+    let name = Name::new(alloc, stub.as_slice())?;
+    Ok(End::NoInput(name))
 }
 
 fn copied_run(alloc: Global, end: &End) -> Result<End, AllocError>

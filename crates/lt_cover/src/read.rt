@@ -1,7 +1,7 @@
 //! Reads coverage files of both versions.
 
 ghost use Rattle.std.specs.Prelude.{◌∷◌, []};
-ghost use Rattle.lt_cover.specs.Coverage.Text.{header};
+ghost use Rattle.lt_cover.specs.Coverage.Text.{header, version_word};
 ghost use Rattle.lt_cover.specs.Coverage.Rows.{Reads, IsAny};
 ghost use Rattle.lt_cover.specs.Coverage.Reading.{IsRead, IsReadFrom};
 
@@ -12,7 +12,21 @@ use crate::stops::CoverStop;
 use lt_model::Sequence;
 use std::alloc::Global;
 
+// The version that a word tells.
+fn version_written(word: &[u8]) -> Option<Version>
+    ensures { Reads IsAny version_word word.now result }
+{
+    if word == b"1".as_slice() {
+        Some(Version::One)
+    } else if word == b"2".as_slice() {
+        Some(Version::Two)
+    } else {
+        None
+    }
+}
+
 // The version that a first row with these fields tells.
+#[tactic(auto, using(crate::proofs::Headers::header_read))]
 fn version_in(format: &[u8], version: &[u8], tag: &[u8], state: &[u8], by: &[u8]) -> Option<Version>
     ensures { Reads IsAny header (format.now ∷ version.now ∷ tag.now ∷ state.now ∷ by.now ∷ []) result }
 {
@@ -21,14 +35,9 @@ fn version_in(format: &[u8], version: &[u8], tag: &[u8], state: &[u8], by: &[u8]
         || state != b"state".as_slice()
         || by != b"by".as_slice()
     {
-        None
-    } else if version == b"1".as_slice() {
-        Some(Version::One)
-    } else if version == b"2".as_slice() {
-        Some(Version::Two)
-    } else {
-        None
+        return None;
     }
+    version_written(version)
 }
 
 // The version that a first row tells.

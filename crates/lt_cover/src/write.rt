@@ -9,8 +9,16 @@ use crate::rows::{Coverage, HyperRow, LabelRow, TestRow};
 use crate::words::{end_word, label_word, names_text, state_word};
 use std::alloc::{AllocError, Global};
 
+// Writes a field and the byte behind it.
+fn put_field(text: &mut Vec<u8>, field: &[u8], behind: u8) -> Result<(), AllocError>
+    ensures { OnOk result (text.new.items ≡ text.old.items ++ (field.now ++ behind ∷ [])) }
+{
+    text.extend_from_slice(field)?;
+    text.push(behind)?;
+    Ok(())
+}
+
 // Writes a row of fields none of which needs quotes.
-#[tactic(auto, using(crate::proofs::Lines::row_put))]
 fn put_row(
     text: &mut Vec<u8>,
     kind: &[u8],
@@ -21,16 +29,11 @@ fn put_row(
 ) -> Result<(), AllocError>
     ensures { OnOk result (text.new.items ≡ text.old.items ++ line (kind.now ∷ name.now ∷ tag.now ∷ state.now ∷ by.now ∷ [])) }
 {
-    text.extend_from_slice(kind)?;
-    text.push(b',')?;
-    text.extend_from_slice(name)?;
-    text.push(b',')?;
-    text.extend_from_slice(tag)?;
-    text.push(b',')?;
-    text.extend_from_slice(state)?;
-    text.push(b',')?;
-    text.extend_from_slice(by)?;
-    text.push(b'\n')?;
+    put_field(text, kind, b',')?;
+    put_field(text, name, b',')?;
+    put_field(text, tag, b',')?;
+    put_field(text, state, b',')?;
+    put_field(text, by, b'\n')?;
     Ok(())
 }
 
