@@ -23,3 +23,4 @@ pub mod NameWalks
 pub mod TestWalks
 pub mod Merging
 pub mod Headers
+pub mod WordLists

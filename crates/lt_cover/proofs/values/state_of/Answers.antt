@@ -1,0 +1,18 @@
+use Rattle.lt_cover.proofs.WordLists.{word_found, word_missed, no_state}
+use Rattle.lt_cover.proofs.values.state_of.Goals as goal
+
+pub returns-then-eq : goal.returns-then-eq
+returns-then-eq c = (tt, word_found _ _ _ _ c.as_slice.ensures c.eq.ensures c.if-eq.true)
+
+pub returns-then-eq-2 : goal.returns-then-eq-2
+returns-then-eq-2 c = (tt, word_found _ _ _ _ c.as_slice-else-eq.ensures c.eq-else-eq.ensures c.if-eq-2.true)
+
+pub returns-then-eq-3 : goal.returns-then-eq-3
+returns-then-eq-3 c = (tt, word_found _ _ _ _ c.as_slice-else-eq-2.ensures c.eq-else-eq-2.ensures c.if-eq-3.true)
+
+pub returns-else-eq-3 : goal.returns-else-eq-3
+returns-else-eq-3 c =
+    no_state c.args.word.now
+    (word_missed _ _ _ _ c.as_slice.ensures c.eq.ensures c.if-eq.false)
+    (word_missed _ _ _ _ c.as_slice-else-eq.ensures c.eq-else-eq.ensures c.if-eq-2.false)
+    (word_missed _ _ _ _ c.as_slice-else-eq-2.ensures c.eq-else-eq-2.ensures c.if-eq-3.false)
