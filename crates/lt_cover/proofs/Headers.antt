@@ -1,5 +1,5 @@
 -- The first row of a file.
-use Rattle.std.proofs.Common.{◌≡◌, ℕ, List, [], ◌∷◌, get_or, ap, ◌∙◌, sym, Option, Some, None}
+use Rattle.std.proofs.Common.{◌≡◌, ℕ, List, [], ◌∷◌, get_or, ap, sym, Option, Some, None}
 use Rattle.std.specs.Prelude.{codes}
 use Rattle.lt_cover.specs.declared.rows.Version.{Version}
 use Rattle.lt_cover.specs.Coverage.Text.{header, version_word}
