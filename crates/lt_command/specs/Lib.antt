@@ -1,0 +1,3 @@
+pub mod Parts
+pub mod Plan
+pub mod Answers

@@ -1,0 +1,102 @@
+-- What the words of a command line ask for.
+use Rattle.std.specs.Prelude.{ℕ, ◌&&◌, Bool, true, false, List, [], ◌∷◌, Option, Some, None, option_map, option_and_then, codes, decimal, nat_le, if◌then◌else◌}
+use Rattle.std.specs.Str.{bytes_eq}
+use Rattle.std.specs.Str.Parse.{digits_value}
+use Rattle.lt_model.specs.declared.scalar.DataModel.{DataModel}
+use Rattle.lt_model.specs.declared.scalar.DataModel.TheVariants.{Ilp32, Lp64, Llp64, Ilp32U, Lp64U, Llp64U}
+use Rattle.lt_command.specs.Parts.{Parts, Setting, parts_of, stand_once, value_of}
+
+-- a replay of a suite on a text, with a specification of the entry and an old coverage where they are named
+pub record ReplayPlan : Type 0 where
+  pub file : List ℕ
+  pub suite : List ℕ
+  pub entry : Option (List ℕ)
+  pub model : DataModel
+  pub steps : ℕ
+  pub cover : Option (List ℕ)
+
+pub data Plan : Type 0 where
+  -- `replay FILE SUITE`
+  replay : ReplayPlan → Plan
+  -- `convert FILE`
+  convert : (file : List ℕ) → Plan
+
+-- ---- the values of options
+
+-- N: the decimal text of a number from 1 to 10,000,000
+abbrev pub steps_of : List ℕ → Option ℕ
+steps_of word =
+    let n = digits_value 10 word in
+    if bytes_eq word (decimal n) && nat_le 1 n && nat_le n 10000000 then Some n else None
+
+-- M, as the model in which plain `char` is signed
+abbrev pub model_of : List ℕ → Option DataModel
+model_of word =
+    if bytes_eq word (codes "ilp32") then Some Ilp32
+    else if bytes_eq word (codes "lp64") then Some Lp64
+    else if bytes_eq word (codes "llp64") then Some Llp64
+    else None
+
+-- C: whether plain `char` is signed
+abbrev pub char_of : List ℕ → Option Bool
+char_of word =
+    if bytes_eq word (codes "signed") then Some true
+    else if bytes_eq word (codes "unsigned") then Some false
+    else None
+
+-- the model of the same sizes in which plain `char` is unsigned
+abbrev pub unsigned_model : DataModel → DataModel
+unsigned_model Ilp32 = Ilp32U
+unsigned_model Lp64 = Lp64U
+unsigned_model Llp64 = Llp64U
+unsigned_model model = model
+
+-- what an option's value says, where there is one, and else the default; none where the value is refused
+abbrev pub said_or : {X : Type 0} → X → (List ℕ → Option X) → Option (List ℕ) → Option X
+said_or default read None = Some default
+said_or default read (Some word) = read word
+
+abbrev pub data_model_of : List Setting → Option DataModel
+data_model_of options =
+    option_and_then (λ model. option_map (λ is_signed. if is_signed then model else unsigned_model model)
+    (said_or true char_of (value_of (codes "--char") options)))
+    (said_or Lp64 model_of (value_of (codes "--model") options))
+
+-- ---- the commands
+
+abbrev pub replay_options : List (List ℕ)
+replay_options = codes "--entry" ∷ codes "--model" ∷ codes "--char" ∷ codes "--steps" ∷ codes "--cover" ∷ []
+
+abbrev pub replay_with : List ℕ → List ℕ → List Setting → DataModel → ℕ → Plan
+replay_with file suite options model steps = replay (record {
+  file = file;
+  suite = suite;
+  entry = value_of (codes "--entry") options;
+  model = model;
+  steps = steps;
+  cover = value_of (codes "--cover") options;
+})
+
+abbrev pub replay_of : List (List ℕ) → List Setting → Option Plan
+replay_of (file ∷ suite ∷ []) options =
+    if stand_once replay_options options
+    then option_and_then (λ model. option_map (replay_with file suite options model)
+    (said_or 100000 steps_of (value_of (codes "--steps") options)))
+    (data_model_of options)
+    else None
+replay_of _ options = None
+
+abbrev pub convert_of : List (List ℕ) → List Setting → Option Plan
+convert_of (file ∷ []) [] = Some (convert file)
+convert_of _ _ = None
+
+abbrev pub plan_of_parts : List ℕ → Parts → Option Plan
+plan_of_parts command parts =
+    if bytes_eq command (codes "replay") then replay_of parts.positionals parts.options
+    else if bytes_eq command (codes "convert") then convert_of parts.positionals parts.options
+    else None
+
+-- what the words ask for, where they are of a command form: the first word is the command
+unfoldable pub plan_of : List (List ℕ) → Option Plan
+plan_of [] = None
+plan_of (command ∷ words) = option_and_then (plan_of_parts command) (parts_of words)

@@ -1,0 +1,10 @@
+// Reads the words of a command line; `specs/Plan.antt` says what they ask for.
+#![tactic(auto)]
+
+mod commands;
+mod stops;
+mod words;
+
+pub use commands::{Command, Replay};
+pub use stops::PlanStop;
+pub use words::plan;
