@@ -1,5 +1,5 @@
 -- The words behind a command: positionals, and options with their values.
-use Rattle.std.specs.Prelude.{ℕ, ◌==◌, ◌&&◌, Bool, true, false, not, List, [], ◌∷◌, Option, Some, None, is_some, option_map, if◌then◌else◌}
+use Rattle.std.specs.Prelude.{ℕ, ◌==◌, ◌&&◌, Bool, true, false, not, List, [], ◌∷◌, Option, Some, None, option_map, find, if◌then◌else◌}
 use Rattle.std.specs.List.{list_any, before_first, after_first}
 use Rattle.std.specs.Str.{bytes_eq}
 
@@ -49,13 +49,18 @@ abbrev mutual
   parts_behind name [] = None
   parts_behind name (value ∷ rest) = with_option name value (parts_of rest)
 
--- the value of the option of this name
-abbrev pub value_of : List ℕ → List Setting → Option (List ℕ)
-value_of name [] = None
-value_of name (option ∷ options) = if bytes_eq option.name name then Some option.value else value_of name options
+abbrev pub has_name : List ℕ → Setting → Bool
+has_name name option = bytes_eq option.name name
 
--- each option is one of these names, and none stands twice
+-- the value of the first option of this name
+abbrev pub value_of : List ℕ → List Setting → Option (List ℕ)
+value_of name options = option_map (λ option. option.value) (find (has_name name) options)
+
+abbrev pub is_among : List ℕ → List (List ℕ) → Bool
+is_among word names = list_any (bytes_eq word) names
+
+-- each option has one of these names, and none stands twice
 abbrev pub stand_once : List (List ℕ) → List Setting → Bool
 stand_once names [] = true
 stand_once names (option ∷ options) =
-    list_any (bytes_eq option.name) names && not (is_some (value_of option.name options)) && stand_once names options
+    is_among option.name names && not (list_any (has_name option.name) options) && stand_once names options

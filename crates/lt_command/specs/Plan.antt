@@ -62,6 +62,9 @@ data_model_of options =
     (said_or true char_of (value_of (codes "--char") options)))
     (said_or Lp64 model_of (value_of (codes "--model") options))
 
+abbrev pub steps_among : List Setting → Option ℕ
+steps_among options = said_or 100000 steps_of (value_of (codes "--steps") options)
+
 -- ---- the commands
 
 abbrev pub replay_options : List (List ℕ)
@@ -80,9 +83,7 @@ replay_with file suite options model steps = replay (record {
 abbrev pub replay_of : List (List ℕ) → List Setting → Option Plan
 replay_of (file ∷ suite ∷ []) options =
     if stand_once replay_options options
-    then option_and_then (λ model. option_map (replay_with file suite options model)
-    (said_or 100000 steps_of (value_of (codes "--steps") options)))
-    (data_model_of options)
+    then option_and_then (λ model. option_map (replay_with file suite options model) (steps_among options)) (data_model_of options)
     else None
 replay_of _ options = None
 

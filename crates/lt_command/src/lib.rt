@@ -2,7 +2,10 @@
 #![tactic(auto)]
 
 mod commands;
+mod options;
+mod parts;
 mod stops;
+mod values;
 mod words;
 
 pub use commands::{Command, Replay};

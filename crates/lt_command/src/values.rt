@@ -1,0 +1,76 @@
+//! What the values of options say.
+
+ghost use Rattle.std.specs.Prelude.{◌≡◌, option_map};
+ghost use Rattle.lt_command.specs.Views.{starts_well};
+ghost use Rattle.lt_command.specs.Plan.{char_of, model_of, steps_of, unsigned_model};
+
+use lt_model::DataModel;
+
+const MOST_STEPS: u64 = 10_000_000;
+
+// Whether the first byte is a digit other than 0.
+fn starts_well(word: &str) -> bool
+    ensures { result ≡ starts_well word.now }
+{
+    match word.as_bytes().split_first() {
+        Some((first, _)) => b'1' <= *first && *first <= b'9',
+        None => false,
+    }
+}
+
+/// The number that the word writes, from 1 to 10,000,000.
+pub fn steps_of(word: &str) -> Option<u64>
+    ensures { result ≡ steps_of word.now }
+{
+    if !starts_well(word) {
+        return None;
+    }
+    match word.parse::<u64>() {
+        Ok(steps) => if steps <= MOST_STEPS {
+            Some(steps)
+        } else {
+            None
+        },
+        Err(_) => None,
+    }
+}
+
+/// The model of this name, in which plain `char` is signed.
+pub fn model_of(word: &str) -> Option<DataModel>
+    ensures { result ≡ model_of word.now }
+{
+    if word == "ilp32" {
+        Some(DataModel::Ilp32)
+    } else if word == "lp64" {
+        Some(DataModel::Lp64)
+    } else if word == "llp64" {
+        Some(DataModel::Llp64)
+    } else {
+        None
+    }
+}
+
+/// Whether plain `char` is signed.
+pub fn char_of(word: &str) -> Option<bool>
+    ensures { result ≡ char_of word.now }
+{
+    if word == "signed" {
+        Some(true)
+    } else if word == "unsigned" {
+        Some(false)
+    } else {
+        None
+    }
+}
+
+/// The model of the same sizes in which plain `char` is unsigned.
+pub fn unsigned_model(model: DataModel) -> DataModel
+    ensures { result ≡ unsigned_model model }
+{
+    match model {
+        DataModel::Ilp32 => DataModel::Ilp32U,
+        DataModel::Lp64 => DataModel::Lp64U,
+        DataModel::Llp64 => DataModel::Llp64U,
+        _ => model,
+    }
+}
