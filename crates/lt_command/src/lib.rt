@@ -11,3 +11,6 @@ mod words;
 pub use commands::{Command, Replay};
 pub use stops::PlanStop;
 pub use words::plan;
+
+#[cfg(test)]
+mod tests;
