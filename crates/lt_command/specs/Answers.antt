@@ -1,7 +1,8 @@
 -- What a reading of words answers.
 use Rattle.std.specs.Prelude.{◌≡◌, ℕ, List, map, string_bytes, Option, Some, None, option_map, Result, Ok, Err, String}
 use Rattle.std.specs.Global.{Global}
-use Rattle.lt_command.specs.Plan.{Plan, ReplayPlan, replay, convert}
+use Rattle.lt_command.specs.Plan.{Plan, ReplayPlan, Said, replay, convert}
+use Rattle.lt_command.specs.declared.replay.Said.{Said as SaidRead}
 use Rattle.lt_command.specs.declared.commands.Command.{Command}
 use Rattle.lt_command.specs.declared.commands.Command.TheVariants as command
 use Rattle.lt_command.specs.declared.commands.Replay.{Replay}
@@ -24,6 +25,15 @@ replay_in r = record {
 abbrev pub plan_in : Command → Plan
 plan_in (command.Replay r) = replay (replay_in r)
 plan_in (command.Convert file) = convert file.now
+
+abbrev pub said_in : SaidRead → Said
+said_in said = record {
+  entry = option_map (λ word. word.now) said.entry;
+  model = option_map (λ word. word.now) said.model;
+  char = option_map (λ word. word.now) said.char;
+  steps = option_map (λ word. word.now) said.steps;
+  cover = option_map (λ word. word.now) said.cover;
+}
 
 -- The plan is given, or Usage comes where there is none; or memory lacks.
 abbrev pub Answers : Option Plan → Result Command PlanStop → Type 0

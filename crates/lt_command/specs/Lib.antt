@@ -2,3 +2,4 @@ pub mod Parts
 pub mod Plan
 pub mod Views
 pub mod Answers
+pub mod Reading

@@ -51,40 +51,49 @@ unsigned_model Lp64 = Lp64U
 unsigned_model Llp64 = Llp64U
 unsigned_model model = model
 
--- what an option's value says, where there is one, and else the default; none where the value is refused
+-- what a word says, where there is one, and else the default; none where the word is refused
 abbrev pub said_or : {X : Type 0} → X → (List ℕ → Option X) → Option (List ℕ) → Option X
 said_or default read None = Some default
 said_or default read (Some word) = read word
 
-abbrev pub data_model_of : List Setting → Option DataModel
-data_model_of options =
-    option_and_then (λ model. option_map (λ is_signed. if is_signed then model else unsigned_model model)
-    (said_or true char_of (value_of (codes "--char") options)))
-    (said_or Lp64 model_of (value_of (codes "--model") options))
-
-abbrev pub steps_among : List Setting → Option ℕ
-steps_among options = said_or 100000 steps_of (value_of (codes "--steps") options)
+-- the data model that M and C say
+abbrev pub data_model_of : Option (List ℕ) → Option (List ℕ) → Option DataModel
+data_model_of model char =
+    option_and_then (λ m. option_map (λ is_signed. if is_signed then m else unsigned_model m) (said_or true char_of char)) (said_or Lp64 model_of model)
 
 -- ---- the commands
+
+-- the words of the options of `replay`
+pub record Said : Type 0 where
+  pub entry : Option (List ℕ)
+  pub model : Option (List ℕ)
+  pub char : Option (List ℕ)
+  pub steps : Option (List ℕ)
+  pub cover : Option (List ℕ)
 
 abbrev pub replay_options : List (List ℕ)
 replay_options = codes "--entry" ∷ codes "--model" ∷ codes "--char" ∷ codes "--steps" ∷ codes "--cover" ∷ []
 
-abbrev pub replay_with : List ℕ → List ℕ → List Setting → DataModel → ℕ → Plan
-replay_with file suite options model steps = replay (record {
-  file = file;
-  suite = suite;
+abbrev pub said_by : List Setting → Said
+said_by options = record {
   entry = value_of (codes "--entry") options;
-  model = model;
-  steps = steps;
+  model = value_of (codes "--model") options;
+  char = value_of (codes "--char") options;
+  steps = value_of (codes "--steps") options;
   cover = value_of (codes "--cover") options;
-})
+}
+
+abbrev pub replay_as : List ℕ → List ℕ → Said → DataModel → ℕ → Plan
+replay_as file suite said model steps =
+    replay (record { file = file; suite = suite; entry = said.entry; model = model; steps = steps; cover = said.cover })
+
+-- where each option says something that it may say
+abbrev pub replay_with : List ℕ → List ℕ → Said → Option Plan
+replay_with file suite said =
+    option_and_then (λ model. option_map (replay_as file suite said model) (said_or 100000 steps_of said.steps)) (data_model_of said.model said.char)
 
 abbrev pub replay_of : List (List ℕ) → List Setting → Option Plan
-replay_of (file ∷ suite ∷ []) options =
-    if stand_once replay_options options
-    then option_and_then (λ model. option_map (replay_with file suite options model) (steps_among options)) (data_model_of options)
-    else None
+replay_of (file ∷ suite ∷ []) options = if stand_once replay_options options then replay_with file suite (said_by options) else None
 replay_of _ options = None
 
 abbrev pub convert_of : List (List ℕ) → List Setting → Option Plan

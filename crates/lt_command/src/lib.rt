@@ -4,6 +4,7 @@
 mod commands;
 mod options;
 mod parts;
+mod replay;
 mod stops;
 mod values;
 mod words;
