@@ -1,0 +1,4 @@
+mod Same
+mod Missing
+mod Once
+mod Due

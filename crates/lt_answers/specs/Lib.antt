@@ -1,0 +1,6 @@
+pub mod Programs
+pub mod Entries
+pub mod Replays
+pub mod Answers
+pub mod Laws
+pub mod Messages

@@ -1,0 +1,3 @@
+mod TableFronts
+mod OneText
+mod OneMerge

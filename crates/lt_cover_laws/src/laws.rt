@@ -1,0 +1,13 @@
+//! Laws of the definitions; the functions do nothing.
+
+ghost use Rattle.lt_cover_laws.specs.Laws.{TextsStandForOneTable, MergesAreOne};
+
+/// A text stands for at most one table, and where it stands for one no row of it breaks the grammar.
+pub fn texts_stand_for_one_table()
+    ensures { TextsStandForOneTable }
+{}
+
+/// Two tables have at most one least label, hyperlabel or test on which they don't agree, and none where they have a merge.
+pub fn merges_are_one()
+    ensures { MergesAreOne }
+{}
