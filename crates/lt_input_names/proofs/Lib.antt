@@ -1,0 +1,5 @@
+mod Lists
+mod Tables
+mod RowTypes
+mod FactRows
+mod Names
