@@ -1,0 +1,4 @@
+mod Lists
+mod EntryLaws
+mod DefaultLaws
+mod BoundLaws
