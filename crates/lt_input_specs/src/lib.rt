@@ -1,4 +1,4 @@
-//! Entry specifications of typed programs: what a text says, and the default. Both are defined in `lt_entry`.
+//! Entry specifications of typed programs: the default, and what holds of each that a text says. Both are defined in `lt_entry`.
 #![tactic(auto)]
 
 mod cells;
@@ -6,10 +6,8 @@ mod default;
 mod entry;
 mod laws;
 mod parameters;
-mod read;
 mod stops;
 
 pub use default::default_spec;
 pub use laws::{defaults_are_bounded, specifications_are_bounded};
-pub use read::read_spec;
-pub use stops::{NoSpec, SpecStop};
+pub use stops::NoSpec;

@@ -1,19 +1,10 @@
-//! Why there is no specification.
+//! Why there is no default specification.
 
 ghost use Rattle.std.specs.Prelude.{◌≡◌};
 ghost use Rattle.lt_input_specs.specs.declared.stops.NoSpec.TheVariants.{NoMemory};
 
 use std::alloc::AllocError;
 use thiserror::Error;
-
-/// Why a text is no specification.
-#[derive(Debug, Drop, Error)]
-pub enum SpecStop {
-    #[error("line {0}")]
-    Line(u32),
-    #[error("out of memory")]
-    NoMemory,
-}
 
 /// Why a program has no default specification.
 #[derive(Debug, Drop, Error)]
