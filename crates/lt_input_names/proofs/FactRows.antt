@@ -22,29 +22,29 @@ use Rattle.lt_input_names.proofs.RowTypes.{row_type}
 
 module _ (structs : Structs) (types : List CType) where
   pub void_facts : AreFacts structs types Void no_facts
-  void_facts = record { scalar = refl; target = refl; number_or_pointer = refl; complete = refl; floating = refl; elements = refl }
+  void_facts = record { scalar = refl; target = refl; number_or_pointer = refl; array = refl; number = refl; complete = refl; floating = refl; elements = refl }
 
   pub num_facts : (s : Scalar) → AreFacts structs types (Num s) (kind_facts (kind.Integer s) true)
-  num_facts s = record { scalar = refl; target = refl; number_or_pointer = refl; complete = refl; floating = refl; elements = refl }
+  num_facts s = record { scalar = refl; target = refl; number_or_pointer = refl; array = refl; number = refl; complete = refl; floating = refl; elements = refl }
 
   pub pointer_facts : (t : TypeId) → AreFacts structs types (Pointer (type_in types t)) (kind_facts (kind.Pointer t) true)
-  pointer_facts t = record { scalar = refl; target = refl; number_or_pointer = refl; complete = refl; floating = refl; elements = refl }
+  pointer_facts t = record { scalar = refl; target = refl; number_or_pointer = refl; array = refl; number = refl; complete = refl; floating = refl; elements = refl }
 
-  pub struct_facts : (k : ℕ) (complete : Bool) → complete ≡ is_complete structs (Struct k) → AreFacts structs types (Struct k) (kind_facts kind.Other complete)
-  struct_facts k complete is = record { scalar = refl; target = refl; number_or_pointer = refl; complete = is; floating = refl; elements = refl }
+  pub struct_facts : (k : ℕ) (complete : Bool) → complete ≡ is_complete structs (Struct k) → AreFacts structs types (Struct k) (record (kind_facts kind.Other complete) { number = Some k })
+  struct_facts k complete is = record { scalar = refl; target = refl; number_or_pointer = refl; array = refl; number = refl; complete = is; floating = refl; elements = refl }
 
   pub function_facts : (t : CType) (ts : CTypes) (dots : Bool) → AreFacts structs types (Function t ts dots) no_facts
-  function_facts t ts dots = record { scalar = refl; target = refl; number_or_pointer = refl; complete = refl; floating = refl; elements = refl }
+  function_facts t ts dots = record { scalar = refl; target = refl; number_or_pointer = refl; array = refl; number = refl; complete = refl; floating = refl; elements = refl }
 
-  pub floating_facts : AreFacts structs types Floating (record { kind = kind.Other; is_complete = true; is_floating = true; are_elements_floating = true })
-  floating_facts = record { scalar = refl; target = refl; number_or_pointer = refl; complete = refl; floating = refl; elements = refl }
+  pub floating_facts : AreFacts structs types Floating (record { kind = kind.Other; array = None; number = None; is_complete = true; is_floating = true; are_elements_floating = true })
+  floating_facts = record { scalar = refl; target = refl; number_or_pointer = refl; array = refl; number = refl; complete = refl; floating = refl; elements = refl }
 
-  pub array_facts : (t : CType) (n : ℕ) (it : Facts) → AreFacts structs types t it
-      → AreFacts structs types (Array t n) (record { kind = kind.Other; is_complete = nat_lt 0 n && it.is_complete; is_floating = false; are_elements_floating = it.are_elements_floating })
-  array_facts t n it are = record { scalar = refl; target = refl; number_or_pointer = refl; complete = ap (λ b. nat_lt 0 n && b) are.complete; floating = refl; elements = are.elements }
+  pub array_facts : (t : TypeId) (n : ℕ) (it : Facts) → AreFacts structs types (type_in types t) it
+      → AreFacts structs types (Array (type_in types t) n) (record { kind = kind.Other; array = Some (record { ty = t; count = n }); number = None; is_complete = nat_lt 0 n && it.is_complete; is_floating = false; are_elements_floating = it.are_elements_floating })
+  array_facts t n it are = record { scalar = refl; target = refl; number_or_pointer = refl; array = refl; number = refl; complete = ap (λ b. nat_lt 0 n && b) are.complete; floating = refl; elements = are.elements }
 
-  pub qualified_facts : (q : Qualifiers) (t : CType) (it : Facts) → AreFacts structs types t it → AreFacts structs types (Qualified q t) (record it { are_elements_floating = it.is_floating })
-  qualified_facts q t it are = record { scalar = are.scalar; target = are.target; number_or_pointer = are.number_or_pointer; complete = are.complete; floating = are.floating; elements = are.floating }
+  pub qualified_facts : (q : Qualifiers) (t : CType) (it : Facts) → AreFacts structs types t it → AreFacts structs types (Qualified q t) (record it { array = None; are_elements_floating = it.is_floating })
+  qualified_facts q t it are = record { scalar = are.scalar; target = are.target; number_or_pointer = are.number_or_pointer; array = refl; number = are.number; complete = are.complete; floating = are.floating; elements = are.floating }
 
 -- ---- a table
 

@@ -2,4 +2,7 @@ mod Lists
 mod Tables
 mod RowTypes
 mod FactRows
-mod Names
+mod NameSets
+mod FoundLaws
+mod PartLaws
+mod RootLaws

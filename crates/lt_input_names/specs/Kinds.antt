@@ -1,8 +1,8 @@
 -- What is known of the types of a table.
-use Rattle.std.specs.Prelude.{◌≡◌, Bool, true, false, List, Option, Some, None, option_map, slice_index_or}
+use Rattle.std.specs.Prelude.{◌≡◌, ℕ, Bool, true, false, List, Option, Some, None, option_map, slice_index_or}
 use Rattle.lt_model.specs.declared.scalar.Scalar.{Scalar}
 use Rattle.lt_tree.specs.declared.typed.types.TypeId.{TypeId}
-use Rattle.lt_tree.specs.Typing.Types.{CType, scalar_of, target_of, is_scalar, is_floating, element}
+use Rattle.lt_tree.specs.Typing.Types.{CType, Array, scalar_of, target_of, struct_of, is_scalar, is_floating, element}
 use Rattle.lt_tree.specs.Typing.TypeRows.{type_in}
 use Rattle.lt_tree.specs.declared.typed.program.Program.{Program}
 use Rattle.lt_tree.specs.Typing.EntityView.{structs_of}
@@ -10,11 +10,12 @@ use Rattle.lt_tree.specs.Typing.Extents.{Structs, is_complete}
 use Rattle.lt_input_names.specs.Blocks.{program_types}
 use Rattle.lt_input_names.specs.declared.facts.Kind.{Kind}
 use Rattle.lt_input_names.specs.declared.facts.Kind.TheVariants as kind
+use Rattle.lt_input_names.specs.declared.facts.Elements.{Elements}
 use Rattle.lt_input_names.specs.declared.facts.Facts.{Facts}
 use Rattle.lt_input_names.specs.declared.kinds.Kinds.{Kinds}
 
 abbrev pub kind_facts : Kind → (is_complete : Bool) → Facts
-kind_facts kind complete = record { kind = kind; is_complete = complete; is_floating = false; are_elements_floating = false }
+kind_facts kind complete = record { kind = kind; array = None; number = None; is_complete = complete; is_floating = false; are_elements_floating = false }
 
 -- of void
 abbrev pub no_facts : Facts
@@ -32,10 +33,20 @@ abbrev pub kind_is_scalar : Kind → Bool
 kind_is_scalar kind.Other = false
 kind_is_scalar _ = true
 
+-- the type of the elements of an array, and how many there are
+abbrev pub array_of : CType → Option (CType × ℕ)
+array_of (Array t n) = Some (t, n)
+array_of _ = None
+
+abbrev pub elements_in : List CType → Elements → CType × ℕ
+elements_in types it = (type_in types it.ty, it.count)
+
 pub record AreFacts (structs : Structs) (types : List CType) (t : CType) (facts : Facts) : Type 0 where
   pub scalar : kind_scalar facts.kind ≡ scalar_of t
   pub target : option_map (type_in types) (kind_target facts.kind) ≡ target_of t
   pub number_or_pointer : kind_is_scalar facts.kind ≡ is_scalar t
+  pub array : option_map (elements_in types) facts.array ≡ array_of t
+  pub number : facts.number ≡ struct_of t
   pub complete : facts.is_complete ≡ is_complete structs t
   pub floating : facts.is_floating ≡ is_floating t
   pub elements : facts.are_elements_floating ≡ is_floating (element t)

@@ -1,3 +1,6 @@
 pub mod Blocks
 pub mod Kinds
 pub mod Stubs
+pub mod Found
+pub mod Roots
+pub mod Views

@@ -1,6 +1,6 @@
 //! What is known of a type.
 
-ghost use Rattle.std.specs.Prelude.{◌≡◌, ◌&&◌, nat_lt, false, List, is_some, slice_index_or};
+ghost use Rattle.std.specs.Prelude.{◌≡◌, ◌&&◌, nat_lt, false, None, Some, List, is_some, slice_index_or};
 ghost use Rattle.std.specs.List.{AllByRecursion};
 ghost use Rattle.lt_model.specs.Layout.{members_of};
 ghost use Rattle.lt_tree.specs.Typing.Types.{CType};
@@ -20,10 +20,21 @@ pub enum Kind {
     Other,
 }
 
+/// The type of the elements of an array, and how many there are.
+#[derive(Clone, Copy)]
+pub struct Elements {
+    pub ty: TypeId,
+    pub count: u32,
+}
+
 /// What is known of a type.
 #[derive(Clone, Copy)]
 pub(crate) struct Facts {
     pub kind: Kind,
+    /// Of an array.
+    pub array: Option<Elements>,
+    /// Of a struct, qualifiers aside.
+    pub number: Option<u32>,
     pub is_complete: bool,
     pub is_floating: bool,
     /// Of the elements of an array, and of theirs; of no array the type itself.
@@ -36,6 +47,8 @@ fn kind_facts(kind: Kind, is_complete: bool) -> Facts
 {
     Facts {
         kind,
+        array: None,
+        number: None,
         is_complete,
         is_floating: false,
         are_elements_floating: false,
@@ -59,8 +72,11 @@ pub fn facts_of_row(known: &[Facts], structs: &[StructType], row: &TypeRow) -> F
     match row {
         TypeRow::Num(scalar) => kind_facts(Kind::Integer(*scalar), true),
         TypeRow::Pointer(t) => kind_facts(Kind::Pointer(*t), true),
-        TypeRow::Array(t, count) => array_facts(facts_at(known, *t), *count),
-        TypeRow::Struct(number) => kind_facts(Kind::Other, is_complete(structs, *number)),
+        TypeRow::Array(t, count) => array_facts(*t, facts_at(known, *t), *count),
+        TypeRow::Struct(number) => Facts {
+            number: Some(*number),
+            ..kind_facts(Kind::Other, is_complete(structs, *number))
+        },
         TypeRow::Floating => Facts {
             is_floating: true,
             are_elements_floating: true,
@@ -72,10 +88,11 @@ pub fn facts_of_row(known: &[Facts], structs: &[StructType], row: &TypeRow) -> F
 }
 
 // Of an array of so many of these elements.
-fn array_facts(element: Facts, count: u32) -> Facts
-    ensures { result ≡ record { kind = Kind.Other; is_complete = nat_lt 0 count && element.is_complete; is_floating = false; are_elements_floating = element.are_elements_floating } }
+fn array_facts(ty: TypeId, element: Facts, count: u32) -> Facts
+    ensures { result ≡ record { kind = Kind.Other; array = Some (record { ty = ty; count = count }); number = None; is_complete = nat_lt 0 count && element.is_complete; is_floating = false; are_elements_floating = element.are_elements_floating } }
 {
     Facts {
+        array: Some(Elements { ty, count }),
         are_elements_floating: element.are_elements_floating,
         ..kind_facts(Kind::Other, count > 0 && element.is_complete)
     }
@@ -83,9 +100,10 @@ fn array_facts(element: Facts, count: u32) -> Facts
 
 // Of a type with qualifiers.
 fn qualified_facts(it: Facts) -> Facts
-    ensures { result ≡ record it { are_elements_floating = it.is_floating } }
+    ensures { result ≡ record it { array = None; are_elements_floating = it.is_floating } }
 {
     Facts {
+        array: None,
         are_elements_floating: it.is_floating,
         ..it
     }

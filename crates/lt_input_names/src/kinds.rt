@@ -1,14 +1,14 @@
 //! What the types of a program's table are, in one walk over its rows.
 
 ghost use Rattle.std.specs.Prelude.{◌≡◌, IfOk, option_map};
-ghost use Rattle.lt_tree.specs.Typing.Types.{scalar_of, target_of, is_scalar};
+ghost use Rattle.lt_tree.specs.Typing.Types.{scalar_of, target_of, struct_of, is_scalar};
 ghost use Rattle.lt_tree.specs.Typing.TypeRows.{type_in};
 ghost use Rattle.lt_tree.specs.Typing.EntityView.{structs_of};
 ghost use Rattle.lt_tree.specs.Typing.Extents.{has_size};
 ghost use Rattle.lt_input_names.specs.Blocks.{program_types};
-ghost use Rattle.lt_input_names.specs.Kinds.{AreFacts, AreKinds};
+ghost use Rattle.lt_input_names.specs.Kinds.{AreFacts, AreKinds, array_of, elements_in};
 
-use crate::facts::{Facts, Kind, facts_at, facts_of_row};
+use crate::facts::{Elements, Facts, Kind, facts_at, facts_of_row};
 use lt_model::Scalar;
 use lt_tree::typed::{Program, TypeId};
 use std::alloc::{AllocError, Global};
@@ -62,6 +62,22 @@ impl<'p> Kinds<'p> {
             Kind::Pointer(target) => Some(target),
             Kind::Integer(_) | Kind::Other => None,
         }
+    }
+
+    /// What the elements of an array are.
+    pub fn array(&self, t: TypeId) -> Option<Elements>
+        requires { AreKinds self.now }
+        ensures { option_map (elements_in (program_types self.now.program.now)) result ≡ array_of (type_in (program_types self.now.program.now) t) }
+    {
+        self.facts(t).array
+    }
+
+    /// The number of the struct that a type is.
+    pub fn struct_number(&self, t: TypeId) -> Option<u32>
+        requires { AreKinds self.now }
+        ensures { result ≡ struct_of (type_in (program_types self.now.program.now) t) }
+    {
+        self.facts(t).number
     }
 
     /// Whether a type is an integer or a pointer.

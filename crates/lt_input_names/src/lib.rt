@@ -3,9 +3,16 @@
 
 mod block;
 mod facts;
+mod first;
 mod kinds;
+mod names;
+mod part;
+mod roots;
 mod stubs;
 
 pub use block::{Base, Block, ElementType, Specification};
+pub use facts::Elements;
 pub use kinds::Kinds;
+pub use names::Names;
+pub use part::{Part, PartType};
 pub use stubs::{Stub, stubs_of};

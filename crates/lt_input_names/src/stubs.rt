@@ -1,21 +1,25 @@
 //! The functions without a body that give an integer.
 
-ghost use Rattle.std.specs.Prelude.{◌≡◌, ◌++◌, IfOk, OnOk, map, filter_map, option_map, option_to_list, slice_get};
+ghost use Rattle.std.specs.Prelude.{◌≡◌, ◌++◌, ℕ, List, Some, None, if◌then◌else◌, IfOk, OnOk, map, filter_map, option_map, option_to_list, slice_get};
+ghost use Rattle.std.specs.Str.{bytes_eq};
+ghost use Rattle.lt_tree.specs.Typing.Entities.{or_else};
 ghost use Rattle.lt_tree.specs.Typing.TypeRows.{type_in, type_of_row};
 ghost use Rattle.lt_tree.specs.Typing.EntityView.{declared_of};
 ghost use Rattle.lt_tree.specs.Typing.ProgramView.{program_of};
 ghost use Rattle.lt_meaning.specs.Runs.{stops};
-ghost use Rattle.lt_entry.specs.Conditions.{integer_result, stub_of};
+ghost use Rattle.lt_entry.specs.Conditions.{integer_result, stub_of, stub_among};
 ghost use Rattle.lt_entry.specs.Conditions as conditions;
 ghost use Rattle.lt_input_names.specs.Blocks.{program_types};
+ghost use Rattle.lt_input_names.specs.Found.{found_in};
 ghost use Rattle.lt_input_names.specs.Kinds.{AreKinds};
 ghost use Rattle.lt_input_names.specs.Stubs.{HasNames, has_name, stub_view};
 
+use crate::first::put_first;
 use crate::kinds::Kinds;
 use lt_model::{Name, Scalar};
 use lt_tree::typed::{Declared, Function, TypeId, TypeRow};
 use std::alloc::{AllocError, Global};
-use std::collections::HashSet;
+use std::collections::{HashMap, HashSet};
 
 /// A function without a body that gives an integer.
 #[derive(Clone, Copy)]
@@ -32,6 +36,39 @@ pub fn stubs_of<'p>(alloc: Global, kinds: &Kinds<'p>) -> Result<Vec<Stub<'p>>, A
     let program = kinds.program;
     let bodies = names_of(alloc, &program.functions)?;
     stubs_among(alloc, kinds, &bodies, &program.declared)
+}
+
+/// What each function without a body gives, if it is an integer.
+pub fn types_of_stubs<'p>(
+    alloc: Global,
+    kinds: &Kinds<'p>,
+) -> Result<HashMap<&'p [u8], Scalar>, AllocError>
+    requires { AreKinds kinds.now }
+    ensures { IfOk result (λ types. (name : List ℕ) → found_in types name ≡ stub_among name (conditions.stubs_of (program_of kinds.now.program.now))) }
+{
+    let stubs = stubs_of(alloc, kinds)?;
+    first_types(alloc, stubs.as_slice())
+}
+
+// What the first function of each name gives.
+fn first_types<'p>(
+    alloc: Global,
+    stubs: &[Stub<'p>],
+) -> Result<HashMap<&'p [u8], Scalar>, AllocError>
+    ensures { IfOk result (λ types. (name : List ℕ) → found_in types name ≡ stub_among name (map stub_view stubs.now)) }
+{
+    let mut types = HashMap::new(alloc);
+    for stub in stubs {
+        put_stub(&mut types, stub)?;
+    }
+    Ok(types)
+}
+
+// What a function gives, unless another of its name stands before it.
+fn put_stub<'p>(types: &mut HashMap<&'p [u8], Scalar>, stub: &Stub<'p>) -> Result<(), AllocError>
+    ensures { OnOk result ((w : List ℕ) → found_in types.new w ≡ or_else (found_in types.old w) (if bytes_eq stub.now.name.now w then Some stub.now.ty else None)) }
+{
+    put_first(types, stub.name, stub.ty)
 }
 
 // Those among these.

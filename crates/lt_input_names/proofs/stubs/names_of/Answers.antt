@@ -2,7 +2,7 @@ use Rattle.std.proofs.Common.{◌∙◌, sym, ap}
 use Rattle.std.specs.Prelude.{◌||◌}
 use Rattle.std.specs.Str.{bytes_eq}
 use Rattle.lt_tree.specs.declared.typed.entity.Function.{Function}
-use Rattle.lt_input_names.proofs.Names.{any_more, has_name_more}
+use Rattle.lt_input_names.proofs.NameSets.{any_more, has_name_more}
 use Rattle.lt_input_names.proofs.stubs.names_of.Goals as goal
 
 pub loop-function-preserved : goal.loop-function-preserved

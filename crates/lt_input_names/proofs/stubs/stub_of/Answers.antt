@@ -7,7 +7,7 @@ use Rattle.lt_entry.specs.Conditions as conditions
 use Rattle.lt_entry.specs.Conditions.{integer_result}
 use Rattle.lt_input_names.specs.Blocks.{program_types}
 use Rattle.lt_input_names.specs.Stubs.{has_name}
-use Rattle.lt_input_names.proofs.Names.{among_any, stub_law}
+use Rattle.lt_input_names.proofs.NameSets.{among_any, stub_law}
 use Rattle.lt_input_names.proofs.stubs.stub_of.Goals as goal
 
 pub returns-then-is_none : goal.returns-then-is_none
