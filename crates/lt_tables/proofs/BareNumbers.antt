@@ -99,31 +99,46 @@ made_within rows id made h =
 
 -- ---- the same type has the same key
 
-pub key_same : (rows : List TypeRow) (once : AreOnce rows) (t u : CType) (a b : BareRow) → IsBareOf rows t a → IsBareOf rows u b → (key_of (length rows) b == a.id.place) ≡ same (bare t) u
-key_same rows once t u a b is that =
+pub key_same : (rows : List TypeRow) (once : AreOnce rows) (size : ℕ) → length rows ≤ size → (t u : CType) (id : TypeId) (b : BareRow) → Stays rows (λ types. type_in types id ≡ bare t) → IsBareOf rows u b
+    → (key_of size b == id.place) ≡ same (bare t) u
+key_same rows once size fits t u id b is that =
     let types = types_of_rows rows in
-    let first : type_in types a.id ≡ bare t = is.0 types (continues_same types) in
+    let first : type_in types id ≡ bare t = is types (continues_same types) in
     let second : type_in types b.id ≡ bare u = that.0 types (continues_same types) in
-    let here : a.id.place < length rows = made_within rows a.id (bare t) is.0 in
+    let here : id.place < length rows = made_within rows id (bare t) is in
     let there : b.id.place < length rows = made_within rows b.id (bare u) that.0 in
     ⊎_elim
     (λ plain.
     let itself : bare u ≡ u = bare_stays u (sym that.1 ∙ plain) in
-    let key : key_of (length rows) b ≡ b.id.place = ap (λ f. cond f b.id.place (length rows)) plain in
-    both_true (key_of (length rows) b == a.id.place) (same (bare t) u)
+    let key : key_of size b ≡ b.id.place = ap (λ f. cond f b.id.place size) plain in
+    both_true (key_of size b == id.place) (same (bare t) u)
     (λ e.
-    let places : b.id.place ≡ a.id.place = sym key ∙ eqb-true (key_of (length rows) b) a.id.place e in
+    let places : b.id.place ≡ id.place = sym key ∙ eqb-true (key_of size b) id.place e in
     let types_same : bare t ≡ u = sym first ∙ ap (λ k. slice_index_or types k Void) (sym places) ∙ second ∙ itself in
     ap (λ v. same v u) types_same ∙ same_self u)
     (λ e.
-    let types_same : type_in types a.id ≡ type_in types b.id = first ∙ same_exact (bare t) u e ∙ sym itself ∙ sym second in
-    eq-eqb (key_of (length rows) b) a.id.place (key ∙ sym (once.apart a.id b.id here there types_same))))
+    let types_same : type_in types id ≡ type_in types b.id = first ∙ same_exact (bare t) u e ∙ sym itself ∙ sym second in
+    eq-eqb (key_of size b) id.place (key ∙ sym (once.apart id b.id here there types_same))))
     (λ marked.
-    let key : key_of (length rows) b ≡ length rows = ap (λ f. cond f b.id.place (length rows)) marked in
-    both_true (key_of (length rows) b == a.id.place) (same (bare t) u)
-    (λ e. let places : length rows ≡ a.id.place = sym key ∙ eqb-true (key_of (length rows) b) a.id.place e in absurd (omega arith))
+    let key : key_of size b ≡ size = ap (λ f. cond f b.id.place size) marked in
+    both_true (key_of size b == id.place) (same (bare t) u)
+    (λ e. let places : size ≡ id.place = sym key ∙ eqb-true (key_of size b) id.place e in absurd (omega (arith, places, here, fits)))
     (λ e. absurd (true≢false (sym (bare_is_bare t) ∙ ap is_bare (same_exact (bare t) u e) ∙ sym that.1 ∙ marked))))
     (cases_Bool b.is_bare)
+
+-- ids are equal exactly where their types are the same
+pub ids_same : (rows : List TypeRow) (once : AreOnce rows) (t u : CType) (a b : TypeId) → Stays rows (λ types. type_in types a ≡ bare t) → Stays rows (λ types. type_in types b ≡ bare u)
+    → (a.place == b.place) ≡ same (bare t) (bare u)
+ids_same rows once t u a b is that =
+    let types = types_of_rows rows in
+    let first : type_in types a ≡ bare t = is types (continues_same types) in
+    let second : type_in types b ≡ bare u = that types (continues_same types) in
+    both_true (a.place == b.place) (same (bare t) (bare u))
+    (λ e.
+    let types_same : bare t ≡ bare u = sym first ∙ ap (λ k. slice_index_or types k Void) (eqb-true a.place b.place e) ∙ second in
+    ap (λ v. same v (bare u)) types_same ∙ same_self (bare u))
+    (λ e.
+    eq-eqb a.place b.place (once.apart a b (made_within rows a (bare t) is) (made_within rows b (bare u) that) (first ∙ same_exact (bare t) (bare u) e ∙ sym second)))
 
 found_first : (a b : Bool) (k : ℕ) (o : Option ℕ) (rest count : ℕ) → a ≡ b → unwrap_or o (count + suc k) ≡ rest → unwrap_or (cond a (Some k) o) (suc count + k) ≡ cond b k rest
 found_first true true k o rest count e h = refl

@@ -1,5 +1,5 @@
 -- Members one behind the other, and the structs that have them.
-use Rattle.std.proofs.Common.{◌≡◌, ◌==◌, ◌&&◌, Bool, true, false, ◌<◌, ◌+◌, ℕ, zero, suc, List, [], ◌∷◌, ◌++◌, map, drop, length, get_or, slice_index_or, Option, Some, None, is_some, unwrap_or, true≢false, refl, sym, ap, subst, ◌∙◌, arith, append_assoc, append-nil, drop-cons}
+use Rattle.std.proofs.Common.{◌≡◌, ◌==◌, ◌&&◌, Bool, true, false, ◌<◌, ◌+◌, ℕ, zero, suc, List, [], ◌∷◌, ◌++◌, map, drop, length, get_or, slice_index_or, Option, Some, None, is_some, option_map, unwrap_or, true≢false, refl, sym, ap, subst, ◌∙◌, arith, append_assoc, append-nil, drop-cons}
 use Rattle.std.specs.Global.{Vec}
 use Rattle.std.proofs.lemmas.Bool.{eqb-true, eq-eqb}
 use Rattle.std.proofs.lemmas.List.{map-append, length-map}
@@ -15,11 +15,11 @@ use Rattle.lt_tree.specs.Typing.EntityView.{member_of, struct_of, structs_of}
 use Rattle.lt_tree.specs.Typing.Extents.{Member, members_in, type_extent, members_extent, struct_extent, placed_at, placed_behind}
 use Rattle.lt_table.specs.declared.structs.extent.Extent as table
 use Rattle.lt_table.specs.declared.structs.PlacedMember.{PlacedMember}
-use Rattle.lt_table.specs.StructTables.{pairs_in}
+use Rattle.lt_table.specs.StructTables.{extent_value, pairs_in}
 use Rattle.lt_table.proofs.TableSame.{same_exact, same_self}
 use Rattle.lt_tables.specs.declared.layouts.Layouts.{Layouts}
 use Rattle.lt_tables.specs.TypeParts.{extent_among}
-use Rattle.lt_tables.specs.Layouts.{pairs_of, members_among, placed_with, step_with, size_with, same_pairs, AreLayoutsOf}
+use Rattle.lt_tables.specs.Layouts.{pairs_of, members_among, placed_with, step_with, size_with, same_pairs, object_size, AreLayoutsOf}
 
 none_some : {A : Type 0} {a : A} → None ≡ Some a → ⊥
 none_some p = true≢false (sym (ap is_some p))
@@ -161,15 +161,23 @@ same_pairs_self (p ∷ ps) = ap (λ b. b && ((p.1 == p.1) && same_pairs ps ps)) 
 
 -- ---- the layouts of a program
 
+sizes_at : (known : List (Option table.Extent)) (k : ℕ) → slice_index_or (map (λ extent. object_size (option_map extent_value extent)) known) k 0 ≡ object_size (extent_among known k)
+sizes_at [] zero = refl
+sizes_at [] (suc k) = refl
+sizes_at (x ∷ known) zero = refl
+sizes_at (x ∷ known) (suc k) = sizes_at known k
+
 pub layouts_hold : (m : DataModel) (types : List CType) (structs : List StructType) (known : List (Option table.Extent)) (layouts : Layouts)
     → ((k : ℕ) → extent_among known k ≡ struct_extent m (structs_of types structs) (length structs) k) → layouts.sizes.items ≡ map (size_with m (extent_among known)) types
-    → map (λ l. pairs_of types l.items) layouts.members.items ≡ map (λ it. pairs_in (placed_with m (extent_among known) (struct_of types it))) structs → AreLayoutsOf m (structs_of types structs) types layouts
-layouts_hold m types structs known layouts all sizes members =
+    → map (λ l. pairs_of types l.items) layouts.members.items ≡ map (λ it. pairs_in (placed_with m (extent_among known) (struct_of types it))) structs
+    → layouts.struct_sizes.items ≡ map (λ extent. object_size (option_map extent_value extent)) known → AreLayoutsOf m (structs_of types structs) types layouts
+layouts_hold m types structs known layouts all sizes members struct_sizes =
     let all_structs = structs_of types structs in
     let deep : length structs ≡ length all_structs = sym (length-map structs (struct_of types)) in
     let same : extent_among known ≡ struct_extent m all_structs (length all_structs) = (λ i k. all k i) ∙ ap (λ n k. struct_extent m all_structs n k) deep in
     record {
       sizes = sizes ∙ ap (λ f. map (size_with m f) types) same;
+      struct_sizes = λ k. ap (λ l. slice_index_or l k 0) struct_sizes ∙ sizes_at known k ∙ ap (λ f. object_size (f k)) same;
       members = λ k.
           ap (same_pairs (pairs_of types (members_among layouts.members.items k))) (sym (
           members_are m (extent_among known) types layouts.members.items structs members k

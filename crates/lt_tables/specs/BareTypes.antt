@@ -1,7 +1,8 @@
 -- Types without qualifiers, as a table of types has them.
-use Rattle.std.specs.Prelude.{◌≡◌, ℕ, Bool, true, false, ◌&&◌, if◌then◌else◌, List, [], ◌∷◌}
+use Rattle.std.specs.Prelude.{◌≡◌, ℕ, Bool, true, false, ◌&&◌, if◌then◌else◌, List, [], ◌∷◌, slice_index_or}
+use Rattle.lt_tree.specs.declared.typed.types.TypeId.{TypeId}
 use Rattle.lt_tree.specs.declared.typed.types.TypeRow.{TypeRow}
-use Rattle.lt_tree.specs.Typing.Types.{CType, CTypes, no_types, a_type, Void, Num, Pointer, Array, Struct, Function, Floating, Qualified, bare}
+use Rattle.lt_tree.specs.Typing.Types.{CType, CTypes, no_types, a_type, Void, Num, Pointer, Array, Struct, Function, Floating, Qualified, bare, same}
 use Rattle.lt_tree.specs.Typing.TypeRows.{type_in}
 use Rattle.lt_table.specs.TableRows.{Stays}
 use Rattle.lt_tables.specs.declared.bare.BareRow.{BareRow}
@@ -30,6 +31,18 @@ abbrev pub AreBareOf : List TypeRow → List CType → List BareRow → Type 0
 AreBareOf rows [] [] = Unit {0}
 AreBareOf rows (t ∷ ts) (it ∷ its) = IsBareOf rows t it × AreBareOf rows ts its
 AreBareOf rows _ _ = ⊥
+
+-- each of the types of a table, by their ids; what has no row is void
+abbrev pub HaveBare : List TypeRow → List CType → List BareRow → BareRow → Type 0
+HaveBare rows types its void = (id : TypeId) → IsBareOf rows (type_in types id) (slice_index_or its id.place void)
+
+-- the id of a type, whatever types are added, by the test whether types are the same
+abbrev pub HasId : List TypeRow → CType → TypeId → Type 0
+HasId rows t id = Stays rows (λ longer. same (type_in longer id) t ≡ true)
+
+-- each of the types of a table without qualifiers has its id
+abbrev pub HaveIds : List TypeRow → List CType → List BareRow → BareRow → Type 0
+HaveIds rows types its void = (t : TypeId) → HasId rows (bare (type_in types t)) (slice_index_or its t.place void).id
 
 -- the id of a type without qualifiers; one with qualifiers has a number that no id has
 abbrev pub key_of : ℕ → BareRow → ℕ

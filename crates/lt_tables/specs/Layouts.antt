@@ -1,10 +1,10 @@
 -- The sizes of types and the places of members, as tables have them.
-use Rattle.std.specs.Prelude.{◌≡◌, ◌==◌, ◌&&◌, ℕ, Bool, true, false, List, [], ◌∷◌, map, slice_get, Option, Some, None, unwrap_or}
+use Rattle.std.specs.Prelude.{◌≡◌, ◌==◌, ◌&&◌, ◌*◌, ℕ, Bool, true, false, List, [], ◌∷◌, map, slice_get, slice_index_or, Option, Some, None, unwrap_or}
 use Rattle.std.specs.Global.{Vec}
 use Rattle.lt_model.specs.declared.scalar.DataModel.{DataModel}
 use Rattle.lt_model.specs.declared.sizes.Extent.{Extent}
-use Rattle.lt_model.specs.Layout.{then_some, no_members, member_offset, with_member}
-use Rattle.lt_tree.specs.Typing.Types.{CType, same}
+use Rattle.lt_model.specs.Layout.{then_some, within, resized, no_members, member_offset, with_member}
+use Rattle.lt_tree.specs.Typing.Types.{CType, Struct, same}
 use Rattle.lt_tree.specs.Typing.TypeRows.{type_in}
 use Rattle.lt_tree.specs.Typing.Extents.{Structs, StructType, Placed, type_extent, size_of, placed_behind, placed_members}
 use Rattle.lt_table.specs.declared.structs.PlacedMember.{PlacedMember}
@@ -14,6 +14,10 @@ use Rattle.lt_tables.specs.declared.parts.layouts.Step.{Step}
 
 abbrev pub size_of_extent : Option Extent → ℕ
 size_of_extent extent = unwrap_or (then_some extent (λ e. Some e.size)) 0
+
+-- the size of an object with this extent, as that of an array of one
+abbrev pub object_size : Option Extent → ℕ
+object_size extent = size_of_extent (then_some extent (λ e. resized e (within (e.size * 1))))
 
 -- the size of a type, where the extents of structs are known; 0 of one that has none
 abbrev pub size_with : DataModel → (ℕ → Option Extent) → CType → ℕ
@@ -48,4 +52,5 @@ same_pairs _ _ = false
 -- those of a program with these structs, whose table has these types
 pub record AreLayoutsOf (m : DataModel) (structs : Structs) (types : List CType) (layouts : Layouts) : Type 0 where
   pub sizes : layouts.sizes.items ≡ map (size_of m structs) types
+  pub struct_sizes : (k : ℕ) → slice_index_or layouts.struct_sizes.items k 0 ≡ size_of m structs (Struct k)
   pub members : (k : ℕ) → same_pairs (pairs_of types (members_among layouts.members.items k)) (pairs_in (placed_members m structs k)) ≡ true

@@ -2,7 +2,9 @@ pub mod Lookups
 pub mod Views
 pub mod Objects
 pub mod BareTypes
+pub mod SimpleRows
 pub mod TypeNumbers
+pub mod Interned
 pub mod TypeParts
 pub mod PartTypes
 pub mod Layouts

@@ -2,8 +2,10 @@
 #![tactic(auto)]
 
 mod bare;
+mod bare_types;
 mod facts;
 mod filling;
+mod interned;
 mod layouts;
 mod locals;
 mod objects;
@@ -14,6 +16,8 @@ mod site;
 mod tables;
 mod type_parts;
 
+pub use bare_types::BareTypes;
 pub use facts::TypeFacts;
+pub use layouts::Layouts;
 pub use site::Site;
 pub use tables::{Tables, stops};

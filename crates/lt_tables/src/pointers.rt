@@ -42,12 +42,12 @@ pub fn pointer_numbers(
     let none = place_of(ids.len())?;
     Ok(PointerNumbers {
         of_rows: numbers_of(alloc, &places, none, &bare)?,
-        of_void: number_of(&places, none, void),
+        of_void: number_at(&places, none, void.id),
     })
 }
 
-// The keys of these ids: no type without qualifiers has the key of one with qualifiers.
-fn keys_of(
+/// The keys of these ids: no type without qualifiers has the key of one with qualifiers.
+pub fn keys_of(
     alloc: Global,
     no_key: u32,
     bare: &[BareRow],
@@ -82,16 +82,16 @@ fn numbers_of(
 {
     let mut numbers = Vec::new(alloc);
     for it in bare {
-        numbers.push(number_of(places, none, *it))?;
+        numbers.push(number_at(places, none, it.id))?;
     }
     Ok(numbers)
 }
 
-// The number of a type: that of its id, or the one that no type has.
-fn number_of(places: &BTreeMap<u32, u32>, none: u32, it: BareRow) -> u32
-    ensures { result ≡ unwrap_or (get nat_cmp places.now it.id.place) none }
+/// The number of a type: that of its id, or the one that no type has.
+pub fn number_at(places: &BTreeMap<u32, u32>, none: u32, id: TypeId) -> u32
+    ensures { result ≡ unwrap_or (get nat_cmp places.now id.place) none }
 {
-    match places.get(&it.id.place) {
+    match places.get(&id.place) {
         None => none,
         Some(number) => *number,
     }

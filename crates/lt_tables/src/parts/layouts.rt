@@ -6,12 +6,12 @@ ghost use Rattle.lt_tree.specs.Typing.TypeRows.{type_in};
 ghost use Rattle.lt_table.specs.StructTables.{extent_value, pairs_in};
 ghost use Rattle.lt_tables.specs.TypeParts.{extent_among};
 ghost use Rattle.lt_tables.specs.PartTypes.{types_of, structs_with, members_with, type_extent_in, placed_in};
-ghost use Rattle.lt_tables.specs.Layouts.{AreLayoutsOf, pairs_of, members_among, size_with, size_of_extent, step_with, step_value};
+ghost use Rattle.lt_tables.specs.Layouts.{AreLayoutsOf, pairs_of, members_among, size_with, size_of_extent, object_size, step_with, step_value};
 
 use crate::layouts::Layouts;
 use crate::parts::Parts;
 use crate::parts::structs::extent_by;
-use lt_table::{Extent, PlacedMember, member_offset, no_members, with_member};
+use lt_table::{Extent, PlacedMember, member_offset, no_members, repeated, with_member};
 use lt_tree::typed::{Member, StructType, TypeId};
 use std::alloc::{AllocError, Global};
 
@@ -30,7 +30,12 @@ impl<'r> Parts<'r> {
         let known = self.extents(alloc, structs)?;
         let sizes = self.sizes(alloc, &known)?;
         let members = self.members(alloc, &known, structs)?;
-        Ok(Layouts { sizes, members })
+        let struct_sizes = struct_sizes(alloc, &known)?;
+        Ok(Layouts {
+            sizes,
+            members,
+            struct_sizes,
+        })
     }
 
     // The sizes of the types, where the extents of structs are known.
@@ -116,5 +121,26 @@ fn size_of(extent: Option<Extent>) -> u64
     match extent {
         None => 0,
         Some(extent) => extent.size,
+    }
+}
+
+// The sizes of structs with these extents.
+fn struct_sizes(alloc: Global, known: &[Option<Extent>]) -> Result<Vec<u64>, AllocError>
+    ensures { IfOk result (λ sizes. sizes.items ≡ map (λ extent. object_size (option_map extent_value extent)) known.now) }
+{
+    let mut sizes = Vec::new(alloc);
+    for extent in known {
+        sizes.push(object_size(*extent))?;
+    }
+    Ok(sizes)
+}
+
+// The size of an object with this extent; 0 where there is none.
+fn object_size(extent: Option<Extent>) -> u64
+    ensures { result ≡ object_size (option_map extent_value extent) }
+{
+    match extent {
+        None => 0,
+        Some(extent) => size_of(repeated(extent, 1)),
     }
 }

@@ -11,8 +11,8 @@ ghost use Rattle.lt_meaning.specs.Statements.{type_of_object, is_sealed_object};
 ghost use Rattle.lt_tables.specs.Views.{types_at, program_at, label_in_code};
 
 use crate::facts::{TypeFacts, facts_at, facts_of_rows, facts_of_void};
+use crate::layouts::Layouts;
 use crate::objects::numbers_of;
-use crate::parts::Parts;
 use crate::places::{ids_of, names_of, names_without, places_of, places_of_names};
 use crate::pointers::pointer_numbers;
 use crate::tables::Tables;
@@ -37,8 +37,7 @@ impl<'p> Tables<'p> {
         let stubs = names_without(alloc, &program.declared, &functions)?;
         let stub_places = places_of_names(alloc, &stubs)?;
         let statics = numbers_of(alloc, &program.objects)?;
-        let parts = Parts::new(alloc, program.model, &program.table)?;
-        let layouts = parts.layouts(alloc, &program.structs)?;
+        let layouts = Layouts::new(alloc, program)?;
         Ok(Tables {
             program,
             stubs,

@@ -1,13 +1,15 @@
 // The cells and the size of an object of a type.
 
-ghost use Rattle.std.specs.Prelude.{◌≡◌, ◌+◌, ◌<◌, ◌++◌, List, IfOk, OnOk};
+ghost use Rattle.std.specs.Prelude.{◌≡◌, ◌+◌, ◌*◌, ◌<◌, ◌++◌, List, unwrap_or, IfOk, OnOk};
+ghost use Rattle.lt_model.specs.Layout.{within};
 ghost use Rattle.lt_tree.specs.Typing.TypeRows.{type_in};
 ghost use Rattle.lt_meaning.specs.Expressions.{shape, cell_type};
-ghost use Rattle.lt_tree.specs.Typing.Types.{CType};
+ghost use Rattle.lt_tree.specs.Typing.Types.{CType, Array, Struct};
+ghost use Rattle.lt_tree.specs.Typing.Extents.{size_of};
 ghost use Rattle.lt_tree.specs.Typing.Programs.{Program};
 ghost use Rattle.lt_tables.specs.Layouts.{pairs_of};
 ghost use Rattle.lt_tables.specs.Stretches.{members_cells, cells_left};
-ghost use Rattle.lt_tables.specs.Apart.{all_cells, first_cells, behind_first, Came};
+ghost use Rattle.lt_tables.specs.Apart.{all_cells, first_cells, struct_cells, behind_first, Came};
 ghost use Rattle.lt_tables.specs.Views.{types_at, program_at};
 
 use crate::tables::Tables;
@@ -44,19 +46,88 @@ impl<'p> Tables<'p> {
         })
     }
 
-    // The cells of objects of a type. What is left to be taken apart stands on a stack, what comes first last; so types may nest
-    // however deep. More than 2^64 steps end as want of memory does.
+    /// The cells and the size of an array of so many objects of a type.
+    pub fn array_shape(&self, alloc: Global, id: TypeId, count: u32) -> Result<Shape, AllocError>
+        ensures { IfOk result (λ it. it ≡ shape (program_at self.now) (Array (type_in (types_at self.now) id) count)) }
+    {
+        let depth = self.program.structs.len();
+        let whole = Stretch {
+            ty: id,
+            offset: 0,
+            count,
+            depth,
+        };
+        let size = self.size(id);
+        Ok(Shape {
+            cells: Sequence::new(self.cells(alloc, whole)?),
+            size: array_size(size, count),
+        })
+    }
+
+    // The size of a type; 0 of one that has none.
+    fn size(&self, id: TypeId) -> u64
+        ensures { result ≡ size_of (program_at self.now).model (program_at self.now).structs (type_in (types_at self.now) id) }
+    {
+        self.layouts.size(id)
+    }
+
+    /// The cells and the size of an array of so many structs.
+    pub fn struct_shape(&self, alloc: Global, number: u32, count: u32) -> Result<Shape, AllocError>
+        ensures { IfOk result (λ it. it ≡ shape (program_at self.now) (Array (Struct number) count)) }
+    {
+        let size = self.layouts.struct_size(number);
+        let members = self.layouts.members(number);
+        let mut cells = Vec::new(alloc);
+        for place in 0..count {
+            self.put_struct(alloc, &mut cells, members, times(size, place)?)?;
+        }
+        Ok(Shape {
+            cells: Sequence::new(cells),
+            size: array_size(size, count),
+        })
+    }
+
+    // The cells of a struct with these members at an offset go last.
+    fn put_struct(
+        &self,
+        alloc: Global,
+        cells: &mut Vec<ShapeCell>,
+        members: &[PlacedMember],
+        offset: u64,
+    ) -> Result<(), AllocError>
+        ensures { OnOk result (cells.new.items ≡ cells.old.items ++ struct_cells self.now members.now offset) }
+    {
+        let mut left = Vec::new(alloc);
+        put_members(&mut left, members, offset, self.program.structs.len())?;
+        self.take_all(cells, left)
+    }
+
+    // The cells of objects of a type.
     fn cells(&self, alloc: Global, whole: Stretch) -> Result<Vec<ShapeCell>, AllocError>
         ensures { IfOk result (λ cells. cells.items ≡ all_cells self.now whole) }
     {
         let mut cells = Vec::new(alloc);
         let mut left = Vec::new(alloc);
         left.push(whole)?;
+        self.take_all(&mut cells, left)?;
+        Ok(cells)
+    }
+
+    // The cells of these stretches go last. What is left to be taken apart stands on a stack, what comes first last; so types may
+    // nest however deep. More than 2^64 steps end as want of memory does.
+    fn take_all(
+        &self,
+        cells: &mut Vec<ShapeCell>,
+        stretches: Vec<Stretch>,
+    ) -> Result<(), AllocError>
+        ensures { OnOk result (cells.new.items ≡ cells.old.items ++ cells_left (program_at self.now) (types_at self.now) stretches.items) }
+    {
+        let mut left = stretches;
         for _step in 0..u64::MAX {
             let Some(stretch) = left.pop() else {
-                return Ok(cells);
+                return Ok(());
             };
-            self.take_apart(&mut cells, &mut left, stretch)?;
+            self.take_apart(cells, &mut left, stretch)?;
         }
         Err(AllocError)
     }
@@ -176,4 +247,21 @@ fn further(offset: u64, by: u64) -> Result<u64, AllocError>
     ensures { IfOk result (λ it. it ≡ offset + by) }
 {
     offset.checked_add(by).ok_or(AllocError)
+}
+
+// An offset behind so many objects of a size. One past 64 bits is behind more than 2^32 cells.
+fn times(size: u64, count: u32) -> Result<u64, AllocError>
+    ensures { IfOk result (λ it. it ≡ size * count) }
+{
+    size.checked_mul(u64::from(count)).ok_or(AllocError)
+}
+
+// The size of so many objects of a size, one behind the other; 0 where it doesn't fit 64 bits.
+fn array_size(size: u64, count: u32) -> u64
+    ensures { result ≡ unwrap_or (within (size * count)) 0 }
+{
+    match size.checked_mul(u64::from(count)) {
+        None => 0,
+        Some(size) => size,
+    }
 }

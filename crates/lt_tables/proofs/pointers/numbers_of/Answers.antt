@@ -6,5 +6,5 @@ use Rattle.lt_tables.proofs.pointers.numbers_of.Goals as goal
 
 pub loop-it-preserved : goal.loop-it-preserved
 loop-it-preserved c =
-    map_more (λ it. unwrap_or (get nat_cmp c.args.places.now it.id.place) c.args.none) c.args.bare.now c.loop-it.it-index _ c.loop-it.numbers.items _ c.number_of.result c.loop-it-test.true c.loop-it.invariant
-    c.number_of.ensures c.in_ok-push.ensures.items
+    map_more (λ it. unwrap_or (get nat_cmp c.args.places.now it.id.place) c.args.none) c.args.bare.now c.loop-it.it-index _ c.loop-it.numbers.items _ c.number_at.result c.loop-it-test.true c.loop-it.invariant
+    c.number_at.ensures c.in_ok-push.ensures.items

@@ -8,7 +8,6 @@ use Rattle.lt_tables.specs.Objects.{number_of}
 use Rattle.lt_tables.specs.TypeNumbers.{AreAllFacts, number_among, types_named}
 use Rattle.lt_tables.proofs.FactRows.{have_facts, numbers_length}
 use Rattle.lt_tables.proofs.ObjectNumbers.{numbers_same}
-use Rattle.lt_tables.proofs.PlacedRows.{layouts_same}
 use Rattle.lt_tables.proofs.TablePlaces.{label_found, function_found, stubs_are}
 use Rattle.lt_tables.proofs.tables.Tables.new.Goals as goal
 
@@ -39,8 +38,7 @@ invariant_of-result c =
           c.deref-7.ensures.value;
       stubs_hold = λ name. c.in_ok-stub_places.ensures name ∙ ap (name_among 0 name) c.deref-10.ensures.value;
       statics_hold = λ n. c.in_ok-statics.ensures n ∙ ap (λ l. number_of l n) c.deref-11.ensures.value ∙ sym (numbers_same types c.args.program.now.objects.items n);
-      layouts_hold = layouts_same c.args.program.now.model c.in_ok-parts.parts.model rows c.in_ok-parts.parts.rows.now c.args.program.now.structs.items c.deref-13.result.now c.in_ok-layouts.layouts
-          c.in_ok-parts.ensures.model (c.in_ok-parts.ensures.rows ∙ c.deref-12.ensures.value) c.deref-13.ensures.value c.in_ok-layouts.ensures;
+      layouts_hold = c.in_ok-layouts.ensures;
     }
 
 pub returns-clause-stubs : goal.returns-clause-stubs
