@@ -1,4 +1,4 @@
 mod Same
-mod Missing
+pub mod Missing
 mod Once
-mod Due
+pub mod Due

@@ -1,50 +1,24 @@
 -- What is known of the types of rows.
-use Rattle.std.proofs.Common.{◌≡◌, ℕ, zero, suc, ◌+◌, ◌<◌, ◌≤◌, Bool, true, false, List, [], ◌∷◌, ◌++◌, length, get_or, slice_get, slice_index_or, Option, Some, None, refl, sym, ap, ◌∙◌, subst, arith, ⊎_elim}
-use Rattle.std.specs.Prelude.{◌&&◌, nat_lt, is_some, option_map}
+use Rattle.std.proofs.Common.{◌≡◌, ℕ, zero, suc, ◌+◌, ◌<◌, ◌≤◌, true, false, List, [], ◌∷◌, ◌++◌, length, get_or, slice_get, slice_index_or, Some, None, refl, sym, ap, ◌∙◌, subst, arith, ⊎_elim}
+use Rattle.std.specs.Prelude.{is_some}
 use Rattle.std.specs.List.{AllByRecursion}
 use Rattle.std.proofs.lemmas.Bool.{cases_lt}
 use Rattle.std.proofs.Math.ListN.{get_or-eq_default}
-use Rattle.lt_model.specs.declared.scalar.Scalar.{Scalar}
 use Rattle.lt_tree.specs.declared.typed.types.TypeId.{TypeId}
 use Rattle.lt_tree.specs.declared.typed.types.TypeRow.{TypeRow}
 use Rattle.lt_tree.specs.declared.typed.entity.StructType.{StructType}
 use Rattle.lt_tree.specs.Typing.EntityView.{structs_of}
-use Rattle.lt_tree.specs.Typing.Types.{CType, CTypes, Void, Num, Pointer, Array, Struct, Function, Floating, Qualified}
-use Rattle.lt_model.specs.Types.{Qualifiers}
+use Rattle.lt_tree.specs.Typing.Types.{CType, Void}
 use Rattle.lt_tree.specs.Typing.TypeRows.{type_in, type_of_row, types_of_rows}
-use Rattle.lt_tree.specs.Typing.TypeIds.{ids_in_row, IsBelow, AreBelow, AreMadeOfRowsBefore}
-use Rattle.lt_tree.specs.Typing.Extents.{Structs, is_complete}
+use Rattle.lt_tree.specs.Typing.TypeIds.{ids_in_row, AreBelow, AreMadeOfRowsBefore}
+use Rattle.lt_tree.specs.Typing.Extents.{Structs}
 use Rattle.lt_input_names.specs.declared.facts.Facts.{Facts}
-use Rattle.lt_input_names.specs.declared.facts.Kind.TheVariants as kind
-use Rattle.lt_input_names.specs.Kinds.{AreFacts, kind_facts, no_facts}
+use Rattle.lt_input_names.specs.Kinds.{AreFacts, no_facts}
 use Rattle.lt_input_names.proofs.Tables.{length-types_behind}
 use Rattle.lt_input_names.proofs.RowTypes.{row_type}
 
-module _ (structs : Structs) (types : List CType) where
-  pub void_facts : AreFacts structs types Void no_facts
-  void_facts = record { scalar = refl; target = refl; number_or_pointer = refl; array = refl; number = refl; complete = refl; floating = refl; elements = refl }
-
-  pub num_facts : (s : Scalar) → AreFacts structs types (Num s) (kind_facts (kind.Integer s) true)
-  num_facts s = record { scalar = refl; target = refl; number_or_pointer = refl; array = refl; number = refl; complete = refl; floating = refl; elements = refl }
-
-  pub pointer_facts : (t : TypeId) → AreFacts structs types (Pointer (type_in types t)) (kind_facts (kind.Pointer t) true)
-  pointer_facts t = record { scalar = refl; target = refl; number_or_pointer = refl; array = refl; number = refl; complete = refl; floating = refl; elements = refl }
-
-  pub struct_facts : (k : ℕ) (complete : Bool) → complete ≡ is_complete structs (Struct k) → AreFacts structs types (Struct k) (record (kind_facts kind.Other complete) { number = Some k })
-  struct_facts k complete is = record { scalar = refl; target = refl; number_or_pointer = refl; array = refl; number = refl; complete = is; floating = refl; elements = refl }
-
-  pub function_facts : (t : CType) (ts : CTypes) (dots : Bool) → AreFacts structs types (Function t ts dots) no_facts
-  function_facts t ts dots = record { scalar = refl; target = refl; number_or_pointer = refl; array = refl; number = refl; complete = refl; floating = refl; elements = refl }
-
-  pub floating_facts : AreFacts structs types Floating (record { kind = kind.Other; array = None; number = None; is_complete = true; is_floating = true; are_elements_floating = true })
-  floating_facts = record { scalar = refl; target = refl; number_or_pointer = refl; array = refl; number = refl; complete = refl; floating = refl; elements = refl }
-
-  pub array_facts : (t : TypeId) (n : ℕ) (it : Facts) → AreFacts structs types (type_in types t) it
-      → AreFacts structs types (Array (type_in types t) n) (record { kind = kind.Other; array = Some (record { ty = t; count = n }); number = None; is_complete = nat_lt 0 n && it.is_complete; is_floating = false; are_elements_floating = it.are_elements_floating })
-  array_facts t n it are = record { scalar = refl; target = refl; number_or_pointer = refl; array = refl; number = refl; complete = ap (λ b. nat_lt 0 n && b) are.complete; floating = refl; elements = are.elements }
-
-  pub qualified_facts : (q : Qualifiers) (t : CType) (it : Facts) → AreFacts structs types t it → AreFacts structs types (Qualified q t) (record it { array = None; are_elements_floating = it.is_floating })
-  qualified_facts q t it are = record { scalar = are.scalar; target = are.target; number_or_pointer = are.number_or_pointer; array = refl; number = are.number; complete = are.complete; floating = are.floating; elements = are.floating }
+pub void_facts : (structs : Structs) (types : List CType) → AreFacts structs types Void no_facts
+void_facts structs types = record { scalar = refl; target = refl; number_or_pointer = refl; array = refl; bare_array = refl; number = refl; complete = refl; void = refl; floating = refl; elements = refl }
 
 -- ---- a table
 

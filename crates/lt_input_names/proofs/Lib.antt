@@ -6,3 +6,7 @@ mod NameSets
 mod FoundLaws
 mod PartLaws
 mod RootLaws
+mod StepLaws
+mod MemberLaws
+mod TypeLaws
+mod TargetLaws

@@ -1,10 +1,10 @@
 -- Objects that names stand for, as they go into a map.
 use Rattle.std.proofs.Common.{◌≡◌, ℕ, ◌+◌, ◌<◌, Bool, true, false, cond, List, [], ◌∷◌, ◌++◌, length, take, get_or, map, slice_get, Option, Some, None, refl, sym, ap, ◌∙◌, subst}
-use Rattle.std.specs.Prelude.{option_map, option_to_list, is_some, Result, IfOk, OnOk}
+use Rattle.std.specs.Prelude.{option_map, option_to_list, is_some}
 use Rattle.std.specs.List.{filter_map, cons_option}
 use Rattle.std.specs.Str.{bytes_eq}
 use Rattle.std.specs.Borrow.{Bor}
-use Rattle.std.specs.HashMap.{HashMap, get_by}
+use Rattle.std.specs.HashMap.{HashMap}
 use Rattle.std.specs.Map.{lookup}
 use Rattle.std.specs.Cmp.Lexicographic.{bytes_decides}
 use Rattle.std.proofs.lemmas.List.{map-append}
@@ -22,7 +22,8 @@ use Rattle.lt_tree.specs.declared.typed.entity.Function.{Function}
 use Rattle.lt_tree.specs.Typing.EntityView.{object_of, function_of}
 use Rattle.lt_tree.specs.Typing.ProgramView.{program_of}
 use Rattle.lt_input_names.specs.declared.block.Block as memory
-use Rattle.lt_input_names.specs.Blocks.{program_types, block_of, scope_with}
+use Rattle.lt_input_names.specs.declared.block.LineBlock.{LineBlock}
+use Rattle.lt_input_names.specs.Blocks.{program_types, block_of, line_block_of, scope_with}
 use Rattle.lt_input_names.specs.declared.part.Root.{Root}
 use Rattle.lt_input_names.specs.Found.{found_in}
 use Rattle.lt_input_names.specs.Roots.{root_at, root_in, Puts}
@@ -85,6 +86,52 @@ pub puts_mapped : {A S : Type 0} (types : List CType) (f : A → naming.Root) (x
 puts_mapped types f xs i x a b c h is before here =
     subst (Puts types a c) (sym (ap (map f) (one_more xs i x h is) ∙ map-append f (take i xs) (x ∷ [])))
     (puts_through types a b c (map f (take i xs)) (f x ∷ []) before here)
+
+-- ---- a block that a line makes
+
+in_the_middle : {A : Type 0} (p a x b f : Option A) → (is_some x ≡ true → None ≡ or_else (or_else p (or_else a b)) f) → or_else (or_else p (or_else (or_else a x) b)) f ≡ or_else (or_else (or_else p (or_else a b)) f) x
+in_the_middle p a None b f h = ap (λ o. or_else (or_else p (or_else o b)) f) (or_else-none a) ∙ sym (or_else-none (or_else (or_else p (or_else a b)) f))
+in_the_middle (Some p) a (Some x) b f h = absurd (let e : Some p ≡ None = sym (h refl) in cc)
+in_the_middle None (Some a) (Some x) b f h = absurd (let e : Some a ≡ None = sym (h refl) in cc)
+in_the_middle None None (Some x) (Some b) f h = absurd (let e : Some b ≡ None = sym (h refl) in cc)
+in_the_middle None None (Some x) None (Some f) h = absurd (let e : Some f ≡ None = sym (h refl) in cc)
+in_the_middle None None (Some x) None None h = refl
+
+four : (ps ms bs fs : List naming.Root) (name : List ℕ) → root_among ((ps ++ (ms ++ bs)) ++ fs) name ≡ or_else (or_else (root_among ps name) (or_else (root_among ms name) (root_among bs name))) (root_among fs name)
+four ps ms bs fs name =
+    root_among-append (ps ++ (ms ++ bs)) fs name
+    ∙ ap (λ o. or_else o (root_among fs name)) (root_among-append ps (ms ++ bs) name ∙ ap (or_else (root_among ps name)) (root_among-append ms bs name))
+
+passed : (b : Bool) (r : naming.Root) → is_some (cond b (Some r) None) ≡ true → b ≡ true
+passed true r h = refl
+passed false r h = absurd (let e : false ≡ true = h in cc)
+
+one_added : (ps ms bs fs : List naming.Root) (r : naming.Root) (name : List ℕ) → root_among ((ps ++ (ms ++ bs)) ++ fs) r.name ≡ None
+    → root_among ((ps ++ ((ms ++ r ∷ []) ++ bs)) ++ fs) name ≡ or_else (root_among ((ps ++ (ms ++ bs)) ++ fs) name) (root_among (r ∷ []) name)
+one_added ps ms bs fs r name absent =
+    four ps (ms ++ r ∷ []) bs fs name ∙ ap (λ o. or_else (or_else (root_among ps name) (or_else o (root_among bs name))) (root_among fs name)) (root_among-append ms (r ∷ []) name)
+    ∙ in_the_middle (root_among ps name) (root_among ms name) (root_among (r ∷ []) name) (root_among bs name) (root_among fs name)
+    (λ found.
+    let same : r.name ≡ name = (bytes_decides r.name name).0 (passed (bytes_eq r.name name) r found) in
+    sym absent ∙ ap (root_among ((ps ++ (ms ++ bs)) ++ fs)) same ∙ four ps ms bs fs name)
+    ∙ ap (λ o. or_else o (root_among (r ∷ []) name)) (sym (four ps ms bs fs name))
+
+-- the objects, with one more block behind those that lines made
+pub line_added : {S : Type 0} (types : List CType) (a b : HashMap (Bor (List ℕ)) Root S) (ps fs : List naming.Root) (added longer : List LineBlock) (block : LineBlock) (blocks : List naming.Block) → longer ≡ added ++ block ∷ []
+    → ((name : List ℕ) → root_in types a name ≡ root_among ((ps ++ map block_root (map (line_block_of types) added ++ blocks)) ++ fs) name)
+    → root_among ((ps ++ map block_root (map (line_block_of types) added ++ blocks)) ++ fs) block.name.now ≡ None → Puts types a b (block_root (line_block_of types block) ∷ [])
+    → (name : List ℕ) → root_in types b name ≡ root_among ((ps ++ map block_root (map (line_block_of types) longer ++ blocks)) ++ fs) name
+line_added types a b ps fs added longer block blocks is have absent puts name =
+    let r : naming.Root = block_root (line_block_of types block) in
+    let lines : List naming.Root = map block_root (map (line_block_of types) added) in
+    let others : List naming.Root = map block_root blocks in
+    let old : map block_root (map (line_block_of types) added ++ blocks) ≡ lines ++ others = map-append block_root (map (line_block_of types) added) blocks in
+    let new : map block_root (map (line_block_of types) longer ++ blocks) ≡ (lines ++ r ∷ []) ++ others =
+    map-append block_root (map (line_block_of types) longer) blocks
+    ∙ ap (λ l. l ++ others) (ap (λ l. map block_root (map (line_block_of types) l)) is ∙ ap (map block_root) (map-append (line_block_of types) added (block ∷ [])) ∙ map-append block_root (map (line_block_of types) added) (line_block_of types block ∷ []))
+    in
+    puts name ∙ ap (λ o. or_else o (root_among (r ∷ []) name)) (have name ∙ ap (λ l. root_among ((ps ++ l) ++ fs) name) old)
+    ∙ sym (one_added ps lines others fs r name (ap (λ l. root_among ((ps ++ l) ++ fs) r.name) (sym old) ∙ absent)) ∙ ap (λ l. root_among ((ps ++ l) ++ fs) name) (sym new)
 
 -- ---- the objects of a program
 

@@ -1,13 +1,13 @@
 -- The type of a row of a table.
-use Rattle.std.proofs.Common.{◌≡◌, ◌<◌, ◌≤◌, ◌+◌, ℕ, zero, suc, List, [], ◌∷◌, length, false, slice_get, slice_index_or, Some, None, is_some, unwrap_or, true≢false, refl, sym, ap, subst, ◌∙◌, arith}
+use Rattle.std.proofs.Common.{◌≡◌, ◌<◌, ◌+◌, ℕ, zero, suc, List, [], ◌∷◌, length, slice_get, Some, is_some, unwrap_or, true≢false, refl, sym, ap, subst, ◌∙◌, arith}
 use Rattle.lt_tree.specs.declared.typed.types.TypeId.{TypeId}
 use Rattle.lt_tree.specs.declared.typed.types.TypeRow.{TypeRow}
 use Rattle.lt_tree.specs.declared.typed.types.TypeRow.TheVariants as row
 use Rattle.lt_tree.specs.View.{qualifiers_of}
-use Rattle.lt_tree.specs.Typing.Types.{CType, Void, Pointer, Array, Function, Qualified, a_type}
+use Rattle.lt_tree.specs.Typing.Types.{CType, Pointer, Array, Function, Qualified, a_type}
 use Rattle.lt_tree.specs.Typing.TypeRows.{type_in, all_in, type_of_row, types_behind, types_of_rows, Continues}
 use Rattle.lt_tree.specs.Typing.TypeIds.{ids_in_row, AreBelow, AreMadeOfRowsBefore}
-use Rattle.lt_input_names.proofs.Tables.{with_type, continues_behind, continues_through, type_in-longer, type_in-last, length-with_type, length-types_behind}
+use Rattle.lt_input_names.proofs.Tables.{with_type, continues_behind, continues_through, type_in-longer, type_in-last, length-with_type}
 
 some_same : (r s : TypeRow) → Some r ≡ Some s → s ≡ r
 some_same r s p = ap (λ o. unwrap_or o s) (sym p)

@@ -1,11 +1,11 @@
 -- Tables of types that go on from others.
-use Rattle.std.proofs.Common.{◌≡◌, ℕ, ◌+◌, ◌<◌, List, [], ◌∷◌, ◌++◌, length, slice_index_or, refl, sym, ap, ◌∙◌, arith, length-append}
+use Rattle.std.proofs.Common.{◌≡◌, ◌+◌, ◌<◌, List, [], ◌∷◌, ◌++◌, length, slice_index_or, refl, sym, ap, ◌∙◌, arith, length-append}
 use Rattle.std.proofs.lemmas.List.{append_assoc, append-nil, get_or_append_left}
 use Rattle.std.proofs.Math.Seq.{get_or-append_seam}
 use Rattle.lt_tree.specs.declared.typed.types.TypeId.{TypeId}
 use Rattle.lt_tree.specs.declared.typed.types.TypeRow.{TypeRow}
 use Rattle.lt_tree.specs.Typing.Types.{CType, Void}
-use Rattle.lt_tree.specs.Typing.TypeRows.{type_in, type_of_row, types_behind, types_of_rows, Continues}
+use Rattle.lt_tree.specs.Typing.TypeRows.{type_in, type_of_row, types_behind, Continues}
 
 abbrev pub with_type : List CType → TypeRow → List CType
 with_type types row = types ++ type_of_row types row ∷ []

@@ -10,6 +10,7 @@ use Rattle.lt_input_names.specs.declared.block.Base.{Base}
 use Rattle.lt_input_names.specs.declared.block.Base.TheVariants as base
 use Rattle.lt_input_names.specs.declared.block.ElementType.{ElementType}
 use Rattle.lt_input_names.specs.declared.block.Block as memory
+use Rattle.lt_input_names.specs.declared.block.LineBlock as line
 use Rattle.lt_input_names.specs.declared.block.Specification as specification
 
 abbrev pub base_of : List CType → Base → CType
@@ -29,6 +30,9 @@ element_of types element = pointers element.pointers (base_of types element.base
 
 abbrev pub block_of : List CType → memory.Block → Block
 block_of types block = record { name = block.name; element = element_of types block.element; count = block.count }
+
+abbrev pub line_block_of : List CType → line.LineBlock → Block
+line_block_of types block = record { name = block.name.now; element = element_of types block.element; count = block.count }
 
 -- the types of a program's table
 abbrev pub program_types : typed.Program → List CType

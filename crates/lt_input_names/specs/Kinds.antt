@@ -1,8 +1,8 @@
 -- What is known of the types of a table.
-use Rattle.std.specs.Prelude.{◌≡◌, ℕ, Bool, true, false, List, Option, Some, None, option_map, slice_index_or}
+use Rattle.std.specs.Prelude.{◌≡◌, ◌&&◌, ℕ, nat_lt, Bool, true, false, List, Option, Some, None, option_map, slice_index_or}
 use Rattle.lt_model.specs.declared.scalar.Scalar.{Scalar}
 use Rattle.lt_tree.specs.declared.typed.types.TypeId.{TypeId}
-use Rattle.lt_tree.specs.Typing.Types.{CType, Array, scalar_of, target_of, struct_of, is_scalar, is_floating, element}
+use Rattle.lt_tree.specs.Typing.Types.{CType, Array, Qualified, scalar_of, target_of, struct_of, is_scalar, is_void, is_floating, element}
 use Rattle.lt_tree.specs.Typing.TypeRows.{type_in}
 use Rattle.lt_tree.specs.declared.typed.program.Program.{Program}
 use Rattle.lt_tree.specs.Typing.EntityView.{structs_of}
@@ -15,11 +15,28 @@ use Rattle.lt_input_names.specs.declared.facts.Facts.{Facts}
 use Rattle.lt_input_names.specs.declared.kinds.Kinds.{Kinds}
 
 abbrev pub kind_facts : Kind → (is_complete : Bool) → Facts
-kind_facts kind complete = record { kind = kind; array = None; number = None; is_complete = complete; is_floating = false; are_elements_floating = false }
+kind_facts kind complete = record {
+  kind = kind;
+  array = None;
+  bare_array = None;
+  number = None;
+  is_complete = complete;
+  is_void = false;
+  is_floating = false;
+  are_elements_floating = false;
+}
 
 -- of void
 abbrev pub no_facts : Facts
-no_facts = kind_facts kind.Other false
+no_facts = record (kind_facts kind.Other false) { is_void = true }
+
+-- of an array of so many of what this is known of
+abbrev pub array_facts : TypeId → Facts → (count : ℕ) → Facts
+array_facts t element count = record (kind_facts kind.Other (nat_lt 0 count && element.is_complete)) {
+  array = Some (record { ty = t; count = count });
+  bare_array = Some (record { ty = t; count = count });
+  are_elements_floating = element.are_elements_floating;
+}
 
 abbrev pub kind_scalar : Kind → Option Scalar
 kind_scalar (kind.Integer s) = Some s
@@ -38,6 +55,12 @@ abbrev pub array_of : CType → Option (CType × ℕ)
 array_of (Array t n) = Some (t, n)
 array_of _ = None
 
+-- the same, qualifiers aside
+abbrev pub bare_array_of : CType → Option (CType × ℕ)
+bare_array_of (Array t n) = Some (t, n)
+bare_array_of (Qualified q t) = bare_array_of t
+bare_array_of _ = None
+
 abbrev pub elements_in : List CType → Elements → CType × ℕ
 elements_in types it = (type_in types it.ty, it.count)
 
@@ -46,8 +69,10 @@ pub record AreFacts (structs : Structs) (types : List CType) (t : CType) (facts 
   pub target : option_map (type_in types) (kind_target facts.kind) ≡ target_of t
   pub number_or_pointer : kind_is_scalar facts.kind ≡ is_scalar t
   pub array : option_map (elements_in types) facts.array ≡ array_of t
+  pub bare_array : option_map (elements_in types) facts.bare_array ≡ bare_array_of t
   pub number : facts.number ≡ struct_of t
   pub complete : facts.is_complete ≡ is_complete structs t
+  pub void : facts.is_void ≡ is_void t
   pub floating : facts.is_floating ≡ is_floating t
   pub elements : facts.are_elements_floating ≡ is_floating (element t)
 

@@ -4,3 +4,5 @@ pub mod Stubs
 pub mod Found
 pub mod Roots
 pub mod Views
+pub mod Parts
+pub mod Targets

@@ -29,6 +29,14 @@ pub struct Block {
     pub count: u32,
 }
 
+/// A block that a line of a specification makes.
+#[derive(Clone, Copy)]
+pub struct LineBlock<'a> {
+    pub name: &'a [u8],
+    pub element: ElementType,
+    pub count: u32,
+}
+
 /// What an entry's inputs are, and the types of the blocks.
 #[derive(Drop)]
 pub struct Specification {

@@ -1,13 +1,13 @@
 //! What is known of a type.
 
-ghost use Rattle.std.specs.Prelude.{◌≡◌, ◌&&◌, nat_lt, false, None, Some, List, is_some, slice_index_or};
+ghost use Rattle.std.specs.Prelude.{◌≡◌, None, List, is_some, slice_index_or};
 ghost use Rattle.std.specs.List.{AllByRecursion};
 ghost use Rattle.lt_model.specs.Layout.{members_of};
 ghost use Rattle.lt_tree.specs.Typing.Types.{CType};
 ghost use Rattle.lt_tree.specs.Typing.TypeRows.{type_in, type_of_row};
 ghost use Rattle.lt_tree.specs.Typing.TypeIds.{ids_in_row};
 ghost use Rattle.lt_tree.specs.Typing.EntityView.{structs_of};
-ghost use Rattle.lt_input_names.specs.Kinds.{AreFacts, no_facts, kind_facts};
+ghost use Rattle.lt_input_names.specs.Kinds.{AreFacts, no_facts, kind_facts, array_facts};
 
 use lt_model::Scalar;
 use lt_tree::typed::{StructType, TypeId, TypeRow};
@@ -33,25 +33,40 @@ pub(crate) struct Facts {
     pub kind: Kind,
     /// Of an array.
     pub array: Option<Elements>,
+    /// Of an array, qualifiers aside.
+    pub bare_array: Option<Elements>,
     /// Of a struct, qualifiers aside.
     pub number: Option<u32>,
     pub is_complete: bool,
+    pub is_void: bool,
     pub is_floating: bool,
     /// Of the elements of an array, and of theirs; of no array the type itself.
     pub are_elements_floating: bool,
 }
 
-// Of a type of this kind that isn't floating.
+// Of a type of this kind that isn't floating, void or an array.
 fn kind_facts(kind: Kind, is_complete: bool) -> Facts
     ensures { result ≡ kind_facts kind is_complete }
 {
     Facts {
         kind,
         array: None,
+        bare_array: None,
         number: None,
         is_complete,
+        is_void: false,
         is_floating: false,
         are_elements_floating: false,
+    }
+}
+
+// Of void.
+fn void_facts() -> Facts
+    ensures { result ≡ no_facts }
+{
+    Facts {
+        is_void: true,
+        ..kind_facts(Kind::Other, false)
     }
 }
 
@@ -60,7 +75,7 @@ pub fn facts_at(known: &[Facts], t: TypeId) -> Facts
     ensures { result ≡ slice_index_or known.now t.place no_facts }
 {
     match known.get(t.place as usize) {
-        None => kind_facts(Kind::Other, false),
+        None => void_facts(),
         Some(facts) => *facts,
     }
 }
@@ -83,16 +98,19 @@ pub fn facts_of_row(known: &[Facts], structs: &[StructType], row: &TypeRow) -> F
             ..kind_facts(Kind::Other, true)
         },
         TypeRow::Qualified(_, t) => qualified_facts(facts_at(known, *t)),
-        TypeRow::Void | TypeRow::Function(_) => kind_facts(Kind::Other, false),
+        TypeRow::Void => void_facts(),
+        TypeRow::Function(_) => kind_facts(Kind::Other, false),
     }
 }
 
 // Of an array of so many of these elements.
 fn array_facts(ty: TypeId, element: Facts, count: u32) -> Facts
-    ensures { result ≡ record { kind = Kind.Other; array = Some (record { ty = ty; count = count }); number = None; is_complete = nat_lt 0 count && element.is_complete; is_floating = false; are_elements_floating = element.are_elements_floating } }
+    ensures { result ≡ array_facts ty element count }
 {
+    let elements = Elements { ty, count };
     Facts {
-        array: Some(Elements { ty, count }),
+        array: Some(elements),
+        bare_array: Some(elements),
         are_elements_floating: element.are_elements_floating,
         ..kind_facts(Kind::Other, count > 0 && element.is_complete)
     }

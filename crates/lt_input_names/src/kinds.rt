@@ -1,12 +1,12 @@
 //! What the types of a program's table are, in one walk over its rows.
 
 ghost use Rattle.std.specs.Prelude.{◌≡◌, IfOk, option_map};
-ghost use Rattle.lt_tree.specs.Typing.Types.{scalar_of, target_of, struct_of, is_scalar};
+ghost use Rattle.lt_tree.specs.Typing.Types.{scalar_of, target_of, struct_of, is_void, is_floating, is_scalar};
 ghost use Rattle.lt_tree.specs.Typing.TypeRows.{type_in};
 ghost use Rattle.lt_tree.specs.Typing.EntityView.{structs_of};
 ghost use Rattle.lt_tree.specs.Typing.Extents.{has_size};
 ghost use Rattle.lt_input_names.specs.Blocks.{program_types};
-ghost use Rattle.lt_input_names.specs.Kinds.{AreFacts, AreKinds, array_of, elements_in};
+ghost use Rattle.lt_input_names.specs.Kinds.{AreFacts, AreKinds, array_of, bare_array_of, elements_in};
 
 use crate::facts::{Elements, Facts, Kind, facts_at, facts_of_row};
 use lt_model::Scalar;
@@ -72,12 +72,36 @@ impl<'p> Kinds<'p> {
         self.facts(t).array
     }
 
+    /// What the elements of an array are, qualifiers aside.
+    pub(crate) fn bare_array(&self, t: TypeId) -> Option<Elements>
+        requires { AreKinds self.now }
+        ensures { option_map (elements_in (program_types self.now.program.now)) result ≡ bare_array_of (type_in (program_types self.now.program.now) t) }
+    {
+        self.facts(t).bare_array
+    }
+
     /// The number of the struct that a type is.
     pub fn struct_number(&self, t: TypeId) -> Option<u32>
         requires { AreKinds self.now }
         ensures { result ≡ struct_of (type_in (program_types self.now.program.now) t) }
     {
         self.facts(t).number
+    }
+
+    /// Whether a type is void.
+    pub(crate) fn is_void(&self, t: TypeId) -> bool
+        requires { AreKinds self.now }
+        ensures { result ≡ is_void (type_in (program_types self.now.program.now) t) }
+    {
+        self.facts(t).is_void
+    }
+
+    /// Whether a type is a floating type.
+    pub(crate) fn is_floating(&self, t: TypeId) -> bool
+        requires { AreKinds self.now }
+        ensures { result ≡ is_floating (type_in (program_types self.now.program.now) t) }
+    {
+        self.facts(t).is_floating
     }
 
     /// Whether a type is an integer or a pointer.

@@ -10,7 +10,7 @@ mod part;
 mod roots;
 mod stubs;
 
-pub use block::{Base, Block, ElementType, Specification};
+pub use block::{Base, Block, ElementType, LineBlock, Specification};
 pub use facts::Elements;
 pub use kinds::Kinds;
 pub use names::Names;

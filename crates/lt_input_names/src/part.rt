@@ -17,11 +17,27 @@ pub struct Part {
     pub ty: PartType,
 }
 
-/// A part of an object: its type, and the byte at which it begins.
+/// An array: the type of its elements, and how many there are.
 #[derive(Clone, Copy)]
-pub(crate) struct Piece {
+pub(crate) struct ArrayType {
+    pub element: ElementType,
+    pub count: u32,
+}
+
+/// Parts of an object that are of one type, by the bytes at which they begin.
+#[derive(Drop)]
+pub(crate) struct Pieces {
     pub ty: PartType,
-    pub offset: u64,
+    pub offsets: Vec<u64>,
+}
+
+/// Where a step leads within a part: to parts of one type, the first of which begins at this byte, so many bytes apart.
+#[derive(Clone, Copy)]
+pub(crate) struct Stride {
+    pub ty: PartType,
+    pub start: u64,
+    pub apart: u64,
+    pub count: u32,
 }
 
 /// An object with a name: its type, and whether it is a block.

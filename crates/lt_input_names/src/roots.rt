@@ -6,10 +6,10 @@ ghost use Rattle.lt_tree.specs.Typing.Types.{CType};
 ghost use Rattle.lt_tree.specs.Typing.EntityView.{object_of, life_of};
 ghost use Rattle.lt_tree.specs.Typing.ProgramView.{program_of};
 ghost use Rattle.lt_entry.specs.Naming.{roots, root_among, parameters_of, object_root, block_root};
-ghost use Rattle.lt_input_names.specs.Blocks.{program_types, block_of, scope_with};
+ghost use Rattle.lt_input_names.specs.Blocks.{program_types, block_of, line_block_of, scope_with};
 ghost use Rattle.lt_input_names.specs.Roots.{root_in, row_part, Puts};
 
-use crate::block::{Base, Block, ElementType};
+use crate::block::{Base, Block, ElementType, LineBlock};
 use crate::first::put_first;
 use crate::part::{PartType, Root};
 use lt_tree::typed::{Function, Life, Object, Program, TypeId};
@@ -105,21 +105,33 @@ fn put_blocks<'p>(
     Ok(())
 }
 
+/// A block that a line makes.
+pub fn put_line_block<'p>(
+    roots: &mut HashMap<&'p [u8], Root>,
+    block: LineBlock<'p>,
+) -> Result<(), AllocError>
+    ensures { OnOk result ((types : List CType) → Puts types roots.old roots.new (block_root (line_block_of types block.entry) ∷ [])) }
+{
+    put_first(roots, block.name, root_of_block(block.element, block.count))?;
+    Ok(())
+}
+
 // A block.
 fn put_block<'p>(roots: &mut HashMap<&'p [u8], Root>, block: &'p Block) -> Result<(), AllocError>
     ensures { OnOk result ((types : List CType) → Puts types roots.old roots.new (block_root (block_of types block.now) ∷ [])) }
 {
-    put_first(roots, block.name.as_slice(), root_of_block(block))?;
+    let root = root_of_block(block.element, block.count);
+    put_first(roots, block.name.as_slice(), root)?;
     Ok(())
 }
 
-fn root_of_block(block: &Block) -> Root
-    ensures { result ≡ record { ty = record { element = block.now.element; count = Some block.now.count }; is_block = true } }
+fn root_of_block(element: ElementType, count: u32) -> Root
+    ensures { result ≡ record { ty = record { element = element; count = Some count }; is_block = true } }
 {
     Root {
         ty: PartType {
-            element: block.element,
-            count: Some(block.count),
+            element,
+            count: Some(count),
         },
         is_block: true,
     }

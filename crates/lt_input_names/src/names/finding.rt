@@ -1,20 +1,21 @@
 // What is found by names.
 
-ghost use Rattle.std.specs.Prelude.{◌≡◌, ◌<◌, ◌-◌, None, IfOk, option_map};
+ghost use Rattle.std.specs.Prelude.{◌≡◌, ◌<◌, ◌-◌, None, IfOk, OnOk, is_some, option_map};
 ghost use Rattle.lt_tree.specs.Typing.Types.{scalar_of, target_of};
 ghost use Rattle.lt_entry.specs.Conditions.{stubs_of, stub_among};
 ghost use Rattle.lt_entry.specs.Naming.{roots, root_among};
 ghost use Rattle.lt_input_names.specs.Blocks.{scope_with};
 ghost use Rattle.lt_input_names.specs.Roots.{root_at};
-ghost use Rattle.lt_input_names.specs.Views.{AreNames, scope_of, program_at, types_at, type_at};
+ghost use Rattle.lt_input_names.specs.Views.{AreNames, AreNew, HasAdded, scope_of, program_at, types_at, type_at};
 
 use super::Names;
-use crate::block::{Base, Block, ElementType};
+use crate::block::{Base, Block, ElementType, LineBlock};
 use crate::kinds::Kinds;
 use crate::part::{PartType, Root};
-use crate::roots::{roots_of, row_type};
+use crate::roots::{put_line_block, roots_of, row_type};
 use crate::stubs::types_of_stubs;
 use lt_model::{DataModel, Scalar};
+use lt_tables::{BareTypes, Layouts};
 use lt_tree::typed::Program;
 use std::alloc::{AllocError, Global};
 
@@ -28,13 +29,19 @@ impl<'p> Names<'p> {
     ) -> Result<Names<'p>, AllocError>
         ensures scope { IfOk result (λ names. scope_of names ≡ scope_with program.now entry blocks.now) }
         ensures names { IfOk result AreNames }
+        ensures fresh { IfOk result (AreNew program.now) }
     {
         let kinds = Kinds::new(alloc, program)?;
         let roots = roots_of(alloc, program, entry, blocks)?;
         let stubs = types_of_stubs(alloc, &kinds)?;
+        let layouts = Layouts::new(alloc, program)?;
+        let bare = BareTypes::new(alloc, program)?;
         Ok(Names {
             kinds,
+            layouts,
+            bare,
             entry,
+            added: Vec::new(alloc),
             blocks,
             roots,
             stubs,
@@ -89,6 +96,26 @@ impl<'p> Names<'p> {
         ensures { result ≡ stub_among name.now (stubs_of (program_at self.now)) }
     {
         self.stubs.get(name).copied()
+    }
+
+    /// Whether an object has this name.
+    pub fn has(&self, name: &[u8]) -> bool
+        requires { AreNames self.now }
+        ensures { result ≡ is_some (root_among (roots (scope_of self.now)) name.now) }
+    {
+        self.root(name).is_some()
+    }
+
+    /// A further block, behind those that lines made before, where no object has its name.
+    pub fn add(&mut self, block: LineBlock<'p>) -> Result<(), AllocError>
+        requires names { AreNames self.old }
+        requires new { root_among (roots (scope_of self.old)) block.name.now ≡ None }
+        ensures names { OnOk result (AreNames self.new) }
+        ensures added { OnOk result (HasAdded self.old self.new block.entry) }
+    {
+        self.added.push(block)?;
+        put_line_block(&mut self.roots, block)?;
+        Ok(())
     }
 
     // The object of this name.

@@ -1,8 +1,4 @@
-use Rattle.std.proofs.Common.{refl}
-use Rattle.std.specs.Prelude.{option_map}
-use Rattle.lt_tree.specs.Typing.EntityView.{object_of}
-use Rattle.lt_tree.specs.Typing.Entities.{is_linked}
-use Rattle.lt_entry.specs.Naming.{object_root, block_root}
+use Rattle.lt_entry.specs.Naming.{block_root}
 use Rattle.lt_input_names.specs.Blocks.{block_of}
 use Rattle.lt_input_names.proofs.RootLaws.{puts_none, puts_mapped}
 use Rattle.lt_input_names.proofs.roots.put_blocks.Goals as goal

@@ -1,9 +1,6 @@
 use Rattle.std.proofs.Common.{List, take, map}
-use Rattle.std.specs.Prelude.{option_map}
 use Rattle.lt_tree.specs.Typing.Types.{CType}
-use Rattle.lt_tree.specs.Typing.EntityView.{object_of}
-use Rattle.lt_tree.specs.Typing.Entities.{is_linked}
-use Rattle.lt_entry.specs.Naming.{object_root, block_root}
+use Rattle.lt_entry.specs.Naming.{block_root}
 use Rattle.lt_input_names.specs.Blocks.{block_of}
 use Rattle.lt_input_names.specs.Roots.{Puts}
 use Rattle.lt_input_names.proofs.roots.put_blocks.Given as goal

@@ -1,4 +1,4 @@
-use Rattle.std.proofs.Common.{◌≡◌, None, Some, sym, ap, ◌∙◌, subst, slice_get}
+use Rattle.std.proofs.Common.{None, Some, sym, ap, ◌∙◌, subst, slice_get}
 use Rattle.std.specs.Prelude.{option_map}
 use Rattle.std.specs.List.{filter_map}
 use Rattle.lt_tree.specs.Typing.EntityView.{object_of}

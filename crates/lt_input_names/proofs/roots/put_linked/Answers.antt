@@ -1,4 +1,4 @@
-use Rattle.std.proofs.Common.{◌≡◌, false, true, cond, Some, None, sym, ap, ◌∙◌, subst}
+use Rattle.std.proofs.Common.{cond, Some, None, sym, ◌∙◌, subst}
 use Rattle.std.specs.Prelude.{option_to_list}
 use Rattle.lt_tree.specs.Typing.EntityView.{object_of}
 use Rattle.lt_entry.specs.Naming.{object_root}

@@ -1,4 +1,4 @@
-use Rattle.std.proofs.Common.{◌≡◌, None, Some, sym, ap, ◌∙◌, subst}
+use Rattle.std.proofs.Common.{sym, ap, ◌∙◌, subst}
 use Rattle.std.specs.Prelude.{option_map, option_to_list}
 use Rattle.lt_tree.specs.Typing.EntityView.{object_of}
 use Rattle.lt_entry.specs.Naming.{object_root}

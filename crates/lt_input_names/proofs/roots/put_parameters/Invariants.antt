@@ -3,9 +3,7 @@ use Rattle.std.specs.Prelude.{option_map}
 use Rattle.std.specs.List.{filter_map}
 use Rattle.lt_tree.specs.Typing.Types.{CType}
 use Rattle.lt_tree.specs.Typing.EntityView.{object_of}
-use Rattle.lt_tree.specs.Typing.Entities.{is_linked}
-use Rattle.lt_entry.specs.Naming.{object_root, block_root}
-use Rattle.lt_input_names.specs.Blocks.{block_of}
+use Rattle.lt_entry.specs.Naming.{object_root}
 use Rattle.lt_input_names.specs.Roots.{Puts}
 use Rattle.lt_input_names.proofs.roots.put_parameters.Given as goal
 

@@ -1,4 +1,4 @@
-use Rattle.std.proofs.Common.{◌≡◌, map, sym, ap, ◌∙◌}
+use Rattle.std.proofs.Common.{sym, ap, ◌∙◌}
 use Rattle.std.specs.List.{filter_map}
 use Rattle.lt_tree.specs.Typing.EntityView.{declared_of}
 use Rattle.lt_tree.specs.Typing.ProgramView.{program_of}

@@ -1,6 +1,5 @@
-use Rattle.std.proofs.Common.{◌≡◌, ◌<◌, ◌∷◌, [], length, ap, subst, arith, length-append}
+use Rattle.std.proofs.Common.{◌≡◌, ◌∷◌, [], length, ap, subst, arith, length-append}
 use Rattle.lt_tree.specs.Typing.EntityView.{structs_of}
-use Rattle.lt_tree.specs.Typing.TypeRows.{types_of_rows}
 use Rattle.lt_input_names.specs.Blocks.{program_types}
 use Rattle.lt_input_names.proofs.FactRows.{AreFactsBelow, row_made, all_facts}
 use Rattle.lt_input_names.proofs.kinds.Kinds.new.Goals as goal

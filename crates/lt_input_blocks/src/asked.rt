@@ -1,0 +1,41 @@
+//! What is asked of the type of a block's elements.
+
+ghost use Rattle.std.specs.Prelude.{◌≡◌, ◌*◌, Some, not, nat_lt, true, false};
+ghost use Rattle.lt_model.specs.Layout.{most_cells};
+ghost use Rattle.lt_tree.specs.Typing.Types.{CType};
+ghost use Rattle.lt_tree.specs.Typing.Programs.{Program};
+ghost use Rattle.lt_entry.specs.Conditions.{is_block};
+ghost use Rattle.lt_input_lines.specs.Views.{numeral_view};
+ghost use Rattle.lt_input_blocks.specs.Elements.{IsAsked};
+
+use crate::facts::MOST_CELLS;
+use lt_input_lines::Numeral;
+
+/// What is asked of the type of a block's elements.
+#[derive(Clone, Copy)]
+pub struct Asked {
+    pub has_size: bool,
+    /// Of the elements of an array, and of theirs; of no array the type itself.
+    pub is_pointer_to_function: bool,
+    /// More than an object may have count as one more than that.
+    pub cells: u32,
+}
+
+/// Whether a block of so many elements may be made, of whose type this is known.
+pub fn is_block(asked: Asked, count: Numeral) -> bool
+    ensures positive { result ≡ true → count.is_negative ≡ false }
+    ensures block { (program : Program) (t : CType) → IsAsked program.structs t asked → result ≡ is_block program (numeral_view count) (Some t) }
+{
+    !count.is_negative
+        && count.size > 0
+        && asked.has_size
+        && !asked.is_pointer_to_function
+        && is_object(asked.cells, count.size)
+}
+
+// Whether an object may have so many elements with so many cells.
+fn is_object(cells: u32, count: u64) -> bool
+    ensures { result ≡ not (nat_lt most_cells (count * cells)) }
+{
+    u128::from(count) * u128::from(cells) <= u128::from(MOST_CELLS)
+}

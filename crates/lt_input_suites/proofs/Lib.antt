@@ -1,0 +1,7 @@
+mod Said
+mod Sets
+mod Singles
+mod Puts
+mod Drafted
+mod Fronts
+mod Differ

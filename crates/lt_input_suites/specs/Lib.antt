@@ -1,0 +1,4 @@
+pub mod Parts
+pub mod Drafts
+pub mod Reading
+pub mod Laws
