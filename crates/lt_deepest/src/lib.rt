@@ -7,8 +7,6 @@ mod nest;
 #[cfg(test)]
 mod printing;
 #[cfg(test)]
-mod small;
-#[cfg(test)]
 mod typing;
 #[cfg(test)]
 mod units;

@@ -39,7 +39,7 @@ abbrev pub addend_view : addend.Addend → Addend
 addend_view a = record { is_minus = a.is_minus; term = term_view a.term }
 
 abbrev pub block_view : block.BlockLine → Line
-block_view l = block_line l.name.now (map (λ word. word.now) l.ty.now) (numeral_view l.count)
+block_view l = block_line l.name.now (map (λ word. word.now) l.ty.items) (numeral_view l.count)
 
 abbrev pub range_view : range.RangeLine → Line
 range_view l = range_line (place_view l.place) (numeral_view l.low) (numeral_view l.high)

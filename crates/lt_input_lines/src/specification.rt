@@ -33,10 +33,10 @@ pub struct Addend<'a> {
 }
 
 /// `block NAME TYPE COUNT`
-#[derive(Clone, Copy)]
+#[derive(Drop)]
 pub struct BlockLine<'a> {
     pub name: &'a [u8],
-    pub ty: &'a [&'a [u8]],
+    pub ty: Vec<&'a [u8]>,
     pub count: Numeral,
 }
 
@@ -199,19 +199,37 @@ fn targets_of<'a>(
     Ok(Some(targets))
 }
 
-fn block_line<'a>(words: &'a [&'a [u8]]) -> Option<BlockLine<'a>>
-    ensures { option_map block_view result ≡ read_block (map (λ word. word.now) words.now) }
+fn block_line<'a>(alloc: Global, words: &[&'a [u8]]) -> Result<Option<BlockLine<'a>>, AllocError>
+    ensures { IfOk result (λ o. option_map block_view o ≡ read_block (map (λ word. word.now) words.now)) }
 {
-    let (name, behind) = words.split_first()?;
-    let (count, ty) = behind.split_last()?;
-    if !is_name(name) {
-        return None;
+    let Some((name, behind)) = words.split_first() else {
+        return Ok(None);
+    };
+    match behind.split_last() {
+        Some((count, ty)) => block_from(alloc, name, ty, numeral_of(count)),
+        None => Ok(None),
     }
-    Some(BlockLine {
-        name,
-        ty,
-        count: numeral_of(count)?,
-    })
+}
+
+fn block_from<'a>(
+    alloc: Global,
+    name: &'a [u8],
+    ty: &[&'a [u8]],
+    count: Option<Numeral>,
+) -> Result<Option<BlockLine<'a>>, AllocError>
+    ensures { IfOk result (λ o. option_map block_view o ≡ reading.block_from name.now (map (λ word. word.now) ty.now) (option_map numeral_view count)) }
+{
+    if !is_name(name) {
+        return Ok(None);
+    }
+    match count {
+        Some(count) => Ok(Some(BlockLine {
+            name,
+            ty: Vec::from_slice(alloc, ty)?,
+            count,
+        })),
+        None => Ok(None),
+    }
 }
 
 #[tactic(auto, using(crate::proofs::LinesRead::no_range))]
@@ -330,7 +348,7 @@ fn require_line<'a>(
 }
 
 /// The line of a specification that words write.
-pub fn line_of<'a>(alloc: Global, words: &'a [&'a [u8]]) -> Result<Option<Line<'a>>, AllocError>
+pub fn line_of<'a>(alloc: Global, words: &[&'a [u8]]) -> Result<Option<Line<'a>>, AllocError>
     ensures { IfOk result (λ o. option_map line_view o ≡ read_line (map (λ word. word.now) words.now)) }
 {
     let Some((keyword, rest)) = words.split_first() else {
@@ -345,7 +363,7 @@ pub fn line_of<'a>(alloc: Global, words: &'a [&'a [u8]]) -> Result<Option<Line<'
     if *keyword == b"require".as_slice() {
         return Ok(require_line(alloc, rest)?.map(Line::Require));
     }
-    Ok(short_line(keyword, rest))
+    short_line(alloc, keyword, rest)
 }
 
 fn entry_line<'a>(words: &[&'a [u8]]) -> Option<&'a [u8]>
@@ -358,17 +376,21 @@ fn entry_line<'a>(words: &[&'a [u8]]) -> Option<&'a [u8]>
 }
 
 // A line with no place.
-fn short_line<'a>(keyword: &[u8], rest: &'a [&'a [u8]]) -> Option<Line<'a>>
-    ensures { option_map line_view result ≡ read_short keyword.now (map (λ word. word.now) rest.now) }
+fn short_line<'a>(
+    alloc: Global,
+    keyword: &[u8],
+    rest: &[&'a [u8]],
+) -> Result<Option<Line<'a>>, AllocError>
+    ensures { IfOk result (λ o. option_map line_view o ≡ read_short keyword.now (map (λ word. word.now) rest.now)) }
 {
     if keyword == b"entry".as_slice() {
-        return entry_line(rest).map(Line::Entry);
+        return Ok(entry_line(rest).map(Line::Entry));
     }
     if keyword == b"block".as_slice() {
-        return block_line(rest).map(Line::Block);
+        return Ok(block_line(alloc, rest)?.map(Line::Block));
     }
     if keyword == b"stub".as_slice() {
-        return stub_line(rest).map(Line::Stub);
+        return Ok(stub_line(rest).map(Line::Stub));
     }
-    None
+    Ok(None)
 }

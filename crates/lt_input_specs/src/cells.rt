@@ -25,8 +25,8 @@ fn want_to(alloc: Global, block: Option<&[u8]>) -> Result<Want, AllocError>
     Ok(Want::OneOf(Sequence::new(targets)))
 }
 
-// What a cell may hold of which no line says anything, where a pointer may point to this block.
-fn any_value(
+/// What a cell may hold of which no line says anything, where a pointer may point to this block.
+pub fn any_value(
     alloc: Global,
     model: DataModel,
     ty: CellType,
@@ -40,7 +40,8 @@ fn any_value(
     }
 }
 
-fn zero_start(ty: CellType) -> StartValue
+/// 0 or null.
+pub fn zero_start(ty: CellType) -> StartValue
     ensures { result ≡ zero_start ty }
 {
     match ty {

@@ -57,15 +57,15 @@ fn spec_of(alloc: Global, kinds: &Kinds<'_>, number: usize) -> Result<Specificat
     })
 }
 
-// The number as specifications have it; more than 2^32 functions have no memory.
-fn place_of(number: usize) -> Result<u32, AllocError>
+/// The number as specifications have it; more than 2^32 functions have no memory.
+pub fn place_of(number: usize) -> Result<u32, AllocError>
     ensures { IfOk result (λ it. it ≡ number) }
 {
     u32::try_from(number).map_err(|_| AllocError)
 }
 
-// The default blocks, as an input has them.
-fn blocks_in(
+/// The default blocks, as an input has them.
+pub fn blocks_in(
     alloc: Global,
     kinds: &Kinds<'_>,
     tables: &Tables<'_>,

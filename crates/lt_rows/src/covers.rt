@@ -3,7 +3,7 @@
 use crate::pairs::pair;
 use crate::stop::Stop;
 use crate::words::Words;
-use lt_cover::{MergeStop, merge, read_cover, write_cover};
+use lt_cover::{Coverage, MergeStop, merge, read_cover, write_cover};
 use std::alloc::Global;
 
 /// What is written of the table that a text stands for.
@@ -33,13 +33,18 @@ fn difference(alloc: Global, stop: MergeStop) -> Result<Vec<u8>, Stop> {
     Ok(words.into_bytes())
 }
 
-/// What is written of the merge of two tables, or on what they don't agree.
+/// What is written of the merge of these tables, or on what they don't agree.
+pub fn merged_text(alloc: Global, left: &Coverage, right: &Coverage) -> Result<Vec<u8>, Stop> {
+    match merge(alloc, left, right) {
+        Ok(table) => Ok(write_cover(alloc, &table)?),
+        Err(stop) => difference(alloc, stop),
+    }
+}
+
+/// What is written of the merge of two texts, or on what they don't agree.
 pub fn merged(alloc: Global, text: &[u8]) -> Result<Vec<u8>, Stop> {
     let (left, right) = pair(text)?;
     let left = read_cover(alloc, left)?;
     let right = read_cover(alloc, right)?;
-    match merge(alloc, &left, &right) {
-        Ok(table) => Ok(write_cover(alloc, &table)?),
-        Err(stop) => difference(alloc, stop),
-    }
+    merged_text(alloc, &left, &right)
 }

@@ -1,7 +1,7 @@
 //! What is asked of the texts of rows.
 
 use crate::stop::Stop;
-use crate::{covers, expressions, known, numbers, printed, rules, small, table, tokens, units};
+use crate::{covers, expressions, known, numbers, printed, replays, rules, table, tokens, units};
 use lt_model::DataModel;
 use std::alloc::Global;
 
@@ -29,10 +29,10 @@ pub enum Question<'a> {
     Types(DataModel),
     Layout(DataModel),
     Constant(DataModel),
-    Small,
-    Coverage,
     CoverageFile,
     CoverageMerge,
+    /// In this model, with so many ticks a run.
+    Replay(DataModel, u64),
     Operator(DataModel),
     Conversion(DataModel),
     Promotion(DataModel),
@@ -64,8 +64,16 @@ impl<'a> Question<'a> {
             None => Question::alone(heading),
             Some(("expression", names)) => Some(Question::Expression(names)),
             Some(("expression size", names)) => Some(Question::ExpressionSize(names)),
+            Some(("replay", words)) => Question::replay(words),
             Some((name, model)) => Question::in_model(name, model_named(model)?),
         }
+    }
+
+    // In a model, with so many ticks.
+    fn replay(words: &str) -> Option<Question<'a>> {
+        let (model, steps) = words.split_once(' ')?;
+        let steps = steps.parse::<u64>().ok()?;
+        Some(Question::Replay(model_named(model)?, steps))
     }
 
     fn alone(name: &str) -> Option<Question<'a>> {
@@ -84,8 +92,6 @@ impl<'a> Question<'a> {
             "erased" => Some(Question::Erased),
             "erased length" => Some(Question::ErasedLength),
             "purity" => Some(Question::Purity),
-            "small" => Some(Question::Small),
-            "coverage" => Some(Question::Coverage),
             "coverage file" => Some(Question::CoverageFile),
             "coverage merge" => Some(Question::CoverageMerge),
             "sum" => Some(Question::Sum),
@@ -142,10 +148,9 @@ impl<'a> Question<'a> {
             Question::Types(model) => table::types(alloc, text, model),
             Question::Layout(model) => known::layouts(alloc, text, model),
             Question::Constant(model) => table::constant(alloc, text, model),
-            Question::Small => small::is_read(alloc, text),
-            Question::Coverage => small::coverage(alloc, text),
             Question::CoverageFile => covers::rewritten(alloc, text),
             Question::CoverageMerge => covers::merged(alloc, text),
+            Question::Replay(model, steps) => replays::replayed(alloc, text, model, steps),
             Question::Operator(model) => numbers::operator(alloc, text, model),
             Question::Conversion(model) => numbers::conversion(alloc, text, model),
             Question::Promotion(model) => numbers::promotion(alloc, text, model),

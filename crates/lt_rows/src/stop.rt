@@ -2,7 +2,10 @@
 
 use lt_cover::CoverStop;
 use lt_expr::ParseStop;
+use lt_input_specs::NoSpec;
+use lt_input_suites::NoSuite;
 use lt_lex::LexStop;
+use lt_spec_reader::NoSpecification;
 use lt_type::TypeStop;
 use std::alloc::{AllocError, AllocFailed};
 use thiserror::Error;
@@ -50,6 +53,12 @@ pub enum Stop {
     Broken(u8),
     #[error("Row {0}")]
     CoverageRow(u32),
+    #[error("no entry")]
+    NoEntry,
+    #[error("entry line {0}")]
+    EntryLine(u32),
+    #[error("suite line {0}")]
+    SuiteLine(u32),
     #[error("the canonical text isn't printed as it stands")]
     NotCanonical,
     #[error("a mark is left in the erasure")]
@@ -95,6 +104,33 @@ impl From<CoverStop> for Stop {
         match stop {
             CoverStop::Row(number) => Stop::CoverageRow(number),
             CoverStop::NoMemory => Stop::NoMemory,
+        }
+    }
+}
+
+impl From<NoSpec> for Stop {
+    fn from(stop: NoSpec) -> Stop {
+        match stop {
+            NoSpec::NoEntry => Stop::NoEntry,
+            NoSpec::NoMemory => Stop::NoMemory,
+        }
+    }
+}
+
+impl From<NoSpecification> for Stop {
+    fn from(stop: NoSpecification) -> Stop {
+        match stop {
+            NoSpecification::Line(number) => Stop::EntryLine(number),
+            NoSpecification::NoMemory => Stop::NoMemory,
+        }
+    }
+}
+
+impl From<NoSuite> for Stop {
+    fn from(stop: NoSuite) -> Stop {
+        match stop {
+            NoSuite::Line(number) => Stop::SuiteLine(number),
+            NoSuite::NoMemory => Stop::NoMemory,
         }
     }
 }

@@ -1,1 +1,6 @@
-pub mod Due
+pub mod Spelling
+pub mod Nodes
+pub mod Reading
+pub mod Merging
+pub mod Stages
+mod Stopped

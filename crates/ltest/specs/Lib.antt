@@ -1,3 +1,3 @@
-pub mod Words
-pub mod Top
-pub mod Messages
+pub mod Texts
+pub mod Stages
+pub mod Usage

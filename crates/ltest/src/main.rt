@@ -1,16 +1,22 @@
-// The program `ltest`; `specs/Top.antt` says what a command does between the files and what is put.
+// The program `ltest`; `src/top.rt` says what a command does between the files and what is put, in the words of `lt_answers`.
 #![tactic(auto)]
 
-mod message;
-mod status;
+mod coverages;
+mod laws;
+mod merges;
+mod programs;
+mod replays;
+mod specifications;
+mod stops;
+mod suites;
 #[cfg(test)]
 mod tests;
+mod text;
 mod top;
-mod words;
+mod units;
 
+use lt_answers::{Status, code, message};
 use lt_outside::{DirShelf, StdSink};
-use message::{code, message};
-use status::Status;
 use std::env;
 use std::io::ErrorKind;
 use std::process::ExitCode;

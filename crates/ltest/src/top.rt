@@ -1,90 +1,81 @@
-ghost use Rattle.std.specs.Prelude.{◌≡◌, ◌≢◌, ◌≤◌, ◌↔◌, ◌⊎◌, ℕ, IfOk, IfErr, OnOk, OnErr, IfSome, Option, Some, None};
-ghost use Rattle.lt_outside.specs.Count.{raised, Rose};
-ghost use Rattle.lt_outside.specs.Shelf.{Files};
-ghost use Rattle.lt_outside.specs.Sink.{Appends, AppendsPart};
-ghost use Rattle.ltest.specs.Words.{Plan, plan_of, plan_in, words_of};
-ghost use Rattle.ltest.specs.Top.{IsDue, IsOutside, HasCause, HasPuts, IsText, IsPut, IsFrontPut, Gave, ReadEnds, Ends, PutEnds, HasReadCause};
-ghost use Rattle.ltest.specs.declared.status.Status.{Status};
+//! The top call: from the words of a command line and the files of a shelf to what is put on a sink.
 
-use crate::status::{Refusal, Status};
-use crate::words::{Command, plan};
-use lt_model::Name;
-use lt_outside::{PutStop, ReadStop, Shelf, Sink};
-use lt_replay::{FirstStop, first};
+ghost use Rattle.std.specs.Prelude.{◌≡◌, ◌≢◌, ◌⊎◌, IfOk, IfErr, Option, Some};
+ghost use Rattle.lt_outside.specs.Shelf.{Files};
+ghost use Rattle.lt_command.specs.Plan.{Plan, convert, plan_of, replay};
+ghost use Rattle.lt_command.specs.Answers.{plan_in, replay_in, words_of};
+ghost use Rattle.lt_answers.specs.Answers.{Ends, FirstIsRead, HasCause, HasPuts, HasReadCause, IsDue, IsFrontPut, IsOutside, IsPut, IsSame, IsText, NamesFile, names_of};
+ghost use Rattle.lt_answers.specs.declared.status.Status.{Status};
+ghost use Rattle.ltest.specs.Usage.{TellsUsage};
+
+use crate::laws::parts_keep_laws;
+use crate::text::{conversion_text, replay_text};
+use lt_answers::{Status, one_answer_is_due};
+use lt_command::{Command, PlanStop, Replay, plan};
+use lt_outside::{Shelf, Sink};
+use lt_sources::{put_text, read_file, read_sources};
 use std::alloc::Global;
 
-// The most bytes of a file that is read.
-const MOST_BYTES: u64 = 4_194_304;
-
-// Reads a file whole.
-fn read_file<S: Shelf>(alloc: Global, shelf: &mut S, name: &str) -> Result<Vec<u8>, Status>
-    ensures gives { IfOk result (λ v. Gave (S.told shelf.old) name.now v.items) }
-    ensures ends { IfErr result (λ status. ReadEnds (S.told shelf.old) name.now status) }
+// The coverage text of a suite's replay.
+fn replay<S: Shelf>(alloc: Global, shelf: &mut S, asked: &Replay<'_>) -> Result<Vec<u8>, Status>
+    ensures text { IfOk result (λ v. IsText (S.told shelf.old) (replay (replay_in asked.now)) v.items) }
+    ensures ends { IfErr result (λ status. Ends (S.told shelf.old) (replay (replay_in asked.now)) status) }
+    ensures names { IfErr result (λ status. NamesFile (names_of (replay (replay_in asked.now))) status) }
     ensures cause { IfErr result (λ status. HasReadCause status (S.missed shelf.old) (S.missed shelf.new) (S.read_faults shelf.old) (S.read_faults shelf.new)) }
     ensures stays { S.told shelf.new ≡ S.told shelf.old }
-    ensures misses { S.missed shelf.old ≤ S.missed shelf.new }
-    ensures faults { S.read_faults shelf.old ≤ S.read_faults shelf.new }
 {
-    match shelf.read(alloc, name, MOST_BYTES) {
-        Ok(bytes) => Ok(bytes),
-        Err(ReadStop::Absent) => match Name::new(alloc, name.as_bytes()) {
-            Ok(name) => Err(Status::Absent(name)),
-            Err(_) => Err(Status::NoMemory),
-        },
-        Err(ReadStop::TooLong(len)) => match Name::new(alloc, name.as_bytes()) {
-            Ok(name) => Err(Status::TooLong(name, len)),
-            Err(_) => Err(Status::NoMemory),
-        },
-        Err(ReadStop::Failed) => Err(Status::ReadFault),
-        Err(ReadStop::NoMemory) => Err(Status::NoMemory),
-    }
+    let from = read_sources(alloc, shelf, asked)?;
+    let text = replay_text(alloc, &from)?;
+    Ok(text)
 }
 
-// The coverage text of two files, or why there is none.
+// The text of a coverage file in the latest version.
+fn conversion<S: Shelf>(alloc: Global, shelf: &mut S, file: &str) -> Result<Vec<u8>, Status>
+    ensures text { IfOk result (λ v. IsText (S.told shelf.old) (convert file.now) v.items) }
+    ensures ends { IfErr result (λ status. Ends (S.told shelf.old) (convert file.now) status) }
+    ensures names { IfErr result (λ status. NamesFile (names_of (convert file.now)) status) }
+    ensures cause { IfErr result (λ status. HasReadCause status (S.missed shelf.old) (S.missed shelf.new) (S.read_faults shelf.old) (S.read_faults shelf.new)) }
+    ensures stays { S.told shelf.new ≡ S.told shelf.old }
+{
+    let bytes = read_file(alloc, shelf, file)?;
+    let text = conversion_text(alloc, bytes.as_slice())?;
+    Ok(text)
+}
+
+// The text of a command, or why there is none.
 fn answer<S: Shelf>(alloc: Global, shelf: &mut S, command: Command<'_>) -> Result<Vec<u8>, Status>
     ensures text { IfOk result (λ v. IsText (S.told shelf.old) (plan_in command.entry) v.items) }
     ensures ends { IfErr result (λ status. Ends (S.told shelf.old) (plan_in command.entry) status) }
+    ensures names { IfErr result (λ status. NamesFile (names_of (plan_in command.entry)) status) }
     ensures cause { IfErr result (λ status. HasReadCause status (S.missed shelf.old) (S.missed shelf.new) (S.read_faults shelf.old) (S.read_faults shelf.new)) }
     ensures stays { S.told shelf.new ≡ S.told shelf.old }
 {
-    let text = read_file(alloc, shelf, command.file)?;
-    let suite = read_file(alloc, shelf, command.suite)?;
-    match first(alloc, text.as_slice(), suite.as_slice()) {
-        Ok(out) => Ok(out),
-        Err(FirstStop::NotYet(which)) => Err(Status::Refused(Refusal::NotYet(which))),
-        Err(FirstStop::NoMemory) => Err(Status::NoMemory),
+    match command {
+        Command::Replay(asked) => replay(alloc, shelf, &asked),
+        Command::Convert(file) => conversion(alloc, shelf, file),
     }
 }
 
-// Puts the text, in one put.
-fn put_text<K: Sink>(out: &mut K, text: &[u8]) -> Status
-    ensures ends { PutEnds (K.taken out.old) (K.taken out.new) text.now result }
-    ensures cause { result ≡ Status.WriteFault → Rose (K.put_faults out.old) (K.put_faults out.new) }
-    ensures puts { K.puts out.new ≡ raised (K.puts out.old) }
-{
-    match out.put(text) {
-        Ok(()) => Status::Done,
-        Err(PutStop::Failed) => Status::WriteFault,
-        Err(PutStop::NoMemory) => Status::NoMemory,
-    }
-}
-
-/// Does what the words ask for: `replay FILE SUITE` reads a function and a suite from the shelf, at most 4,194,304 bytes
-/// each, and puts the coverage text on the sink, in one put. The sink takes nothing on any status but `Done` and `WriteFault`.
+/// Does what the words ask for: a command reads its files from the shelf, at most 4,194,304 bytes each, and puts its text on
+/// the sink, in one put. The sink takes nothing on any status but `Done` and `WriteFault`.
 pub fn ltest<S: Shelf, K: Sink>(
     alloc: Global,
     words: &[String],
     shelf: &mut S,
     out: &mut K,
 ) -> Status
-    // On Done the coverage text of exactly the two files was put.
+    // On Done the text of exactly the command's files was put.
     ensures done { result ≡ Status.Done → IsPut (S.told shelf.old) (plan_of (words_of words.now)) (K.taken out.old) (K.taken out.new) }
-    // Usage comes exactly where the words are of no command form.
-    ensures usage { (result ≡ Status.Usage) ↔ (plan_of (words_of words.now) ≡ None) }
+    // Usage comes exactly where the words are of no command form, but for want of memory.
+    ensures usage { TellsUsage (plan_of (words_of words.now)) result }
     // Each answer but a fault and want of memory is the one that is due.
     ensures due { (files : Files) (asked : Plan) → S.told shelf.old ≡ Some files → plan_of (words_of words.now) ≡ Some asked → IsOutside result ⊎ IsDue files asked result }
-    // The answer that is due comes, but for a fault or want of memory.
-    ensures exact { (files : Files) (asked : Plan) (s : Status) → S.told shelf.old ≡ Some files → plan_of (words_of words.now) ≡ Some asked → IsDue files asked s → IsOutside result ⊎ (result ≡ s) }
+    // The answer that is due comes, but for a fault or want of memory, and for the place that a syntax fault names.
+    ensures exact { (files : Files) (asked : Plan) (s : Status) → S.told shelf.old ≡ Some files → plan_of (words_of words.now) ≡ Some asked → IsDue files asked s → IsOutside result ⊎ IsSame result s }
+    // A fault of reading is told only where the first file was there to be read.
+    ensures read_fault { (files : Files) (asked : Plan) → S.told shelf.old ≡ Some files → plan_of (words_of words.now) ≡ Some asked → result ≡ Status.ReadFault → FirstIsRead files (names_of asked) }
+    // A miss names a file of the command.
+    ensures names { (asked : Plan) → plan_of (words_of words.now) ≡ Some asked → NamesFile (names_of asked) result }
     // A miss or a fault is told only where its count rose.
     ensures cause { HasCause result (record { missed = S.missed shelf.old; read_faults = S.read_faults shelf.old; put_faults = K.put_faults out.old })
         (record { missed = S.missed shelf.new; read_faults = S.read_faults shelf.new; put_faults = K.put_faults out.new }) }
@@ -94,11 +85,14 @@ pub fn ltest<S: Shelf, K: Sink>(
     ensures nothing_put { result ≢ Status.Done → result ≢ Status.WriteFault → K.taken out.new ≡ K.taken out.old }
     ensures stays { S.told shelf.new ≡ S.told shelf.old }
 {
-    let Some(command) = plan(words) else {
-        return Status::Usage;
-    };
-    match answer(alloc, shelf, command) {
-        Err(status) => status,
-        Ok(text) => put_text(out, text.as_slice()),
+    parts_keep_laws();
+    one_answer_is_due();
+    match plan(alloc, words) {
+        Err(PlanStop::Usage) => Status::Usage,
+        Err(PlanStop::NoMemory) => Status::NoMemory,
+        Ok(command) => match answer(alloc, shelf, command) {
+            Err(status) => status,
+            Ok(text) => put_text(out, text.as_slice()),
+        },
     }
 }

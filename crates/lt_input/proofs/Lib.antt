@@ -1,6 +1,0 @@
-pub mod SuiteRows
-pub mod SuiteInts
-pub mod SuiteCases
-pub mod NameSets
-pub mod SuiteOutcomes
-pub mod SuiteLaws

@@ -1,8 +1,0 @@
-use Rattle.std.proofs.Common.{◌≡◌, ◌-◌, length}
-use Rattle.lt_replay.specs.Reading.{locals_within}
-use Rattle.lt_replay.proofs.Loops.{behind_names}
-use Rattle.lt_replay.proofs.read.function.locals.Given as goal
-
--- the names so far and those of the rest
-abbrev pub invariant-loop-turn : goal.invariant-loop-turn
-invariant-loop-turn l = behind_names l.names.items (locals_within (length l.tokens - l._turn) l.rest) ≡ locals_within (length l.tokens) l.tokens

@@ -1,0 +1,42 @@
+-- The state behind the line `entry`.
+use Rattle.std.proofs.Common.{◌≡◌, ℕ, Bool, true, false, cond, List, [], ◌∷◌, ◌++◌, map, Option, Some, None, refl, sym, ap, ◌∙◌}
+use Rattle.std.specs.Prelude.{option_map}
+use Rattle.std.specs.List.{list_all, filter_map}
+use Rattle.lt_model.specs.declared.input.Place.{Place}
+use Rattle.lt_tree.specs.declared.typed.program.Program as typed
+use Rattle.lt_tree.specs.Typing.ProgramView.{program_of}
+use Rattle.lt_entry.specs.Lines.{Row}
+use Rattle.lt_entry.specs.Naming.{Block, Scope, parameters_of}
+use Rattle.lt_entry.specs.SpecificationLines.{entry_line}
+use Rattle.lt_entry.specs.Conditions.{default_blocks, entry_named, block_of_line, scope_behind}
+use Rattle.lt_input_names.specs.declared.names.Names.{Names}
+use Rattle.lt_input_names.specs.declared.block.Block as memory
+use Rattle.lt_input_names.specs.Blocks.{program_types, block_of, line_block_of, scope_with}
+use Rattle.lt_input_names.specs.Found.{found_in}
+use Rattle.lt_input_names.specs.Views.{AreNames, AreNew, scope_of}
+use Rattle.lt_input_blocks.specs.Elements.{AreBlockTypes}
+use Rattle.lt_spec_reader.specs.declared.state.State.{State}
+use Rattle.lt_spec_reader.specs.Said.{found_at}
+use Rattle.lt_spec_reader.specs.States.{IsBehind}
+
+pub start_is : (program : typed.Program) (rows : List Row) (number : ℕ) (name : List ℕ) (blocks : List memory.Block) (state : State) → AreNames state.names → AreNew program state.names → scope_of state.names ≡ scope_with program number blocks
+    → AreBlockTypes state.types → state.types.program.now ≡ program → state.blocks.items ≡ [] → ((place : Place) → found_at state.wants place ≡ None) → ((w : List ℕ) → found_in state.ranges w ≡ None)
+    → map (block_of (program_types program)) blocks ≡ default_blocks (program_of program) rows number → entry_named (program_of program) name ≡ Some number
+    → IsBehind program rows number (entry_line name ∷ []) state
+start_is program rows number name blocks state names fresh scope types types_program none wants ranges made named = record {
+  first = named;
+  names = names;
+  types = types;
+  names_program = fresh.program;
+  types_program = types_program;
+  parameters = ap (λ q. parameters_of (program_of q) state.names.entry) (sym fresh.program) ∙ ap (λ (s : Scope). s.parameters) scope;
+  blocks = none ∙ sym fresh.added;
+  added = ap (map (line_block_of (program_types program))) fresh.added;
+  others =
+      ap (λ q. map (block_of (program_types q)) state.names.blocks.now) (sym fresh.program)
+      ∙ ap (λ l. map (line_block_of (program_types state.names.kinds.program.now)) l ++ map (block_of (program_types state.names.kinds.program.now)) state.names.blocks.now) (sym fresh.added)
+      ∙ ap (λ (s : Scope). s.blocks) scope ∙ made;
+  wants = wants;
+  ranges = λ w. ap (option_map _) (ranges w);
+  settled = refl;
+}

@@ -1,0 +1,10 @@
+pub mod Reading
+pub mod Said
+pub mod Growth
+pub mod Fronts
+pub mod States
+pub mod Frees
+pub mod Entries
+pub mod Answers
+pub mod Cells
+pub mod Objects
