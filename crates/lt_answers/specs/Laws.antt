@@ -2,7 +2,7 @@
 use Rattle.lt_outside.specs.Shelf.{Files}
 use Rattle.lt_token.specs.Laws.{AtMostOneAnswer}
 use Rattle.lt_tree.specs.Units.{UnitsAreOne}
-use Rattle.lt_input_lines.specs.Laws.{TextsSayOneSpecification, TextsSayOneSuite}
+use Rattle.lt_entry.specs.Laws.{TextsSayOneSpecification, TextsSayOneSuite}
 use Rattle.lt_cover_laws.specs.Laws.{TextsStandForOneTable, MergesAreOne}
 use Rattle.lt_replayed.specs.Laws.{SuitesHaveOneTable}
 use Rattle.lt_command.specs.Plan.{Plan}

@@ -11,3 +11,7 @@ pub mod Suites
 pub mod Meeting
 pub mod Inputs
 pub mod Examples
+pub mod Views
+pub mod LineViews
+pub mod ReadingLines
+pub mod Laws

@@ -5,11 +5,11 @@ ghost use Rattle.lt_model.specs.Layout.{most_cells};
 ghost use Rattle.lt_tree.specs.Typing.Types.{CType};
 ghost use Rattle.lt_tree.specs.Typing.Programs.{Program};
 ghost use Rattle.lt_entry.specs.Conditions.{is_block};
-ghost use Rattle.lt_input_lines.specs.Views.{numeral_view};
+ghost use Rattle.lt_entry.specs.Views.{numeral_view};
 ghost use Rattle.lt_input_blocks.specs.Elements.{IsAsked};
 
 use crate::facts::MOST_CELLS;
-use lt_input_lines::Numeral;
+use lt_entry::Numeral;
 
 /// What is asked of the type of a block's elements.
 #[derive(Clone, Copy)]

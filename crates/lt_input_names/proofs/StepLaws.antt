@@ -11,8 +11,8 @@ use Rattle.lt_tree.specs.Typing.Programs.{Program}
 use Rattle.lt_entry.specs.Written.{Numeral, Step, value_of}
 use Rattle.lt_entry.specs.Naming as naming
 use Rattle.lt_entry.specs.Naming.{named_part, parts_at, stepped, indexed, all_elements, element_at, elements_from, member_part}
-use Rattle.lt_input_lines.specs.declared.place.Step as memory
-use Rattle.lt_input_lines.specs.Views.{step_view}
+use Rattle.lt_entry.specs.declared.place.Step as memory
+use Rattle.lt_entry.specs.Views.{step_view}
 use Rattle.lt_input_names.specs.Kinds.{array_of}
 use Rattle.lt_input_names.specs.declared.part.PartType.{PartType}
 use Rattle.lt_input_names.specs.Roots.{part_type}

@@ -8,10 +8,10 @@ use Rattle.lt_tree.specs.Typing.Programs.{Program}
 use Rattle.lt_entry.specs.Written.{Numeral, value_of}
 use Rattle.lt_entry.specs.Naming as naming
 use Rattle.lt_entry.specs.Naming.{named_part, if_all_pointed, is_pointed, is_past_end, past_elements, past_root}
-use Rattle.lt_input_lines.specs.declared.number.Numeral as memory
-use Rattle.lt_input_lines.specs.declared.place.Step.{Step}
-use Rattle.lt_input_lines.specs.declared.place.Step.TheVariants as step
-use Rattle.lt_input_lines.specs.Views.{numeral_view, step_view}
+use Rattle.lt_entry.specs.declared.number.Numeral as memory
+use Rattle.lt_entry.specs.declared.place.Step.{Step}
+use Rattle.lt_entry.specs.declared.place.Step.TheVariants as step
+use Rattle.lt_entry.specs.Views.{numeral_view, step_view}
 use Rattle.lt_input_names.specs.Kinds.{array_of}
 use Rattle.lt_input_names.specs.Parts.{part_at, address_in, natural}
 use Rattle.lt_input_names.specs.Targets.{only_index}

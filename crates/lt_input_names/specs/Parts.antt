@@ -13,8 +13,8 @@ use Rattle.lt_tree.specs.Typing.Extents.{Placed}
 use Rattle.lt_table.specs.declared.structs.PlacedMember.{PlacedMember}
 use Rattle.lt_entry.specs.Naming as naming
 use Rattle.lt_entry.specs.Naming.{stepped, element_at}
-use Rattle.lt_input_lines.specs.declared.place.Step.{Step}
-use Rattle.lt_input_lines.specs.Views.{step_view}
+use Rattle.lt_entry.specs.declared.place.Step.{Step}
+use Rattle.lt_entry.specs.Views.{step_view}
 use Rattle.lt_input_names.specs.declared.block.Base.{Base}
 use Rattle.lt_input_names.specs.declared.block.Base.TheVariants as base
 use Rattle.lt_input_names.specs.declared.block.ElementType.{ElementType}

@@ -6,10 +6,10 @@ use Rattle.lt_tree.specs.Typing.Programs.{Program}
 use Rattle.lt_entry.specs.Written as written
 use Rattle.lt_entry.specs.Naming as naming
 use Rattle.lt_entry.specs.Naming.{parts_at, whole, named_part, if_all_pointed, past_root}
-use Rattle.lt_input_lines.specs.declared.number.Numeral.{Numeral}
-use Rattle.lt_input_lines.specs.declared.place.Step.{Step}
-use Rattle.lt_input_lines.specs.declared.place.Step.TheVariants as step
-use Rattle.lt_input_lines.specs.Views.{step_view}
+use Rattle.lt_entry.specs.declared.number.Numeral.{Numeral}
+use Rattle.lt_entry.specs.declared.place.Step.{Step}
+use Rattle.lt_entry.specs.declared.place.Step.TheVariants as step
+use Rattle.lt_entry.specs.Views.{step_view}
 use Rattle.lt_input_names.specs.declared.names.Names.{Names}
 use Rattle.lt_input_names.specs.declared.part.PartType.{PartType}
 use Rattle.lt_input_names.specs.declared.part.Root.{Root}

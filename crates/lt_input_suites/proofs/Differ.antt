@@ -7,7 +7,7 @@ use Rattle.std.proofs.lemmas.Slice.Eq.{bytes_eq-Decides}
 use Rattle.lt_entry.specs.declared.test.Test.{Test}
 use Rattle.lt_entry.specs.Naming.{Scope}
 use Rattle.lt_entry.specs.Suites.{SuiteLine, test_line, set_line, point_line, values_line, names_test, fits_suite, all_fit_suite, of_this_test, test_said, tests_said, suite_scope}
-use Rattle.lt_input_lines.proofs.PieceLaws.{both}
+use Rattle.lt_entry.proofs.PieceLaws.{both}
 use Rattle.lt_input_suites.specs.Laws.{TestsOfASuiteDiffer}
 use Rattle.lt_input_suites.proofs.Said.{any_last, form_of, fits_new}
 use Rattle.lt_input_suites.proofs.Sets.{not_true}

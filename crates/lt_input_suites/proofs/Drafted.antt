@@ -6,11 +6,11 @@ use Rattle.std.specs.Borrow.{Bor}
 use Rattle.std.specs.Str.{bytes_eq}
 use Rattle.lt_entry.specs.Naming.{Scope}
 use Rattle.lt_entry.specs.Suites.{SuiteLine, test_line, set_line, point_line, values_line, suite_words, is_suite_form, is_test_line, of_last_test, names_test, fits_suite, test_said, tests_said}
-use Rattle.lt_input_lines.specs.declared.suite.SuiteLine as memory
-use Rattle.lt_input_lines.specs.declared.suite.SuiteLine.TheVariants as lines
-use Rattle.lt_input_lines.specs.LineViews.{suite_line_view}
-use Rattle.lt_input_lines.specs.ReadingLines.{read_suite_line}
-use Rattle.lt_input_lines.proofs.SuiteLaws.{suite_lines}
+use Rattle.lt_entry.specs.declared.suite.SuiteLine as memory
+use Rattle.lt_entry.specs.declared.suite.SuiteLine.TheVariants as lines
+use Rattle.lt_entry.specs.LineViews.{suite_line_view}
+use Rattle.lt_entry.specs.ReadingLines.{read_suite_line}
+use Rattle.lt_entry.proofs.SuiteLaws.{suite_lines}
 use Rattle.lt_input_names.specs.Stubs.{has_name}
 use Rattle.lt_input_suites.specs.declared.begun.Begun.{Begun}
 use Rattle.lt_input_suites.specs.declared.draft.Draft.{Draft}

@@ -9,9 +9,9 @@ use Rattle.lt_entry.specs.Lines.{rows_of}
 use Rattle.lt_entry.specs.Naming.{Scope}
 use Rattle.lt_entry.specs.Specifications.{Specification, words_in}
 use Rattle.lt_entry.specs.Suites.{SuiteLine, suite_words, fits_suite, all_fit_suite, suite_scope, IsSuiteFront, IsSuite, IsFirstBadSuiteLine}
-use Rattle.lt_input_lines.specs.declared.row.Row.{Row}
-use Rattle.lt_input_lines.specs.LineViews.{row_view}
-use Rattle.lt_input_lines.proofs.PieceLaws.{both}
+use Rattle.lt_entry.specs.declared.row.Row.{Row}
+use Rattle.lt_entry.specs.LineViews.{row_view}
+use Rattle.lt_entry.proofs.PieceLaws.{both}
 use Rattle.lt_input_suites.specs.declared.draft.Draft.{Draft}
 use Rattle.lt_input_suites.specs.Drafts.{tests_of, IsDraft, IsRead}
 use Rattle.lt_input_suites.proofs.Said.{no_end}

@@ -16,7 +16,7 @@ use Rattle.lt_entry.specs.Written.{Numeral, value_of, is_numeral, PlaceWord, is_
 use Rattle.lt_entry.specs.Naming.{Scope, Named, named_by, targets_of}
 use Rattle.lt_entry.specs.Conditions.{same_place, each_named, Stub, stub_among, stubs_of}
 use Rattle.lt_entry.specs.Suites.{SuiteLine, test_line, set_line, point_line, values_line, is_suite_form, sets_cell, sets_stub, is_number, is_target_for, fits_in_test, cells_set, stubs_set, points_to}
-use Rattle.lt_input_lines.proofs.PieceLaws.{both}
+use Rattle.lt_entry.proofs.PieceLaws.{both}
 use Rattle.lt_input_names.specs.Stubs.{has_name}
 use Rattle.lt_input_suites.specs.declared.begun.Begun.{Begun}
 use Rattle.lt_input_suites.specs.Drafts.{has_place, HasSet, Marks, IsPut}

@@ -8,7 +8,7 @@ use Rattle.std.proofs.lemmas.Grind.{flat_map-append}
 use Rattle.lt_entry.specs.declared.test.Test.{Test}
 use Rattle.lt_entry.specs.Naming.{Scope}
 use Rattle.lt_entry.specs.Suites.{SuiteLine, test_line, set_line, point_line, values_line, is_suite_form, is_test_line, of_last_test, of_this_test, names_test, fits_in_test, fits_suite, cells_set, stubs_set, test_said, tests_said}
-use Rattle.lt_input_lines.proofs.PieceLaws.{both}
+use Rattle.lt_entry.proofs.PieceLaws.{both}
 use Rattle.lt_input_suites.specs.Drafts.{with_line}
 
 or_false : (a : Bool) → (a || false) ≡ a

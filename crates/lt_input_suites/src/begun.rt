@@ -2,14 +2,13 @@
 
 ghost use Rattle.std.specs.Prelude.{◌≡◌, [], IfOk};
 ghost use Rattle.lt_entry.specs.Naming.{Scope};
-ghost use Rattle.lt_input_lines.specs.LineViews.{set_view, point_view, values_view, suite_line_view};
+ghost use Rattle.lt_entry.specs.LineViews.{set_view, point_view, values_view, suite_line_view};
 ghost use Rattle.lt_input_names.specs.Views.{AreNames, scope_of};
 ghost use Rattle.lt_input_suites.specs.Drafts.{HasSet, Marks, Puts, test_of};
 
 use crate::numbers::{are_numbers, is_number, value_of, values_of};
 use crate::parts::{part_of, target_of};
-use lt_entry::Test;
-use lt_input_lines::{PointLine, SetLine, SuiteLine, ValuesLine};
+use lt_entry::{PointLine, SetLine, SuiteLine, Test, ValuesLine};
 use lt_input_names::Names;
 use lt_model::{CellSet, Name, Sequence, StubSet};
 use std::alloc::{AllocError, Global};

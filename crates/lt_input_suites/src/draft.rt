@@ -3,13 +3,12 @@
 ghost use Rattle.std.specs.Prelude.{◌≡◌, List, [], IfOk, OnOk, map};
 ghost use Rattle.lt_entry.specs.Naming.{Scope};
 ghost use Rattle.lt_entry.specs.Suites.{test_line};
-ghost use Rattle.lt_input_lines.specs.LineViews.{suite_line_view};
+ghost use Rattle.lt_entry.specs.LineViews.{suite_line_view};
 ghost use Rattle.lt_input_names.specs.Views.{AreNames, scope_of};
 ghost use Rattle.lt_input_suites.specs.Drafts.{HasEnded, IsDraft, Reads, Takes, tests_of};
 
 use crate::begun::Begun;
-use lt_entry::{Suite, Test};
-use lt_input_lines::{SuiteLine, suite_line_of};
+use lt_entry::{Suite, SuiteLine, Test, suite_line_of};
 use lt_input_names::Names;
 use lt_model::Sequence;
 use std::alloc::{AllocError, Global};

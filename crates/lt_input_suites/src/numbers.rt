@@ -4,9 +4,9 @@ ghost use Rattle.std.specs.Prelude.{◌≡◌, IfOk, map};
 ghost use Rattle.std.specs.List.{list_all};
 ghost use Rattle.lt_entry.specs.Written.{value_of};
 ghost use Rattle.lt_entry.specs.Suites.{is_number};
-ghost use Rattle.lt_input_lines.specs.Views.{numeral_view};
+ghost use Rattle.lt_entry.specs.Views.{numeral_view};
 
-use lt_input_lines::Numeral;
+use lt_entry::Numeral;
 use lt_model::{DataModel, Scalar, is_value};
 use std::alloc::{AllocError, Global};
 

@@ -1,11 +1,11 @@
 //! What the places and targets of a line name: no step goes to every element, so they name at most one thing.
 
 ghost use Rattle.std.specs.Prelude.{IfOk};
-ghost use Rattle.lt_input_lines.specs.Views.{place_view, target_view};
+ghost use Rattle.lt_entry.specs.Views.{place_view, target_view};
 ghost use Rattle.lt_input_names.specs.Views.{AreNames};
 ghost use Rattle.lt_input_suites.specs.Parts.{IsPart, IsTarget};
 
-use lt_input_lines::{PlaceWord, TargetWord};
+use lt_entry::{PlaceWord, TargetWord};
 use lt_input_names::{Names, Part, PartType};
 use lt_model::Place;
 use std::alloc::{AllocError, Global};

@@ -6,8 +6,7 @@ ghost use Rattle.lt_input_suites.specs.Reading.{IsSuiteAnswer};
 
 use crate::draft::Draft;
 use crate::stops::NoSuite;
-use lt_entry::Suite;
-use lt_input_lines::rows_of;
+use lt_entry::{Suite, rows_of};
 use lt_input_names::{Names, Specification};
 use lt_tree::typed::Program;
 use std::alloc::Global;

@@ -8,8 +8,8 @@ use Rattle.lt_tree.specs.Typing.Entities.{Function}
 use Rattle.lt_entry.specs.Lines.{Row}
 use Rattle.lt_entry.specs.SpecificationLines.{Line, line_words, is_in_form, entry_line, block_line, range_line, points_line, stub_line, require_line}
 use Rattle.lt_entry.specs.Conditions.{number_from, entry_named, entry_of, fits, fits_where}
-use Rattle.lt_input_lines.specs.ReadingLines.{read_line}
-use Rattle.lt_input_lines.specs.Laws.{LinesAreRead}
+use Rattle.lt_entry.specs.ReadingLines.{read_line}
+use Rattle.lt_entry.specs.Laws.{LinesAreRead}
 use Rattle.lt_spec_reader.specs.Fronts.{IsNext, AreFirst}
 
 -- ---- functions by their names

@@ -14,8 +14,8 @@ use Rattle.lt_entry.specs.Naming.{Block, Scope, root_among, block_root, paramete
 use Rattle.lt_entry.specs.SpecificationLines.{Line, line_words, entry_line}
 use Rattle.lt_entry.specs.Conditions.{scope_behind, default_blocks, block_of_line, entry_named}
 use Rattle.lt_entry.specs.Specifications.{specification_in, words_in, unfree_rows, IsFirstBadLine, line_number}
-use Rattle.lt_input_lines.specs.LineViews.{row_view}
-use Rattle.lt_input_lines.specs.declared.row.Row as memory_row
+use Rattle.lt_entry.specs.LineViews.{row_view}
+use Rattle.lt_entry.specs.declared.row.Row as memory_row
 use Rattle.lt_input_names.specs.declared.block.Block as memory
 use Rattle.lt_input_names.specs.declared.block.LineBlock.{LineBlock}
 use Rattle.lt_input_names.specs.declared.block.Specification.{Specification}

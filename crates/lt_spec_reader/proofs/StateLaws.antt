@@ -17,8 +17,8 @@ use Rattle.lt_entry.specs.Naming.{Root, Block, Scope, roots, root_among, paramet
 use Rattle.lt_entry.specs.SpecificationLines.{Line, line_words, is_in_form, entry_line, block_line, range_line, points_line, stub_line, require_line}
 use Rattle.lt_entry.specs.Conditions.{entry_of, block_of_line, default_blocks, scope_behind, fits, fits_where, fits_behind, fits_in}
 use Rattle.lt_entry.specs.Meaning.{first_some, want_by, want_said, stub_range_by}
-use Rattle.lt_input_lines.specs.ReadingLines.{read_line}
-use Rattle.lt_input_lines.specs.Laws.{LinesAreRead}
+use Rattle.lt_entry.specs.ReadingLines.{read_line}
+use Rattle.lt_entry.specs.Laws.{LinesAreRead}
 use Rattle.std.specs.Borrow.{Bor}
 use Rattle.lt_input_names.specs.declared.names.Names.{Names}
 use Rattle.lt_input_names.specs.declared.kinds.Kinds.{Kinds}

@@ -2,14 +2,14 @@
 
 ghost use Rattle.std.specs.Prelude.{◌≡◌, ◌<◌, ◌^◌, IfOk, nat_abs};
 ghost use Rattle.lt_entry.specs.Written.{value_of};
-ghost use Rattle.lt_input_lines.specs.Views.{numeral_view};
-ghost use Rattle.lt_input_lines.specs.LineViews.{block_view};
+ghost use Rattle.lt_entry.specs.Views.{numeral_view};
+ghost use Rattle.lt_entry.specs.LineViews.{block_view};
 ghost use Rattle.lt_input_names.specs.Views.{AreNames, scope_of};
 ghost use Rattle.lt_input_blocks.specs.Elements.{AreBlockTypes};
 ghost use Rattle.lt_spec_reader.specs.States.{is_taken, IsBlockOf, IsAdded};
 
+use lt_entry::{BlockLine, Numeral};
 use lt_input_blocks::BlockTypes;
-use lt_input_lines::{BlockLine, Numeral};
 use lt_input_names::{LineBlock, Names};
 use lt_token::is_no_identifier;
 use std::alloc::{AllocError, Global};

@@ -4,11 +4,11 @@ ghost use Rattle.std.specs.Prelude.{◌≡◌, IfOk, List};
 ghost use Rattle.lt_tree.specs.Typing.ProgramView.{program_of};
 ghost use Rattle.lt_entry.specs.Conditions.{number_from, entry_named};
 ghost use Rattle.lt_entry.specs.Lines as lines;
-ghost use Rattle.lt_input_lines.specs.LineViews.{row_view};
+ghost use Rattle.lt_entry.specs.LineViews.{row_view};
 ghost use Rattle.lt_input_names.specs.Kinds.{AreKinds};
 ghost use Rattle.lt_spec_reader.specs.Entries.{IsEntryOf};
 
-use lt_input_lines::{Line, Row, line_of, lines_are_read};
+use lt_entry::{Line, Row, line_of, lines_are_read};
 use lt_input_names::Kinds;
 use lt_input_specs::may_be_entry;
 use lt_tree::typed::Program;

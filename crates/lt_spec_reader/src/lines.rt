@@ -5,7 +5,7 @@ ghost use Rattle.lt_tree.specs.declared.typed.program.Program as typed;
 ghost use Rattle.lt_tree.specs.Typing.ProgramView.{program_of};
 ghost use Rattle.lt_entry.specs.Lines as lines;
 ghost use Rattle.lt_entry.specs.SpecificationLines as specification;
-ghost use Rattle.lt_input_lines.specs.LineViews.{line_view, row_view};
+ghost use Rattle.lt_entry.specs.LineViews.{line_view, row_view};
 ghost use Rattle.lt_spec_reader.specs.Fronts.{IsNext, AreFirst};
 ghost use Rattle.lt_spec_reader.specs.States.{IsReady, IsBehind, IsStep, GoesAlong, AreRead};
 
@@ -15,7 +15,7 @@ use crate::ranges::range;
 use crate::requirements::require;
 use crate::state::State;
 use crate::stubs::stub;
-use lt_input_lines::{Line, Row, line_of, lines_are_read};
+use lt_entry::{Line, Row, line_of, lines_are_read};
 use std::alloc::{AllocError, Global};
 
 // Whether the line fits; if it does, the state is that behind it.

@@ -4,9 +4,9 @@ ghost use Rattle.std.specs.Prelude.{◌≡◌, ◌&&◌, int_le};
 ghost use Rattle.lt_model.specs.Operators.{is_value};
 ghost use Rattle.lt_entry.specs.Written as written;
 ghost use Rattle.lt_entry.specs.Conditions.{is_range};
-ghost use Rattle.lt_input_lines.specs.Views.{numeral_view};
+ghost use Rattle.lt_entry.specs.Views.{numeral_view};
 
-use lt_input_lines::Numeral;
+use lt_entry::Numeral;
 use lt_model::{DataModel, Scalar, is_value};
 
 /// The number that a numeral writes.

@@ -3,11 +3,11 @@
 ghost use Rattle.std.specs.Prelude.{◌≡◌, IfOk, List, ℕ, map, not, option_map};
 ghost use Rattle.std.specs.List.{filter, list_any};
 ghost use Rattle.lt_entry.specs.Conditions.{points_at};
-ghost use Rattle.lt_input_lines.specs.LineViews.{row_view};
+ghost use Rattle.lt_entry.specs.LineViews.{row_view};
 ghost use Rattle.lt_input_names.specs.Stubs.{has_name};
 ghost use Rattle.lt_spec_reader.specs.Frees.{is_name_of, HasPointed};
 
-use lt_input_lines::{Row, target_of};
+use lt_entry::{Row, target_of};
 use lt_tree::typed::Object;
 use std::alloc::{AllocError, Global};
 use std::collections::HashSet;

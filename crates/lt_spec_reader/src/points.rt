@@ -9,13 +9,13 @@ ghost use Rattle.lt_entry.specs.Naming.{targets_of};
 ghost use Rattle.lt_entry.specs.SpecificationLines.{Line};
 ghost use Rattle.lt_entry.specs.Conditions.{same_place, each_named, have_targets};
 ghost use Rattle.lt_entry.specs.Meaning.{targets_for};
-ghost use Rattle.lt_input_lines.specs.Views.{target_view};
-ghost use Rattle.lt_input_lines.specs.LineViews.{points_view};
+ghost use Rattle.lt_entry.specs.Views.{target_view};
+ghost use Rattle.lt_entry.specs.LineViews.{points_view};
 ghost use Rattle.lt_input_names.specs.Views.{AreNames, scope_of, type_at, named_at};
 ghost use Rattle.lt_spec_reader.specs.Said.{found_at, HasSaid, IsSaid, may_point};
 
 use crate::wants::{Wants, is_said, say};
-use lt_input_lines::{PointsLine, TargetWord};
+use lt_entry::{PointsLine, TargetWord};
 use lt_input_names::{Names, Part, PartType};
 use lt_model::{Place, Sequence, Want};
 use std::alloc::{AllocError, Global};

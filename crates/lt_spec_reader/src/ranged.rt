@@ -6,12 +6,12 @@ ghost use Rattle.lt_model.specs.declared.input.Place.{Place};
 ghost use Rattle.lt_entry.specs.Naming.{Scope, named_by};
 ghost use Rattle.lt_entry.specs.Conditions.{is_place_in, is_ranged_by, names_place};
 ghost use Rattle.lt_entry.specs.Conditions as conditions;
-ghost use Rattle.lt_input_lines.specs.Views.{place_view};
-ghost use Rattle.lt_input_lines.specs.LineViews.{row_view};
+ghost use Rattle.lt_entry.specs.Views.{place_view};
+ghost use Rattle.lt_entry.specs.LineViews.{row_view};
 ghost use Rattle.lt_input_names.specs.Views.{AreNames, scope_of};
 ghost use Rattle.lt_spec_reader.specs.Frees.{has_place, HasRanged};
 
-use lt_input_lines::{PlaceWord, Row, place_of};
+use lt_entry::{PlaceWord, Row, place_of};
 use lt_input_names::{Names, Part};
 use std::alloc::{AllocError, Global};
 use std::collections::HashSet;

@@ -7,14 +7,14 @@ ghost use Rattle.lt_tree.specs.Typing.Entities.{or_else};
 ghost use Rattle.lt_entry.specs.Written.{value_of};
 ghost use Rattle.lt_entry.specs.SpecificationLines.{Line};
 ghost use Rattle.lt_entry.specs.Conditions.{same_place, each_named};
-ghost use Rattle.lt_input_lines.specs.Views.{numeral_view};
-ghost use Rattle.lt_input_lines.specs.LineViews.{range_view};
+ghost use Rattle.lt_entry.specs.Views.{numeral_view};
+ghost use Rattle.lt_entry.specs.LineViews.{range_view};
 ghost use Rattle.lt_input_names.specs.Views.{AreNames, scope_of, named_at};
 ghost use Rattle.lt_spec_reader.specs.Said.{found_at, HasSaid, IsSaid, may_range};
 
 use crate::numbers::{is_range, value_of};
 use crate::wants::{Wants, is_said, say};
-use lt_input_lines::RangeLine;
+use lt_entry::RangeLine;
 use lt_input_names::{Names, Part};
 use lt_model::Want;
 use std::alloc::{AllocError, Global};

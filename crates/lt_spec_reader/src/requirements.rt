@@ -5,11 +5,11 @@ ghost use Rattle.std.specs.List.{list_all};
 ghost use Rattle.lt_tree.specs.Typing.Types.{is_integer};
 ghost use Rattle.lt_entry.specs.SpecificationLines.{Line};
 ghost use Rattle.lt_entry.specs.Conditions.{each_named, is_term, is_small_factor, fits_in};
-ghost use Rattle.lt_input_lines.specs.Views.{numeral_view};
-ghost use Rattle.lt_input_lines.specs.LineViews.{term_view, addend_view, require_view};
+ghost use Rattle.lt_entry.specs.Views.{numeral_view};
+ghost use Rattle.lt_entry.specs.LineViews.{term_view, addend_view, require_view};
 ghost use Rattle.lt_input_names.specs.Views.{AreNames, scope_of, named_at};
 
-use lt_input_lines::{Addend, Numeral, RequireLine, Term};
+use lt_entry::{Addend, Numeral, RequireLine, Term};
 use lt_input_names::{Names, Part};
 use std::alloc::{AllocError, Global};
 

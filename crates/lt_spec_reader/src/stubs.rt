@@ -1,12 +1,12 @@
 //! The lines `stub`.
 
 ghost use Rattle.std.specs.Prelude.{◌≡◌, IfOk};
-ghost use Rattle.lt_input_lines.specs.LineViews.{stub_view};
+ghost use Rattle.lt_entry.specs.LineViews.{stub_view};
 ghost use Rattle.lt_input_names.specs.Views.{AreNames, scope_of};
 ghost use Rattle.lt_spec_reader.specs.Said.{IsRanged};
 
 use crate::numbers::is_range;
-use lt_input_lines::StubLine;
+use lt_entry::StubLine;
 use lt_input_names::Names;
 use std::alloc::AllocError;
 use std::collections::HashMap;

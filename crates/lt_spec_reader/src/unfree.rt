@@ -6,13 +6,13 @@ ghost use Rattle.lt_entry.specs.Lines as written;
 ghost use Rattle.lt_entry.specs.Naming.{named_by};
 ghost use Rattle.lt_entry.specs.Conditions.{is_free, needs_free};
 ghost use Rattle.lt_entry.specs.Specifications.{unfree_rows};
-ghost use Rattle.lt_input_lines.specs.Views.{place_view};
-ghost use Rattle.lt_input_lines.specs.LineViews.{row_view, addend_view, require_view, line_view};
+ghost use Rattle.lt_entry.specs.Views.{place_view};
+ghost use Rattle.lt_entry.specs.LineViews.{row_view, addend_view, require_view, line_view};
 ghost use Rattle.lt_input_names.specs.Views.{AreNames, scope_of, named_at};
 ghost use Rattle.lt_spec_reader.specs.Frees.{AreFree, first_of};
 
 use crate::free::Free;
-use lt_input_lines::{Addend, Line, PlaceWord, RequireLine, Row};
+use lt_entry::{Addend, Line, PlaceWord, RequireLine, Row};
 use lt_input_names::{Names, Part};
 use std::alloc::{AllocError, Global};
 

@@ -4,7 +4,7 @@ ghost use Rattle.lt_answers.specs.Laws.{Laws};
 
 use lt_cover_laws::{merges_are_one, texts_stand_for_one_table};
 use lt_decl::at_most_one_unit;
-use lt_input_lines::{a_text_says_one_specification, a_text_says_one_suite};
+use lt_entry::{a_text_says_one_specification, a_text_says_one_suite};
 use lt_replayed::a_suite_has_one_table;
 use lt_token::at_most_one_answer;
 

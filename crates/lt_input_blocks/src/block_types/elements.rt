@@ -6,7 +6,7 @@ ghost use Rattle.lt_tree.specs.Typing.TypeRows.{type_in};
 ghost use Rattle.lt_tree.specs.Typing.EntityView.{structs_of};
 ghost use Rattle.lt_tree.specs.Typing.Extents.{members_of};
 ghost use Rattle.lt_tree.specs.Typing.ProgramView.{program_of};
-ghost use Rattle.lt_input_lines.specs.Views.{numeral_view};
+ghost use Rattle.lt_entry.specs.Views.{numeral_view};
 ghost use Rattle.lt_input_names.specs.Blocks.{base_of, element_of, program_types};
 ghost use Rattle.lt_input_blocks.specs.Elements.{AreBlockTypes, IsAsked, IsElementOf, IsSmallCount};
 
@@ -15,7 +15,7 @@ use crate::asked::{Asked, is_block};
 use crate::cells::{cells_by, cells_of_structs, struct_at};
 use crate::facts::{facts_at, facts_of_rows};
 use crate::names::FileNames;
-use lt_input_lines::Numeral;
+use lt_entry::Numeral;
 use lt_input_names::{Base, ElementType, Kinds};
 use lt_tables::{BareTypes, Tables};
 use lt_tree::typed::{Program, StructType, TypeId};

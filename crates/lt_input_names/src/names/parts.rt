@@ -2,13 +2,13 @@
 
 ghost use Rattle.std.specs.Prelude.{◌≡◌, IfOk, map};
 ghost use Rattle.lt_entry.specs.Naming.{named_by};
-ghost use Rattle.lt_input_lines.specs.Views.{place_view};
+ghost use Rattle.lt_entry.specs.Views.{place_view};
 ghost use Rattle.lt_input_names.specs.Parts.{part_in, place_in};
 ghost use Rattle.lt_input_names.specs.Views.{AreNames, scope_of, named_at};
 
 use super::Names;
 use crate::part::{Part, PartType};
-use lt_input_lines::PlaceWord;
+use lt_entry::PlaceWord;
 use lt_model::{Name, Place};
 use std::alloc::{AllocError, Global};
 

@@ -4,7 +4,7 @@ ghost use Rattle.std.specs.Prelude.{◌≡◌, ◌∷◌, ◌++◌, List, ℕ, [
 ghost use Rattle.lt_tree.specs.Typing.Types.{Array};
 ghost use Rattle.lt_entry.specs.Naming.{targets_of, past_elements, is_past_end, is_pointed};
 ghost use Rattle.lt_entry.specs.Written.{value_of};
-ghost use Rattle.lt_input_lines.specs.Views.{numeral_view, step_view, target_view};
+ghost use Rattle.lt_entry.specs.Views.{numeral_view, step_view, target_view};
 ghost use Rattle.lt_input_names.specs.Blocks.{element_of};
 ghost use Rattle.lt_input_names.specs.Parts.{address_in};
 ghost use Rattle.lt_input_names.specs.Roots.{root_at};
@@ -16,7 +16,7 @@ use super::parts::place_in;
 use super::sizes::element_part;
 use super::steps::{byte_at, natural};
 use crate::part::{ArrayType, PartType, Pieces, Root};
-use lt_input_lines::{Numeral, PlaceWord, Step, TargetWord};
+use lt_entry::{Numeral, PlaceWord, Step, TargetWord};
 use lt_model::Place;
 use std::alloc::{AllocError, Global};
 

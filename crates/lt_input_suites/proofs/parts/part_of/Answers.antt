@@ -1,4 +1,4 @@
-use Rattle.lt_input_lines.specs.Views.{place_view}
+use Rattle.lt_entry.specs.Views.{place_view}
 use Rattle.lt_input_names.specs.Views.{scope_of, named_at}
 use Rattle.lt_input_suites.proofs.Singles.{part_is}
 use Rattle.lt_input_suites.proofs.parts.part_of.Goals as goal

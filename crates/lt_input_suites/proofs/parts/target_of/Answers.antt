@@ -1,5 +1,5 @@
 use Rattle.lt_tree.specs.Typing.Types.{target_of}
-use Rattle.lt_input_lines.specs.Views.{target_view}
+use Rattle.lt_entry.specs.Views.{target_view}
 use Rattle.lt_input_names.specs.Views.{scope_of, type_at}
 use Rattle.lt_input_suites.proofs.Singles.{target_is}
 use Rattle.lt_input_suites.proofs.parts.target_of.Goals as goal

@@ -2,7 +2,7 @@ use Rattle.std.proofs.Common.{◌≡◌, ℕ, List, Bor, true, false, map, ap, �
 use Rattle.lt_tree.specs.Typing.ProgramView.{program_of}
 use Rattle.lt_entry.specs.Lines.{rows_of}
 use Rattle.lt_entry.specs.Suites.{suite_scope}
-use Rattle.lt_input_lines.specs.LineViews.{row_view}
+use Rattle.lt_entry.specs.LineViews.{row_view}
 use Rattle.lt_input_names.specs.Blocks.{specification_of, scope_with}
 use Rattle.lt_input_names.specs.Views.{scope_of}
 use Rattle.lt_input_suites.proofs.Drafted.{same_reads}

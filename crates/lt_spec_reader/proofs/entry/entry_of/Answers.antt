@@ -3,8 +3,8 @@ use Rattle.std.specs.Prelude.{option_map}
 use Rattle.lt_tree.specs.Typing.ProgramView.{program_of}
 use Rattle.lt_entry.specs.SpecificationLines.{entry_line}
 use Rattle.lt_entry.specs.Conditions.{entry_named}
-use Rattle.lt_input_lines.specs.LineViews.{row_view, line_view}
-use Rattle.lt_input_lines.specs.ReadingLines.{read_line}
+use Rattle.lt_entry.specs.LineViews.{row_view, line_view}
+use Rattle.lt_entry.specs.ReadingLines.{read_line}
 use Rattle.lt_spec_reader.proofs.EntryLaws.{one_named}
 use Rattle.lt_spec_reader.proofs.entry.entry_of.Goals as goal
 

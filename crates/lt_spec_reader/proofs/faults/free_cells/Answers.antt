@@ -3,7 +3,7 @@ use Rattle.std.specs.Prelude.{◌||◌}
 use Rattle.std.specs.List.{list_any}
 use Rattle.std.specs.Str.{bytes_eq}
 use Rattle.lt_tree.specs.declared.typed.entity.Object.{Object}
-use Rattle.lt_input_lines.specs.LineViews.{row_view}
+use Rattle.lt_entry.specs.LineViews.{row_view}
 use Rattle.lt_input_names.specs.declared.block.Block.{Block}
 use Rattle.lt_input_names.specs.declared.block.LineBlock.{LineBlock}
 use Rattle.lt_spec_reader.proofs.FaultLaws.{own_has}

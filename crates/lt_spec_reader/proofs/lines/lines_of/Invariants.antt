@@ -1,7 +1,7 @@
 use Rattle.std.proofs.Common.{◌≡◌, ℕ, List, [], ◌∷◌, map, length}
 use Rattle.lt_tree.specs.declared.typed.program.Program as typed
 use Rattle.lt_tree.specs.Typing.ProgramView.{program_of}
-use Rattle.lt_input_lines.specs.LineViews.{row_view, line_view}
+use Rattle.lt_entry.specs.LineViews.{row_view, line_view}
 use Rattle.lt_spec_reader.specs.Fronts.{AreFirst}
 use Rattle.lt_spec_reader.specs.States.{IsReady, IsBehind}
 use Rattle.lt_spec_reader.proofs.lines.lines_of.Given as goal

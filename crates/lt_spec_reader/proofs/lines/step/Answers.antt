@@ -1,6 +1,6 @@
 use Rattle.std.proofs.Common.{◌≡◌, Bor, List, ℕ, map, refl, sym, subst}
-use Rattle.lt_input_lines.specs.Views.{numeral_view}
-use Rattle.lt_input_lines.specs.LineViews.{line_view, range_view, points_view, require_view}
+use Rattle.lt_entry.specs.Views.{numeral_view}
+use Rattle.lt_entry.specs.LineViews.{line_view, range_view, points_view, require_view}
 use Rattle.lt_spec_reader.specs.declared.state.State.{State}
 use Rattle.lt_spec_reader.specs.States.{IsStep}
 use Rattle.lt_spec_reader.proofs.Loops.{ok_map}

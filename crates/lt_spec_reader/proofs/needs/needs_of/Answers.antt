@@ -1,5 +1,5 @@
 use Rattle.lt_entry.specs.Meaning.{need_said}
-use Rattle.lt_input_lines.specs.LineViews.{line_view}
+use Rattle.lt_entry.specs.LineViews.{line_view}
 use Rattle.lt_input_names.specs.Views.{scope_of}
 use Rattle.lt_spec_reader.proofs.NeedLaws.{picked_more}
 use Rattle.lt_spec_reader.proofs.needs.needs_of.Goals as goal

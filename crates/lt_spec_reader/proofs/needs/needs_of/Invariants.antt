@@ -1,7 +1,7 @@
 use Rattle.std.proofs.Common.{◌≡◌, map, take}
 use Rattle.std.specs.List.{filter_map}
 use Rattle.lt_entry.specs.Meaning.{need_said}
-use Rattle.lt_input_lines.specs.LineViews.{line_view}
+use Rattle.lt_entry.specs.LineViews.{line_view}
 use Rattle.lt_input_names.specs.Views.{scope_of}
 use Rattle.lt_spec_reader.proofs.needs.needs_of.Given as goal
 

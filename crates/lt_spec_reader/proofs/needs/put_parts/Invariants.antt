@@ -1,5 +1,5 @@
 use Rattle.std.proofs.Common.{◌≡◌, ◌++◌, map, take}
-use Rattle.lt_input_lines.specs.LineViews.{term_view}
+use Rattle.lt_entry.specs.LineViews.{term_view}
 use Rattle.lt_spec_reader.specs.Said.{part_term}
 use Rattle.lt_spec_reader.proofs.needs.put_parts.Given as goal
 

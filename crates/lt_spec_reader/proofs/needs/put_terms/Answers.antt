@@ -1,4 +1,4 @@
-use Rattle.lt_input_lines.specs.LineViews.{term_view}
+use Rattle.lt_entry.specs.LineViews.{term_view}
 use Rattle.lt_spec_reader.proofs.Loops.{on_ok_map}
 use Rattle.lt_spec_reader.proofs.NeedLaws.{terms_are}
 use Rattle.lt_spec_reader.proofs.needs.put_terms.Goals as goal

@@ -2,7 +2,7 @@ use Rattle.std.proofs.Common.{◌≡◌, ◌∷◌, ℕ, List, Some, None, false
 use Rattle.std.specs.Prelude.{◌||◌, option_map}
 use Rattle.lt_entry.specs.Lines.{Row}
 use Rattle.lt_entry.specs.Conditions.{points_at}
-use Rattle.lt_input_lines.specs.LineViews.{row_view}
+use Rattle.lt_entry.specs.LineViews.{row_view}
 use Rattle.lt_input_names.specs.Stubs.{has_name}
 use Rattle.lt_spec_reader.specs.Frees.{is_name_of}
 use Rattle.lt_spec_reader.proofs.Loops.{any_mapped_more, or_none}

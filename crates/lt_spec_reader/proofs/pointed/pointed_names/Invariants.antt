@@ -1,7 +1,7 @@
 use Rattle.std.proofs.Common.{◌≡◌, ℕ, List, map, take}
 use Rattle.std.specs.List.{list_any}
 use Rattle.lt_entry.specs.Conditions.{points_at}
-use Rattle.lt_input_lines.specs.LineViews.{row_view}
+use Rattle.lt_entry.specs.LineViews.{row_view}
 use Rattle.lt_input_names.specs.Stubs.{has_name}
 use Rattle.lt_spec_reader.proofs.pointed.pointed_names.Given as goal
 

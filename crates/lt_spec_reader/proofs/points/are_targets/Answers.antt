@@ -3,7 +3,7 @@ use Rattle.std.specs.Prelude.{not, ◌==◌, Option}
 use Rattle.lt_model.specs.declared.input.Place.{Place}
 use Rattle.lt_entry.specs.Naming.{targets_of}
 use Rattle.lt_entry.specs.Written.{TargetWord}
-use Rattle.lt_input_lines.specs.Views.{target_view}
+use Rattle.lt_entry.specs.Views.{target_view}
 use Rattle.lt_input_names.specs.Views.{scope_of, type_at}
 use Rattle.lt_spec_reader.proofs.Loops.{all_more, all_fails, all_done}
 use Rattle.lt_spec_reader.proofs.points.are_targets.Goals as goal

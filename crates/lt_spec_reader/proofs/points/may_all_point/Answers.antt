@@ -1,5 +1,5 @@
 use Rattle.std.proofs.Common.{◌≡◌, ◌≤◌, true, false, length, map, sym, ◌∙◌, arith, rules}
-use Rattle.lt_input_lines.specs.Views.{target_view}
+use Rattle.lt_entry.specs.Views.{target_view}
 use Rattle.lt_input_names.specs.Views.{scope_of, named_at}
 use Rattle.lt_spec_reader.specs.Said.{may_point}
 use Rattle.lt_spec_reader.proofs.Loops.{all_more, each_stops, each_ends}

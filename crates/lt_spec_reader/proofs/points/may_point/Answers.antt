@@ -1,7 +1,7 @@
 use Rattle.std.proofs.Common.{map, ap, ◌∙◌}
 use Rattle.lt_tree.specs.Typing.Types.{target_of}
 use Rattle.lt_entry.specs.Conditions.{have_targets}
-use Rattle.lt_input_lines.specs.Views.{target_view}
+use Rattle.lt_entry.specs.Views.{target_view}
 use Rattle.lt_input_names.specs.Views.{scope_of, type_at, named_at}
 use Rattle.lt_spec_reader.proofs.SaidLaws.{may_point_is}
 use Rattle.lt_spec_reader.proofs.points.may_point.Goals as goal

@@ -5,7 +5,7 @@ use Rattle.lt_model.specs.declared.input.Want.TheVariants as want
 use Rattle.lt_tree.specs.Typing.Entities.{or_else}
 use Rattle.lt_entry.specs.Conditions.{same_place, each_named}
 use Rattle.lt_entry.specs.Meaning.{targets_for}
-use Rattle.lt_input_lines.specs.Views.{place_view, target_view}
+use Rattle.lt_entry.specs.Views.{place_view, target_view}
 use Rattle.lt_input_names.specs.declared.part.Part.{Part}
 use Rattle.lt_input_names.specs.Views.{scope_of, type_at, named_at}
 use Rattle.lt_spec_reader.specs.Said.{found_at, may_point}

@@ -6,7 +6,7 @@ use Rattle.lt_model.specs.declared.input.Want.TheVariants as want
 use Rattle.lt_tree.specs.Typing.Entities.{or_else}
 use Rattle.lt_entry.specs.Conditions.{same_place}
 use Rattle.lt_entry.specs.Meaning.{targets_for}
-use Rattle.lt_input_lines.specs.Views.{target_view}
+use Rattle.lt_entry.specs.Views.{target_view}
 use Rattle.lt_input_names.specs.declared.part.Part.{Part}
 use Rattle.lt_input_names.specs.Views.{scope_of, type_at}
 use Rattle.lt_spec_reader.specs.Said.{found_at}

@@ -2,7 +2,7 @@ use Rattle.std.proofs.Common.{◌≡◌, ◌≤◌, length, map, take, sym, ap, 
 use Rattle.std.specs.List.{list_any}
 use Rattle.lt_entry.specs.Lines.{Row}
 use Rattle.lt_entry.specs.Conditions.{is_ranged_by}
-use Rattle.lt_input_lines.specs.LineViews.{row_view}
+use Rattle.lt_entry.specs.LineViews.{row_view}
 use Rattle.lt_input_names.specs.Views.{scope_of}
 use Rattle.lt_spec_reader.specs.Frees.{has_place}
 use Rattle.lt_spec_reader.proofs.Loops.{any_mapped_more, any_mapped_done}

@@ -1,7 +1,7 @@
 use Rattle.std.proofs.Common.{◌≡◌, true, List, map, take}
 use Rattle.std.specs.List.{list_all}
 use Rattle.lt_entry.specs.SpecificationLines.{Line}
-use Rattle.lt_input_lines.specs.Views.{numeral_view}
+use Rattle.lt_entry.specs.Views.{numeral_view}
 use Rattle.lt_input_names.specs.Views.{scope_of, named_at}
 use Rattle.lt_spec_reader.specs.Said.{HasSaid, may_range}
 use Rattle.lt_spec_reader.proofs.ranges.may_all_have.Given as goal

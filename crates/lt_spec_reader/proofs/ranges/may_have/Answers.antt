@@ -1,6 +1,6 @@
 use Rattle.std.proofs.Common.{◌≡◌, sym, ap, ◌∙◌}
 use Rattle.lt_entry.specs.Conditions.{is_range}
-use Rattle.lt_input_lines.specs.Views.{numeral_view}
+use Rattle.lt_entry.specs.Views.{numeral_view}
 use Rattle.lt_input_names.specs.Views.{scope_of, named_at}
 use Rattle.lt_spec_reader.proofs.SaidLaws.{may_range_is}
 use Rattle.lt_spec_reader.proofs.ranges.may_have.Goals as goal

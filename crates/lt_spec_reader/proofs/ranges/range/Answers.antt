@@ -5,7 +5,7 @@ use Rattle.lt_model.specs.declared.input.Want.TheVariants as want
 use Rattle.lt_tree.specs.Typing.Entities.{or_else}
 use Rattle.lt_entry.specs.Written.{value_of}
 use Rattle.lt_entry.specs.Conditions.{same_place, each_named}
-use Rattle.lt_input_lines.specs.Views.{numeral_view, place_view}
+use Rattle.lt_entry.specs.Views.{numeral_view, place_view}
 use Rattle.lt_input_names.specs.declared.part.Part.{Part}
 use Rattle.lt_input_names.specs.Views.{scope_of, named_at}
 use Rattle.lt_spec_reader.specs.Said.{found_at, may_range}

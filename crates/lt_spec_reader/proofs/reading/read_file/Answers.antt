@@ -6,7 +6,7 @@ use Rattle.lt_tree.specs.Typing.ProgramView.{program_of}
 use Rattle.lt_entry.specs.Lines.{Row}
 use Rattle.lt_entry.specs.Naming.{default_block}
 use Rattle.lt_entry.specs.Conditions.{points_at}
-use Rattle.lt_input_lines.specs.LineViews.{row_view}
+use Rattle.lt_entry.specs.LineViews.{row_view}
 use Rattle.lt_input_names.specs.Blocks.{program_types, block_of}
 use Rattle.lt_input_specs.specs.Defaults.{root_of}
 use Rattle.lt_spec_reader.proofs.OwnLaws.{default_are}

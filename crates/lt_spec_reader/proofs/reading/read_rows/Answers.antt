@@ -1,5 +1,5 @@
 use Rattle.std.proofs.Common.{◌≡◌, Some, None, map, sym, ◌∙◌, subst}
-use Rattle.lt_input_lines.specs.LineViews.{row_view, line_view}
+use Rattle.lt_entry.specs.LineViews.{row_view, line_view}
 use Rattle.lt_spec_reader.specs.Answers.{IsFault}
 use Rattle.lt_spec_reader.specs.States.{AreRead}
 use Rattle.lt_spec_reader.proofs.FaultLaws.{answer_bad, answer_said}

@@ -2,8 +2,8 @@ use Rattle.std.proofs.Common.{◌≡◌, [], Some, None, map, Bor, List, ℕ, sy
 use Rattle.std.specs.Prelude.{option_map}
 use Rattle.lt_tree.specs.Typing.ProgramView.{program_of}
 use Rattle.lt_tree.specs.declared.typed.program.Program.{Program}
-use Rattle.lt_input_lines.specs.LineViews.{row_view}
-use Rattle.lt_input_lines.specs.declared.row.Row.{Row}
+use Rattle.lt_entry.specs.LineViews.{row_view}
+use Rattle.lt_entry.specs.declared.row.Row.{Row}
 use Rattle.lt_spec_reader.specs.Entries.{IsEntryOf}
 use Rattle.lt_spec_reader.specs.Fronts.{IsNext}
 use Rattle.lt_spec_reader.proofs.FaultLaws.{answer_none, answer_first, first_row, no_rows, one_first, answer_moved}

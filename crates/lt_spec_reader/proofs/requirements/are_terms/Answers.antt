@@ -1,6 +1,6 @@
 use Rattle.std.proofs.Common.{◌≡◌, false, sym, ◌∙◌, rules}
 use Rattle.lt_entry.specs.Conditions.{is_term}
-use Rattle.lt_input_lines.specs.LineViews.{addend_view}
+use Rattle.lt_entry.specs.LineViews.{addend_view}
 use Rattle.lt_input_names.specs.Views.{scope_of}
 use Rattle.lt_spec_reader.proofs.Loops.{all_fails}
 use Rattle.lt_spec_reader.proofs.requirements.are_terms.Goals as goal

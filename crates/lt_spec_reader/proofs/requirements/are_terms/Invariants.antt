@@ -1,7 +1,7 @@
 use Rattle.std.proofs.Common.{◌≡◌, true, map, take}
 use Rattle.std.specs.List.{list_all}
 use Rattle.lt_entry.specs.Conditions.{is_term}
-use Rattle.lt_input_lines.specs.LineViews.{addend_view}
+use Rattle.lt_entry.specs.LineViews.{addend_view}
 use Rattle.lt_input_names.specs.Views.{scope_of}
 use Rattle.lt_spec_reader.proofs.requirements.are_terms.Given as goal
 

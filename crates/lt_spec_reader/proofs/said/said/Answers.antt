@@ -6,7 +6,7 @@ use Rattle.lt_tree.specs.declared.typed.program.Program as typed
 use Rattle.lt_tree.specs.Typing.ProgramView.{program_of}
 use Rattle.lt_entry.specs.Conditions.{scope_behind}
 use Rattle.lt_entry.specs.Meaning.{block_in, free_cells, null_or_default}
-use Rattle.lt_input_lines.specs.LineViews.{line_view}
+use Rattle.lt_entry.specs.LineViews.{line_view}
 use Rattle.lt_input_names.specs.Blocks.{program_types, block_of, line_block_of}
 use Rattle.lt_input_specs.specs.Defaults.{root_of}
 use Rattle.lt_spec_reader.proofs.WholeLaws.{flat_mapped, blocks_are, shapes_are, whole}

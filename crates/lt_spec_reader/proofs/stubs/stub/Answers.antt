@@ -1,7 +1,7 @@
 use Rattle.std.proofs.Common.{◌≡◌, true, false, refl, sym, ap, ◌∙◌, rules}
 use Rattle.std.specs.Prelude.{◌&&◌, not}
 use Rattle.lt_entry.specs.Conditions.{is_range}
-use Rattle.lt_input_lines.specs.Views.{numeral_view}
+use Rattle.lt_entry.specs.Views.{numeral_view}
 use Rattle.lt_input_names.specs.Views.{scope_of}
 use Rattle.lt_spec_reader.proofs.Bools.{both, not_false}
 use Rattle.lt_spec_reader.proofs.MapLaws.{put_in}

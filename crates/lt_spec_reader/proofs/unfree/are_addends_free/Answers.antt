@@ -3,7 +3,7 @@ use Rattle.std.specs.List.{list_all}
 use Rattle.lt_entry.specs.Naming.{named_by}
 use Rattle.lt_entry.specs.SpecificationLines.{Addend}
 use Rattle.lt_entry.specs.Conditions.{is_free}
-use Rattle.lt_input_lines.specs.LineViews.{addend_view}
+use Rattle.lt_entry.specs.LineViews.{addend_view}
 use Rattle.lt_input_names.specs.Views.{scope_of}
 use Rattle.lt_spec_reader.proofs.Loops.{all_more, all_fails, all_done}
 use Rattle.lt_spec_reader.proofs.unfree.are_addends_free.Goals as goal

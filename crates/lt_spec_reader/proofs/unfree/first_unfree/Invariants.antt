@@ -1,7 +1,7 @@
 use Rattle.std.proofs.Common.{◌≡◌, List, map, drop}
 use Rattle.lt_entry.specs.Lines.{Row}
 use Rattle.lt_entry.specs.Specifications.{unfree_rows}
-use Rattle.lt_input_lines.specs.LineViews.{row_view, line_view}
+use Rattle.lt_entry.specs.LineViews.{row_view, line_view}
 use Rattle.lt_input_names.specs.Views.{scope_of}
 use Rattle.lt_spec_reader.specs.Frees.{AreFree}
 use Rattle.lt_spec_reader.proofs.unfree.first_unfree.Given as goal

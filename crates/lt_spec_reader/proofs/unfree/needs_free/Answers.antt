@@ -3,8 +3,8 @@ use Rattle.std.specs.List.{list_all}
 use Rattle.lt_entry.specs.Naming.{named_by}
 use Rattle.lt_entry.specs.SpecificationLines.{Addend}
 use Rattle.lt_entry.specs.Conditions.{is_free}
-use Rattle.lt_input_lines.specs.Views.{place_view}
-use Rattle.lt_input_lines.specs.LineViews.{addend_view}
+use Rattle.lt_entry.specs.Views.{place_view}
+use Rattle.lt_entry.specs.LineViews.{addend_view}
 use Rattle.lt_input_names.specs.Views.{scope_of}
 use Rattle.lt_spec_reader.proofs.Loops.{ok_map, and_goes}
 use Rattle.lt_spec_reader.proofs.unfree.needs_free.Goals as goal

@@ -1,7 +1,7 @@
 use Rattle.std.proofs.Common.{sym, ap, ◌∙◌, arith}
 use Rattle.lt_tree.specs.Typing.ProgramView.{program_of}
 use Rattle.lt_entry.specs.Conditions.{is_block}
-use Rattle.lt_input_lines.specs.Views.{numeral_view}
+use Rattle.lt_entry.specs.Views.{numeral_view}
 use Rattle.lt_input_names.specs.Blocks.{element_of, program_types}
 use Rattle.lt_input_blocks.specs.Tokens.{texts}
 use Rattle.lt_input_blocks.proofs.ElementLaws.{named_law}

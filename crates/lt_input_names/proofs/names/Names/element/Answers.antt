@@ -1,4 +1,4 @@
-use Rattle.lt_input_lines.specs.Views.{numeral_view}
+use Rattle.lt_entry.specs.Views.{numeral_view}
 use Rattle.lt_input_names.specs.Views.{program_at, type_at}
 use Rattle.lt_input_names.proofs.StepLaws.{no_element}
 use Rattle.lt_input_names.proofs.names.Names.element.Goals as goal

@@ -1,4 +1,4 @@
-use Rattle.lt_input_lines.specs.Views.{numeral_view}
+use Rattle.lt_entry.specs.Views.{numeral_view}
 use Rattle.lt_input_names.specs.Views.{program_at, type_at}
 use Rattle.lt_input_names.proofs.TargetLaws.{no_past}
 use Rattle.lt_input_names.proofs.names.Names.end_of_array.Goals as goal

@@ -1,7 +1,7 @@
 use Rattle.std.proofs.Common.{◌≡◌, map, ap, ◌∙◌}
 use Rattle.std.specs.Global.{Vec}
 use Rattle.lt_entry.specs.Naming.{named_part, named_in, named_by, parts_at}
-use Rattle.lt_input_lines.specs.Views.{step_view, place_view}
+use Rattle.lt_entry.specs.Views.{step_view, place_view}
 use Rattle.lt_input_names.specs.declared.part.Part.{Part}
 use Rattle.lt_input_names.specs.Parts.{part_at, part_in}
 use Rattle.lt_input_names.specs.Views.{program_at, scope_of, types_at, type_at, named_at}

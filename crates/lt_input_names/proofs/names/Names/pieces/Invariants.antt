@@ -1,7 +1,7 @@
 use Rattle.std.proofs.Common.{◌≡◌, map, drop}
 use Rattle.std.specs.List.{flat_map}
 use Rattle.lt_entry.specs.Naming.{parts_at}
-use Rattle.lt_input_lines.specs.Views.{step_view}
+use Rattle.lt_entry.specs.Views.{step_view}
 use Rattle.lt_input_names.specs.Parts.{part_at, pieces_at}
 use Rattle.lt_input_names.specs.Views.{program_at, type_at}
 use Rattle.lt_input_names.proofs.names.Names.pieces.Given as goal

@@ -1,6 +1,6 @@
 use Rattle.std.proofs.Common.{map, ap, ◌∙◌}
 use Rattle.std.specs.List.{flat_map}
-use Rattle.lt_input_lines.specs.Views.{step_view}
+use Rattle.lt_entry.specs.Views.{step_view}
 use Rattle.lt_input_names.specs.Parts.{part_at, strided, parts_of_stride}
 use Rattle.lt_input_names.specs.Views.{program_at, type_at}
 use Rattle.lt_input_names.proofs.StepLaws.{steps_each, steps_nowhere}

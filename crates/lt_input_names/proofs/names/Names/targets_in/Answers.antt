@@ -2,7 +2,7 @@ use Rattle.std.proofs.Common.{◌≡◌, ◌++◌, Option, map, sym, ap, ◌∙�
 use Rattle.std.specs.Global.{Vec}
 use Rattle.lt_model.specs.declared.input.Place.{Place}
 use Rattle.lt_entry.specs.Naming.{named_part, if_all_pointed, parts_at, past_root}
-use Rattle.lt_input_lines.specs.Views.{step_view}
+use Rattle.lt_entry.specs.Views.{step_view}
 use Rattle.lt_input_names.specs.Parts.{part_at, address_in}
 use Rattle.lt_input_names.specs.Roots.{root_at}
 use Rattle.lt_input_names.specs.Targets.{targets_in, end_in}

@@ -1,6 +1,6 @@
 use Rattle.std.proofs.Common.{true, false, refl, subst}
 use Rattle.lt_entry.specs.Suites.{point_line}
-use Rattle.lt_input_lines.specs.Views.{place_view, target_view}
+use Rattle.lt_entry.specs.Views.{place_view, target_view}
 use Rattle.lt_input_names.specs.Views.{scope_of, named_at}
 use Rattle.lt_input_suites.specs.Parts.{IsPart, IsTarget}
 use Rattle.lt_input_suites.proofs.Singles.{name_of_part}

@@ -5,7 +5,7 @@ use mir.Syntax.{w128}
 use Rattle.lt_model.specs.declared.input.CellSet.TheVariants as cellset
 use Rattle.lt_tree.specs.Typing.Types.{scalar_of}
 use Rattle.lt_entry.specs.Suites.{set_line, is_number}
-use Rattle.lt_input_lines.specs.Views.{place_view, numeral_view}
+use Rattle.lt_entry.specs.Views.{place_view, numeral_view}
 use Rattle.lt_input_names.specs.Views.{scope_of, type_at, named_at}
 use Rattle.lt_input_suites.specs.Parts.{IsPart}
 use Rattle.lt_input_suites.proofs.Singles.{name_of_part}

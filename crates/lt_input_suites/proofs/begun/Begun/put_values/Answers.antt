@@ -1,7 +1,7 @@
 use Rattle.std.proofs.Common.{true, false, [], ◌∷◌, ◌++◌, map, refl, sym, ap, ◌∙◌}
 use Rattle.std.specs.Prelude.{not}
 use Rattle.lt_entry.specs.Suites.{values_line}
-use Rattle.lt_input_lines.specs.Views.{numeral_view}
+use Rattle.lt_entry.specs.Views.{numeral_view}
 use Rattle.lt_input_names.specs.Views.{scope_of}
 use Rattle.lt_input_suites.proofs.Sets.{has_name_more}
 use Rattle.lt_input_suites.proofs.Puts.{not_put, numbers_fit, values_none, values_bad, values_twice, values_well, values_put, values_said}

@@ -1,6 +1,6 @@
 use Rattle.std.proofs.Common.{refl, subst}
 use Rattle.std.proofs.lemmas.Result.{IfOk-weaker}
-use Rattle.lt_input_lines.specs.LineViews.{suite_line_view}
+use Rattle.lt_entry.specs.LineViews.{suite_line_view}
 use Rattle.lt_input_names.specs.Views.{scope_of}
 use Rattle.lt_input_suites.specs.Drafts.{HasBegun, Puts}
 use Rattle.lt_input_suites.proofs.Drafted.{no_test, none_begun, taken_in}

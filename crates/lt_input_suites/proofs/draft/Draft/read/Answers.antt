@@ -1,7 +1,7 @@
 use Rattle.std.proofs.Common.{ℕ, List, Bor, map, sym, ap, ◌∙◌}
 use Rattle.std.specs.Prelude.{option_map}
 use Rattle.std.proofs.lemmas.Result.{IfOk-weaker}
-use Rattle.lt_input_lines.specs.LineViews.{suite_line_view}
+use Rattle.lt_entry.specs.LineViews.{suite_line_view}
 use Rattle.lt_input_names.specs.Views.{scope_of}
 use Rattle.lt_input_suites.specs.Drafts.{Takes}
 use Rattle.lt_input_suites.proofs.Drafted.{none_read, one_read}

@@ -1,5 +1,0 @@
-use Rattle.lt_input_lines.proofs.OneSpecification.{specifications}
-use Rattle.lt_input_lines.proofs.laws.a_text_says_one_specification.Goals as goal
-
-pub returns : goal.returns
-returns c = specifications

@@ -1,5 +1,0 @@
-use Rattle.lt_input_lines.proofs.OneSuite.{suites}
-use Rattle.lt_input_lines.proofs.laws.a_text_says_one_suite.Goals as goal
-
-pub returns : goal.returns
-returns c = suites
