@@ -5,22 +5,22 @@ use Rattle.lt_entry.specs.SpecificationLines.{Relation, at_most, at_least, equal
 use Rattle.lt_entry.specs.Suites.{SuiteLine, test_line, set_line, point_line, values_line}
 use Rattle.lt_entry.specs.Views.{numeral_view, place_view, target_view}
 use Rattle.lt_entry.specs.declared.row.Row as row
-use Rattle.lt_entry.specs.declared.specification.Relation as relation
-use Rattle.lt_entry.specs.declared.specification.Relation.TheVariants as relations
-use Rattle.lt_entry.specs.declared.specification.Term as term
-use Rattle.lt_entry.specs.declared.specification.Addend as addend
-use Rattle.lt_entry.specs.declared.specification.BlockLine as block
-use Rattle.lt_entry.specs.declared.specification.RangeLine as range
-use Rattle.lt_entry.specs.declared.specification.PointsLine as points
-use Rattle.lt_entry.specs.declared.specification.StubLine as stub
-use Rattle.lt_entry.specs.declared.specification.RequireLine as need
-use Rattle.lt_entry.specs.declared.specification.Line as line
-use Rattle.lt_entry.specs.declared.specification.Line.TheVariants as lines
-use Rattle.lt_entry.specs.declared.suite.SuiteLine as suite
-use Rattle.lt_entry.specs.declared.suite.SuiteLine.TheVariants as suites
-use Rattle.lt_entry.specs.declared.suite.SetLine as set
-use Rattle.lt_entry.specs.declared.suite.PointLine as point
-use Rattle.lt_entry.specs.declared.suite.ValuesLine as values
+use Rattle.lt_entry.specs.declared.specification_line.Relation as relation
+use Rattle.lt_entry.specs.declared.specification_line.Relation.TheVariants as relations
+use Rattle.lt_entry.specs.declared.specification_line.Term as term
+use Rattle.lt_entry.specs.declared.specification_line.Addend as addend
+use Rattle.lt_entry.specs.declared.specification_line.BlockLine as block
+use Rattle.lt_entry.specs.declared.specification_line.RangeLine as range
+use Rattle.lt_entry.specs.declared.specification_line.PointsLine as points
+use Rattle.lt_entry.specs.declared.specification_line.StubLine as stub
+use Rattle.lt_entry.specs.declared.specification_line.RequireLine as need
+use Rattle.lt_entry.specs.declared.specification_line.Line as line
+use Rattle.lt_entry.specs.declared.specification_line.Line.TheVariants as lines
+use Rattle.lt_entry.specs.declared.suite_line.SuiteLine as suite
+use Rattle.lt_entry.specs.declared.suite_line.SuiteLine.TheVariants as suites
+use Rattle.lt_entry.specs.declared.suite_line.SetLine as set
+use Rattle.lt_entry.specs.declared.suite_line.PointLine as point
+use Rattle.lt_entry.specs.declared.suite_line.ValuesLine as values
 
 abbrev pub row_view : row.Row → Row
 row_view r = record { number = r.number; words = map (λ word. word.now) r.words.items }

@@ -6,8 +6,8 @@ use Rattle.std.specs.Borrow.{Bor}
 use Rattle.std.specs.Str.{bytes_eq}
 use Rattle.lt_entry.specs.Naming.{Scope}
 use Rattle.lt_entry.specs.Suites.{SuiteLine, test_line, set_line, point_line, values_line, suite_words, is_suite_form, is_test_line, of_last_test, names_test, fits_suite, test_said, tests_said}
-use Rattle.lt_entry.specs.declared.suite.SuiteLine as memory
-use Rattle.lt_entry.specs.declared.suite.SuiteLine.TheVariants as lines
+use Rattle.lt_entry.specs.declared.suite_line.SuiteLine as memory
+use Rattle.lt_entry.specs.declared.suite_line.SuiteLine.TheVariants as lines
 use Rattle.lt_entry.specs.LineViews.{suite_line_view}
 use Rattle.lt_entry.specs.ReadingLines.{read_suite_line}
 use Rattle.lt_entry.proofs.SuiteLaws.{suite_lines}

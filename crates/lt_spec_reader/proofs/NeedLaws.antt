@@ -14,7 +14,7 @@ use Rattle.lt_entry.specs.SpecificationLines.{Addend, Line}
 use Rattle.lt_entry.specs.Conditions as conditions
 use Rattle.lt_entry.specs.Conditions.{stubs_of}
 use Rattle.lt_entry.specs.Meaning.{factor_of, need_terms, stub_range}
-use Rattle.lt_entry.specs.declared.specification.StubLine.{StubLine}
+use Rattle.lt_entry.specs.declared.specification_line.StubLine.{StubLine}
 use Rattle.lt_input_names.specs.declared.names.Names.{Names}
 use Rattle.lt_input_names.specs.declared.part.Part.{Part}
 use Rattle.lt_input_names.specs.declared.stubs.Stub.{Stub}

@@ -17,7 +17,7 @@ use Rattle.lt_entry.specs.Naming.{Scope, Named, named_by}
 use Rattle.lt_entry.specs.SpecificationLines.{Line, entry_line, block_line, range_line, points_line, stub_line, require_line}
 use Rattle.lt_entry.specs.Conditions.{same_place, is_place_in, names_cell, names_stub, is_range, have_targets, each_named, fits_in, stub_among, stubs_of}
 use Rattle.lt_entry.specs.Meaning.{first_some, want_by, want_said, stub_range_by, targets_for}
-use Rattle.lt_entry.specs.declared.specification.StubLine.{StubLine}
+use Rattle.lt_entry.specs.declared.specification_line.StubLine.{StubLine}
 use Rattle.lt_entry.specs.Views.{numeral_view}
 use Rattle.lt_entry.specs.LineViews.{stub_view}
 use Rattle.lt_input_names.specs.declared.names.Names.{Names}

@@ -16,7 +16,7 @@ use Rattle.lt_entry.specs.Naming.{Scope, Named}
 use Rattle.lt_entry.specs.SpecificationLines.{Addend, Line}
 use Rattle.lt_entry.specs.Conditions.{names_cell, is_range, have_targets, fits_in, Stub}
 use Rattle.lt_entry.specs.Meaning.{first_some, want_by, want_said, stub_range_by, factor_of}
-use Rattle.lt_entry.specs.declared.specification.StubLine.{StubLine}
+use Rattle.lt_entry.specs.declared.specification_line.StubLine.{StubLine}
 use Rattle.lt_entry.specs.Views.{numeral_view}
 use Rattle.lt_input_names.specs.declared.part.Part.{Part}
 use Rattle.lt_input_names.specs.Found.{found_in}

@@ -5,7 +5,7 @@ use Rattle.lt_tree.specs.declared.typed.program.Program as typed
 use Rattle.lt_tree.specs.Typing.ProgramView.{program_of}
 use Rattle.lt_token.specs.Words.{is_no_identifier}
 use Rattle.lt_entry.specs.TypeNames.{type_named}
-use Rattle.lt_entry.specs.declared.specification.BlockLine.{BlockLine}
+use Rattle.lt_entry.specs.declared.specification_line.BlockLine.{BlockLine}
 use Rattle.lt_entry.specs.Views.{numeral_view}
 use Rattle.lt_entry.specs.LineViews.{block_view}
 use Rattle.lt_entry.specs.Lines.{Row}

@@ -2,7 +2,7 @@ use Rattle.std.proofs.Common.{sym, rules, arith, ◌≤◌, length}
 use Rattle.std.proofs.lemmas.List.{map-append}
 use Rattle.lt_entry.specs.LineViews.{addend_view}
 use Rattle.lt_entry.proofs.LinesRead.{mapped_none, mapped_some, addends_begin, addends_more, addends_none, addends_end}
-use Rattle.lt_entry.proofs.specification.addends_of.Goals as goal
+use Rattle.lt_entry.proofs.specification_line.addends_of.Goals as goal
 
 pub loop-read-init : goal.loop-read-init
 loop-read-init c = rw c.new-addends.ensures.items (addends_begin _)

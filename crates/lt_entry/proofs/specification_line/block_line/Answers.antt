@@ -1,5 +1,5 @@
 use Rattle.lt_entry.proofs.LinesRead.{block_is}
-use Rattle.lt_entry.proofs.specification.block_line.Goals as goal
+use Rattle.lt_entry.proofs.specification_line.block_line.Goals as goal
 
 pub returns-in-Some-split_last : goal.returns-in-Some-split_last
 returns-in-Some-split_last c =

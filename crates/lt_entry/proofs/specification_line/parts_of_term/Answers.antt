@@ -2,7 +2,7 @@ use Rattle.std.proofs.Common.{rules, eqb}
 use borrow.Author.Tests.{tests}
 use Rattle.std.proofs.lemmas.Iterator.Splits.{YieldsList-from_slice_split}
 use Rattle.std.proofs.lemmas.Iterator.Consumers.{map_from_collect}
-use Rattle.lt_entry.proofs.specification.parts_of_term.Goals as goal
+use Rattle.lt_entry.proofs.specification_line.parts_of_term.Goals as goal
 
 pub returns : goal.returns
 returns c =

@@ -2,7 +2,7 @@ use Rattle.std.proofs.Common.{sym}
 use Rattle.std.proofs.lemmas.List.{map-append}
 use Rattle.lt_entry.specs.Reading.{read_numeral}
 use Rattle.lt_entry.proofs.ReadAll.{loop_more, loop_none}
-use Rattle.lt_entry.proofs.suite.numerals_of.Goals as goal
+use Rattle.lt_entry.proofs.suite_line.numerals_of.Goals as goal
 
 pub returns-in-None : goal.returns-in-None
 returns-in-None c = sym (loop_none read_numeral c.args.words.now c.loop-word.word-index _ c.loop-word-test.true (sym c.in-None.ensures))

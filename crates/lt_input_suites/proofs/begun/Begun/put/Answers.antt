@@ -1,5 +1,5 @@
 use Rattle.std.proofs.Common.{true, sym, subst}
-use Rattle.lt_entry.specs.declared.suite.SuiteLine.{SuiteLine}
+use Rattle.lt_entry.specs.declared.suite_line.SuiteLine.{SuiteLine}
 use Rattle.lt_entry.specs.LineViews.{suite_line_view}
 use Rattle.lt_input_names.specs.Views.{scope_of}
 use Rattle.lt_input_suites.specs.Drafts.{IsPut}
