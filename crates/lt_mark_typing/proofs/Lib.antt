@@ -1,0 +1,15 @@
+mod Itself
+mod Going
+mod Operands
+mod Knowing
+mod Operators
+mod BinaryOperators
+mod Ends
+mod Unchanged
+mod NewMarks
+mod Again
+mod Declared
+mod Initialisers
+mod Statements
+mod Units
+mod Predicates

@@ -1,0 +1,123 @@
+-- New marks are typed where they stand.
+use Rattle.std.proofs.Common.{◌≡◌, ℕ, zero, suc, ◌+◌, List, [], ◌∷◌, Option, Some, None, Bool, true, false, refl, sym, ap, ◌∙◌, subst, inl, inr}
+use Rattle.std.proofs.lemmas.Bool.{false≢true, eqb-true, eq-eqb}
+use Rattle.std.specs.Prelude.{◌++◌, ◌⊎◌, ◌==◌, ◌||◌, ◌&&◌, not, is_some, unwrap_or}
+use Rattle.std.specs.List.{list_any}
+use Rattle.lt_model.specs.declared.scalar.Scalar.TheVariants as S
+use Rattle.lt_tree.specs.Tree as c
+use Rattle.lt_tree.specs.Purity.{is_pure}
+use Rattle.lt_tree.specs.Typing.Types.{CType, Num, is_scalar}
+use Rattle.lt_tree.specs.Typing.Extents.{Structs, has_too_many_cells}
+use Rattle.lt_tree.specs.Typing.Constants.{Constancy, varying}
+use Rattle.lt_tree.specs.Typing.Rules.{Rule, unless, bad_mark, broken_if, floating_type, bad_length, function_as_value}
+use Rattle.lt_tree.specs.Typing.TypedTree as e
+use Rattle.lt_tree.specs.Typing.TypedTree.{Value, Marks, type_of}
+use Rattle.lt_tree.specs.Typing.Entities.{Known, Object, Function, Label, Fact}
+use Rattle.lt_tree.specs.Typing.Steps.{Outcome, Goes, Breaks, goes_on, settle, adds_label, gives, ◌>>◌}
+use Rattle.lt_tree.specs.Typing.Expressions.{Form, a_value, a_place, a_designator, Typed, Use, as_value, as_truth, as_place, as_callee, valued, own_type, value_in, Judged, judgement, used, fact_of, faults_of_any, has_floating, has_pointer_to_function, finish}
+use Rattle.lt_tree.specs.Typing.MarkRules.{is_new_id, is_good_id, id_of, number_of_id, is_tag, is_good_mark, is_good_decision, label_of, judge_decide, judge_marked, inside_mark}
+use Rattle.lt_tree.specs.Typing.NodeEnds.{end_of_mark, decision_labels}
+use Rattle.lt_tree.specs.Typing.ExpressionTyping.{expression, marks, mark}
+use Rattle.lt_mark_typing.specs.Added as a
+use Rattle.lt_mark_typing.specs.Added.{AreNew, Adds, can_be_marked}
+use Rattle.lt_mark_typing.specs.Beside.{AddsLabels, no_labels, kept, added, is_used, IsBeside, AddsForm, values, places, designators, AddsTyped, AddsTest, Position, in_use, in_test, use_of, AddsAt, Follows, goes, breaks}
+use Rattle.lt_mark_typing.specs.Placed.{IsNewId, IsPredicateAt, AreNewLabels, takes_labels, IsMarkable, is_good_type, IsNoNull}
+use Rattle.lt_mark_typing.proofs.Going.{with_others, same_of, entered_beside}
+use Rattle.lt_mark_typing.proofs.Operands.{type_same, value_adds, made}
+use Rattle.lt_mark_typing.proofs.Operators.{scalar_more}
+use Rattle.lt_mark_typing.proofs.Ends.{structs_same, finished_alone}
+
+apart_by : (new : ℕ → Bool) (n id : ℕ) (b : Bool) → (n == id) ≡ b → new n ≡ false → new id ≡ true → b ≡ false
+apart_by new n id false q h g = refl
+apart_by new n id true q h g = absurd (false≢true (sym h ∙ ap new (eqb-true n id q) ∙ g))
+
+unused_by : (us : List ℕ) (n id : ℕ) (b : Bool) → (n == id) ≡ b → is_used n us ≡ true → is_used id us ≡ false → b ≡ false
+unused_by us n id false q h g = refl
+unused_by us n id true q h g = absurd (false≢true (sym g ∙ ap (λ i. is_used i us) (sym (eqb-true n id q)) ∙ h))
+
+good_by : (known : Known) (found : Option ℕ) → is_some found ≡ true → is_new_id known (unwrap_or found 0) ≡ true → elim (found) as (λ _. Bool) [ None ↦ false | Some n ↦ is_new_id known n ] ≡ true
+good_by known None h g = h
+good_by known (Some n) h g = g
+
+module _ {new : ℕ → Bool} where
+  -- ---- labels
+
+  none_among : {used : List ℕ} {xs ys : List Label} (id : ℕ) → new id ≡ true → is_used id used ≡ false → AddsLabels new used xs ys → list_any (λ label. label.id == id) ys ≡ false
+  none_among id h g no_labels = refl
+  none_among id h g (kept {label} {xs} {ys} is_old d) =
+      ap (λ b. b || list_any (λ label. label.id == id) ys) (apart_by new label.id id (label.id == id) refl is_old h) ∙ none_among id h g d
+  none_among {used} id h g (added {label} {xs} {ys} is_new is_in free d) =
+      ap (λ b. b || list_any (λ label. label.id == id) ys) (unused_by used label.id id (label.id == id) refl is_in g) ∙ none_among id h g d
+
+  pub new_id : {used : List ℕ} {k l : Known} (id : List ℕ) → IsNewId new used id → IsBeside new used k l → is_good_id l id ≡ true
+  new_id {used} {k} {l} id h b = good_by l (id_of id) h.0 (ap not (none_among (number_of_id id) h.1 h.2 b.labels))
+
+  more_used : {used : List ℕ} {xs ys : List Label} (n : ℕ) → AddsLabels new used xs ys → AddsLabels new (n ∷ used) xs ys
+  more_used n no_labels = no_labels
+  more_used n (kept is_old d) = kept is_old (more_used n d)
+  more_used {used} n (added {label} is_new is_in free d) = added is_new (either (n == label.id) is_in) free (more_used n d)
+    where
+      either : (b : Bool) → is_used label.id used ≡ true → b || is_used label.id used ≡ true
+      either true h = refl
+      either false h = h
+
+  one_more : {used : List ℕ} {xs ys : List Label} (label : Label) → new label.id ≡ true → label.bound ≡ [] → AddsLabels new used xs ys → AddsLabels new (label.id ∷ used) xs (ys ++ label ∷ [])
+  one_more {used} label h free no_labels = added h (ap (λ b. b || is_used label.id used) (eq-eqb label.id label.id refl)) free no_labels
+  one_more label h free (kept is_old d) = kept is_old (one_more label h free d)
+  one_more {used} label h free (added {label = other} is_new is_in none d) = added is_new (either (label.id == other.id) is_in) none (one_more label h free d)
+    where
+      either : (b : Bool) → is_used other.id used ≡ true → b || is_used other.id used ≡ true
+      either true h = refl
+      either false h = h
+
+  pub new_label_beside : {used : List ℕ} {k l : Known} (label : Label) → new label.id ≡ true → label.bound ≡ [] → IsBeside new used k l
+      → IsBeside new (label.id ∷ used) k (record l { labels = l.labels ++ label ∷ [] })
+  new_label_beside {used} {k} {l} label h free b = record { same = ap (λ (it : Known). record it { labels = l.labels ++ label ∷ [] }) b.same; objects = b.objects; functions = b.functions; labels = one_more label h free b.labels }
+
+  -- nodes and facts of the second text alone
+  pub numbered_alone : {used : List ℕ} {k l : Known} (n : ℕ) (facts : List Fact) → IsBeside new used k l → IsBeside new used k (record l { next = n; facts = facts })
+  numbered_alone {used} {k} {l} n facts b = record { same = ap (λ (it : Known). record it { next = n; facts = facts }) b.same; objects = b.objects; functions = b.functions; labels = b.labels }
+
+  pub unmarked_there : {used : List ℕ} {k l : Known} → IsBeside new used k l → l.is_unmarked ≡ k.is_unmarked
+  unmarked_there b = same_of (λ (it : Known). it.is_unmarked) b (λ n os fs ls facts h. refl)
+
+  good_new_mark : {used : List ℕ} {k l : Known} (written : c.Expression) (x : Typed) (id tag : List ℕ) → k.is_unmarked ≡ false → is_scalar (own_type x) ≡ true → is_pure written ≡ true → IsNewId new used id
+      → is_tag tag ≡ true → IsBeside new used k l → is_good_mark l written x id tag [] ≡ true
+  good_new_mark {used} {k} {l} written x id tag u s p i t b = rw (unmarked_there b ∙ u) (rw s (rw p (rw (new_id id i b) (rw t refl))))
+
+  pub new_mark : {used : List ℕ} {k l : Known} (predicate : c.Expression) (id tag : List ℕ) → k.is_unmarked ≡ false → IsNewId new used id → is_tag tag ≡ true → IsPredicateAt new used k predicate → IsBeside new used k l
+      → (v : Value) × (later : Known) × (mark (c.mark predicate id tag c.no_bindings) l ≡ Goes (e.mark v (number_of_id id) e.no_bindings) later) × IsBeside new (number_of_id id ∷ used) k later
+  new_mark {used} {k} {l} predicate id tag u i t p b =
+      let here = numbered_alone (l.next + 1) l.facts b in
+      let scalar = p.1 (record l { next = l.next + 1 }) here in
+      let x = scalar.0 in
+      let later : Known = record l { next = scalar.1; facts = scalar.2 } in
+      let there : IsBeside new used k later = numbered_alone scalar.1 scalar.2 b in
+      (value_in x, record later { labels = later.labels ++ label_of id tag [] ∷ [] },
+      ap (λ o. goes_on o (λ x k. end_of_mark l.next predicate x id tag [] k)) scalar.3
+      ∙ ap (λ good. goes_on (settle l.next (unless good bad_mark) later) (λ u. adds_label (label_of id tag []) >> gives (e.mark (value_in x) (number_of_id id) e.no_bindings)))
+      (good_new_mark predicate x id tag u scalar.4 p.0 i t there),
+      new_label_beside (label_of id tag []) i.1 refl there)
+
+  pub new_labels : (labels : c.Marks) {used after : List ℕ} {k l : Known} → k.is_unmarked ≡ false → AreNewLabels new used after k labels → IsBeside new used k l
+      → (ms : Marks) × (later : Known) × (marks labels l ≡ Goes ms later) × AreNew new ms × IsBeside new after k later
+  new_labels c.no_marks {used} {after} {k} {l} u h b = (e.no_marks, l, refl, tt, subst (λ it. IsBeside new it k l) (sym h) b)
+  new_labels (c.a_mark (c.mark predicate id tag c.no_bindings) rest) {used} {after} {k} {l} u h b =
+      let first = new_mark predicate id tag u h.0 h.1 h.2 b in
+      let others = new_labels rest u h.3 first.3 in
+      (e.a_mark (e.mark first.0 (number_of_id id) e.no_bindings) others.0, others.1,
+      ap (λ o. goes_on o (λ m k. goes_on (marks rest k) (λ ms k. Goes (e.a_mark m ms) k))) first.2 ∙ ap (λ o. goes_on o (λ ms k. Goes (e.a_mark (e.mark first.0 (number_of_id id) e.no_bindings) ms) k)) others.2,
+      (h.0.1, others.3), others.4)
+  new_labels (c.a_mark (c.mark predicate id tag (c.a_binding name value bound)) rest) u h b = absurd h
+
+-- ---- what is judged of a new mark
+
+pub good_faults : (structs : Structs) (t : CType) → is_good_type structs t ≡ true
+    → broken_if floating_type (has_floating t) ++ broken_if bad_length (has_too_many_cells structs t) ++ broken_if function_as_value (has_pointer_to_function t) ≡ []
+good_faults structs t h = by (has_floating t) (has_too_many_cells structs t) (has_pointer_to_function t) h
+  where
+    by : (p q r : Bool) → not p && not q && not r ≡ true → broken_if floating_type p ++ broken_if bad_length q ++ broken_if function_as_value r ≡ []
+    by false false false h = refl
+    by true q r h = absurd cc
+    by false true r h = absurd cc
+    by false false true h = absurd cc

@@ -1,0 +1,5 @@
+use Rattle.lt_mark_typing.proofs.Units.{units}
+use Rattle.lt_mark_typing.proofs.laws.units_are_typed_again.Goals as goal
+
+pub returns : goal.returns
+returns c = λ new model unit marked after program d e h. units model unit marked after program d e h

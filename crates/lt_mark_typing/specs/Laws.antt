@@ -1,0 +1,62 @@
+-- That what is marked is typed again.
+use Rattle.std.specs.Prelude.{◌≡◌, ℕ, Bool, List, [], filter_map}
+use Rattle.lt_model.specs.declared.scalar.DataModel.{DataModel}
+use Rattle.lt_model.specs.declared.operator.Op.{Op}
+use Rattle.lt_tree.specs.declared.expression.LogicalOp.{LogicalOp}
+use Rattle.lt_tree.specs.declared.expression.UnaryOp.TheVariants as unary
+use Rattle.lt_tree.specs.Tree as c
+use Rattle.lt_tree.specs.Typing.Types.{is_scalar, is_integer}
+use Rattle.lt_tree.specs.Nodes.{in_expression}
+use Rattle.lt_tree.specs.Typing.Entities.{Known, at_start}
+use Rattle.lt_tree.specs.Typing.Expressions.{Typed, Use}
+use Rattle.lt_tree.specs.Typing.ExpressionTyping.{expression}
+use Rattle.lt_tree.specs.Typing.StatementTyping.{Around, statement, items}
+use Rattle.lt_tree.specs.Typing.UnitTyping.{defined_in, IsProgramOf}
+use Rattle.lt_tree.specs.Typing.Programs.{Program}
+use Rattle.lt_mark_typing.specs.Added.{AddsStatement, AddsItems, AddsProgram}
+use Rattle.lt_mark_typing.specs.Beside.{IsBeside, Position, use_of, AddsAt, Follows}
+use Rattle.lt_mark_typing.specs.Placed.{AreOld, IsThere, AddsTo}
+use Rattle.lt_mark_typing.specs.PlacedItems.{AddsToStatement, AddsToItems}
+use Rattle.lt_mark_typing.specs.PlacedUnits.{AddsToUnit}
+
+-- Where the typing of an expression goes on, so does that of the expression with marks added, each of which stands where it may; and it gives the
+-- typed expression with these marks added, which no operator around it tells from the other.
+abbrev pub ExpressionsAreTypedAgain : Type 0
+ExpressionsAreTypedAgain =
+    (new : ℕ → Bool) (position : Position) (used after : List ℕ) (known other : Known) (it marked : c.Expression)
+    → AddsTo new position used after known it marked → IsBeside new used known other
+    → Follows new after (AddsAt new position) (expression it (use_of position) known) (expression marked (use_of position) other)
+
+-- An expression in which no mark is added is typed as the same, whatever marks were added in front of it.
+abbrev pub OthersAreTypedAlike : Type 0
+OthersAreTypedAlike =
+    (new : ℕ → Bool) (role : Use) (used : List ℕ) (known other : Known) (it : c.Expression) → AreOld new (in_expression it) → IsBeside new used known other
+    → Follows new used (λ (x y : Typed). y ≡ x) (expression it role known) (expression it role other)
+
+-- The same of statements, and of the items of blocks.
+abbrev pub StatementsAreTypedAgain : Type 0
+StatementsAreTypedAgain =
+    (new : ℕ → Bool) (used after : List ℕ) (around : Around) (known other : Known) → IsBeside new used known other
+    → ((it marked : c.Statement) → AddsToStatement new used after around known it marked → Follows new after (AddsStatement new) (statement it around known) (statement marked around other))
+    × ((them marked : c.Items) → AddsToItems new used after around known them marked → Follows new after (AddsItems new) (items them around known) (items marked around other))
+
+-- A unit with marks added, each where it may stand, has a typed program, if the unit has one: that of the unit with these marks added, where the
+-- list of types is the same. (The types of predicates may come into it, and before others.)
+abbrev pub UnitsAreTypedAgain : Type 0
+UnitsAreTypedAgain =
+    (new : ℕ → Bool) (model : DataModel) (unit marked : c.Unit) (after : List ℕ) (program : Program)
+    → AddsToUnit new [] after (at_start model (filter_map defined_in unit)) unit marked → filter_map defined_in marked ≡ filter_map defined_in unit
+    → IsProgramOf model unit program
+    → (other : Program) × IsProgramOf model marked other × (program.types ≡ other.types → AddsProgram new program other)
+
+-- What is made of predicates is one: negations and `&&` and `||` of scalars, and `-`, `?:` and other operators of integers.
+abbrev pub PredicatesAreMade : Type 0
+PredicatesAreMade =
+    (new : ℕ → Bool) (used : List ℕ) (known : Known) (test it other : c.Expression)
+    → (IsThere is_scalar new used known it → IsThere is_integer new used known (c.Unary unary.Not it))
+    × ((op : LogicalOp) → IsThere is_scalar new used known it → IsThere is_scalar new used known other → IsThere is_integer new used known (c.Logical op it other))
+    × (IsThere is_integer new used known it → IsThere is_integer new used known (c.Unary unary.Minus it))
+    × ((op : Op) → IsThere is_integer new used known it → IsThere is_integer new used known other → IsThere is_integer new used known (c.Binary op it other))
+    × (IsThere is_scalar new used known test → IsThere is_integer new used known it → IsThere is_integer new used known other
+        → IsThere is_integer new used known (c.Conditional test it other))
+    × (IsThere is_integer new used known it → IsThere is_scalar new used known it)
