@@ -245,16 +245,17 @@ module _ {new : ℕ → Bool} where
   started_adds {used} {after} {k} i it other d {j} b =
       bind (subst (λ t. Follows new after (AddsStarted new) (object_initialiser false (type_of_object k i) length_faults it k) (object_initialiser false t length_faults other j))
       (sym (same_of (λ (known : Known). type_of_object known i) b (λ n os fs ls facts h. object_type_same k i os h))) (of_object d b))
-      (λ x y k j r b. goes ((refl, (r.zeroed, r.parts)), tt) (subst (λ t. IsBeside new after _ (with_start i None t j)) (sym r.type) (start_beside i None x.type b)))
+      (λ x y k j r b. goes ((refl, (r.zeroed, r.parts)), tt) (subst (λ t. IsBeside new after (with_start i None x.type k) (with_start i None t j)) (sym r.type) (start_beside i None x.type b)))
 
   of_start_of : {used after : List ℕ} {k : Known} (n : ℕ) (it : Specified) (declared : Declares) (i other : c.Initialiser) → AddsToStartOf new used after it declared k i other → {j : Known} → IsBeside new used k j
       → Follows new after (AddsLocals new) (declare_if_named it declared.node declared.type (Some i) k declared.name k) (declare_if_named it n declared.type (Some other) j declared.name j)
-  of_start_of {used} {after} {k} n it declared i other (name, is_register, named, kind, d) {j} b =
-      subst (λ found. Follows new after (AddsLocals new) (declare_if_named it declared.node declared.type (Some i) k found k) (declare_if_named it n declared.type (Some other) j found j)) (sym named)
-      (subst (λ it. Follows new after (AddsLocals new) (declare it declared.node name declared.type (Some i) k) (declare (kind_of j _ declared.type) n name declared.type (Some other) j)) (sym kind)
-      (subst (λ it. Follows new after (AddsLocals new) (declare (an_object_of automatic is_register) declared.node name declared.type (Some i) k) (declare it n name declared.type (Some other) j))
-      (sym (same_of (λ (known : Known). kind_of known it.storage declared.type) b (λ n os fs ls facts h. refl) ∙ kind))
-      (bind_same_at (object_declared automatic is_register declared.node n name declared.type b) (λ a m o q b. started_adds a i other (d a m q) b))))
+  of_start_of {used} {after} {k} n it declared i other h {j} b =
+      let name = h.0 in
+      subst (λ found. Follows new after (AddsLocals new) (declare_if_named it declared.node declared.type (Some i) k found k) (declare_if_named it n declared.type (Some other) j found j)) (sym h.2)
+      (subst (λ what. Follows new after (AddsLocals new) (declare what declared.node name declared.type (Some i) k) (declare (kind_of j it.storage declared.type) n name declared.type (Some other) j)) (sym h.3)
+      (subst (λ what. Follows new after (AddsLocals new) (declare (an_object_of automatic h.1) declared.node name declared.type (Some i) k) (declare what n name declared.type (Some other) j))
+      (sym (same_of (λ (known : Known). kind_of known it.storage declared.type) b (λ n os fs ls facts h. refl) ∙ h.3))
+      (bind_same_at (object_declared automatic h.1 declared.node n name declared.type b) (λ a m o q b. started_adds a i other (h.4 a m q) b))))
 
   of_declarators : {used after : List ℕ} {it : Specified} {k : Known} {ds es : List c.InitDeclarator} → AddsToDeclarators new used after it k ds es → {j : Known} → IsBeside new used k j
       → Follows new after (AddsLocals new) (init_declarators it ds k) (init_declarators it es j)
@@ -268,7 +269,7 @@ module _ {new : ℕ → Bool} where
 
   pub of_declaration_with : {effective : Option Storage → Option Storage} {used after : List ℕ} {k : Known} {d e : c.Declaration} → AddsToDeclaration new effective used after k d e → {j : Known} → IsBeside new used k j
       → Follows new after (AddsDeclared new) (declaration_by effective d k) (declaration_by effective e j)
-  of_declaration_with (p.a_declaration {after = after} {known = k} {s = s} {ds = ds} {es = es} h e f) {j} b =
-      bind_same_at (subst (λ t. Follows new _ Same (specifiers s (if has_no_declarator ds then alone else elsewhere) k) (specifiers s (if t then alone else elsewhere) j)) (sym e)
+  of_declaration_with (p.a_declaration {used = us} {after = after} {known = k} {s = s} {ds = ds} {es = es} h e f) {j} b =
+      bind_same_at (subst (λ t. Follows new us Same (specifiers s (if has_no_declarator ds then alone else elsewhere) k) (specifiers s (if t then alone else elsewhere) j)) (sym e)
       (of_specifiers s (if has_no_declarator ds then alone else elsewhere) h b))
       (λ it m n q b. bind (of_declarators (f it m q) b) (λ r s m n t b. goes (record { locals = t; faults = ap (λ u. if u then it.faults else []) e }) b))

@@ -10,12 +10,12 @@ use Rattle.lt_tree.specs.Tree as c
 use Rattle.lt_tree.specs.Typing.Types.{CType}
 use Rattle.lt_tree.specs.Typing.Rules.{Rule, broken_if, function_disagrees}
 use Rattle.lt_tree.specs.Typing.TypedTree.{Items}
-use Rattle.lt_tree.specs.Typing.Entities.{Known, Frame, Function, innermost, at_start}
+use Rattle.lt_tree.specs.Typing.Entities.{Known, Frame, Function, a_function, bind_name, at_start}
 use Rattle.lt_tree.specs.Typing.Steps.{Outcome, Goes, Breaks, goes_on, left}
 use Rattle.lt_tree.specs.Typing.Operands.{holds}
 use Rattle.lt_tree.specs.Typing.Specifying.{elsewhere, is_class}
 use Rattle.lt_tree.specs.Typing.Declarators.{Built, Declares}
-use Rattle.lt_tree.specs.Typing.Declaring.{declaration_faults, definition_shape_faults, definition_faults, has_body_already, declare_function}
+use Rattle.lt_tree.specs.Typing.Declaring.{declaration_faults, definition_shape_faults, definition_faults, has_body_already, with_declared, declare_function}
 use Rattle.lt_tree.specs.Typing.StatementTyping.{items}
 use Rattle.lt_tree.specs.Typing.UnitTyping.{around_body, frame_of, objects_of, defines, external, externals, defined_in, answer, typing}
 use Rattle.lt_tree.specs.Typing.Programs.{Program, Typing, typed, broken, program_of}
@@ -75,10 +75,14 @@ module _ {new : ℕ → Bool} where
 
   of_definition : {used after : List ℕ} (n m i : ℕ) (it : Declares) (is js : c.Items) {k j : Known} → AddsToItems new used after (around_body it.type) (in_body it k) is js → IsBeside new used k j
       → Follows new after (Same {A = Unit {0}}) (defines n (unwrap_or it.name []) it is k) (defines m (unwrap_or it.name []) (record it { node = i }) js j)
-  of_definition n m i it is js {k} {j} d b =
-      let declared = went_beside (function_declared (unwrap_or it.name []) it.type b) in
-      bind (framed _ _ (frames_same declared) (of_items d (frames_beside _ _ (ap (λ frames. frame_of it.parameters ∷ frames) (frames_same declared)) declared)))
-      (λ x y k j r b. goes refl (function_beside n m (unwrap_or it.name []) it.type (objects_of it.parameters) x.0 y.0 r b))
+  of_definition {used} n m i it is js {k} {j} d b =
+      let name = unwrap_or it.name [] in
+      let first : Known = bind_name name a_function (with_declared name it.type k) in
+      let second : Known = bind_name name a_function (with_declared name it.type j) in
+      let declared : IsBeside new used first second = went_beside (function_declared name it.type b) in
+      bind (framed first.frames second.frames (frames_same declared)
+      (of_items d (frames_beside (frame_of it.parameters ∷ first.frames) (frame_of it.parameters ∷ second.frames) (ap (λ frames. frame_of it.parameters ∷ frames) (frames_same declared)) declared)))
+      (λ x y k j r b. goes refl (function_beside n m name it.type (objects_of it.parameters) x.0 y.0 r b))
 
   of_external : {used after : List ℕ} {k : Known} {x y : c.External} → AddsToExternal new used after k x y → {j : Known} → IsBeside new used k j → Follows new after (Same {A = Unit {0}}) (external x k) (external y j)
   of_external (p.Defines {known = k} {s} {d} {is} {js} g h f) {j} b =

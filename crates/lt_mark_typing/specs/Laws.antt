@@ -1,5 +1,5 @@
 -- That what is marked is typed again.
-use Rattle.std.specs.Prelude.{◌≡◌, ℕ, Bool, List, [], filter_map}
+use Rattle.std.specs.Prelude.{◌≡◌, ℕ, Bool, true, List, [], filter_map, Some}
 use Rattle.lt_model.specs.declared.scalar.DataModel.{DataModel}
 use Rattle.lt_model.specs.declared.operator.Op.{Op}
 use Rattle.lt_tree.specs.declared.expression.LogicalOp.{LogicalOp}
@@ -7,8 +7,10 @@ use Rattle.lt_tree.specs.declared.expression.UnaryOp.TheVariants as unary
 use Rattle.lt_tree.specs.Tree as c
 use Rattle.lt_tree.specs.Typing.Types.{is_scalar, is_integer}
 use Rattle.lt_tree.specs.Nodes.{in_expression}
-use Rattle.lt_tree.specs.Typing.Entities.{Known, at_start}
-use Rattle.lt_tree.specs.Typing.Expressions.{Typed, Use}
+use Rattle.lt_tree.specs.Typing.Entities.{Known, an_object, meaning_of, at_start}
+use Rattle.lt_tree.specs.Typing.Expressions.{Typed, Use, as_value, own_type, as_it_is_read, faults_of_any}
+use Rattle.lt_tree.specs.Typing.Constants.{TypedConstant, constant_of}
+use Rattle.lt_tree.specs.Typing.Operations.{object_named}
 use Rattle.lt_tree.specs.Typing.ExpressionTyping.{expression}
 use Rattle.lt_tree.specs.Typing.StatementTyping.{Around, statement, items}
 use Rattle.lt_tree.specs.Typing.UnitTyping.{defined_in, IsProgramOf}
@@ -49,7 +51,8 @@ UnitsAreTypedAgain =
     → IsProgramOf model unit program
     → (other : Program) × IsProgramOf model marked other × (program.types ≡ other.types → AddsProgram new program other)
 
--- What is made of predicates is one: negations and `&&` and `||` of scalars, and `-`, `?:` and other operators of integers.
+-- What is made of predicates is one: negations and `&&` and `||` of scalars, and `-`, `?:` and other operators of integers. Constants are predicates, and
+-- so are names of objects that break no rule where they are read.
 abbrev pub PredicatesAreMade : Type 0
 PredicatesAreMade =
     (new : ℕ → Bool) (used : List ℕ) (known : Known) (test it other : c.Expression)
@@ -60,3 +63,6 @@ PredicatesAreMade =
     × (IsThere is_scalar new used known test → IsThere is_integer new used known it → IsThere is_integer new used known other
         → IsThere is_integer new used known (c.Conditional test it other))
     × (IsThere is_integer new used known it → IsThere is_scalar new used known it)
+    × ((name : List ℕ) (n : ℕ) (is_register : Bool) → meaning_of name known ≡ Some (an_object n is_register) → faults_of_any known.structs as_value (object_named known n is_register) ≡ []
+        → is_scalar (own_type (as_it_is_read (object_named known n is_register))) ≡ true → IsThere is_scalar new used known (c.Name name))
+    × ((text : List ℕ) (found : TypedConstant) → constant_of known.model text ≡ Some found → IsThere is_integer new used known (c.Constant text))
