@@ -1,32 +1,32 @@
 -- Expressions with marks added are typed again.
-use Rattle.std.proofs.Common.{◌≡◌, ℕ, suc, ◌+◌, List, [], ◌∷◌, Option, Some, None, Bool, true, false, refl, sym, ap, ◌∙◌, subst, inl, inr}
+use Rattle.std.proofs.Common.{◌≡◌, ℕ, ◌+◌, List, [], ◌∷◌, Bool, true, false, refl, sym, ap, ◌∙◌, subst, inl, inr}
 use Rattle.std.proofs.lemmas.Bool.{false≢true}
-use Rattle.std.specs.Prelude.{◌++◌, ◌⊎◌, ◌==◌, ◌||◌, ◌&&◌, not, if◌then◌else◌}
+use Rattle.std.specs.Prelude.{◌++◌, ◌⊎◌, ◌==◌, ◌||◌, ◌&&◌, not}
 use Rattle.lt_model.specs.declared.scalar.Scalar.TheVariants as S
 use Rattle.lt_model.specs.declared.operator.Op.TheVariants as O
 use Rattle.lt_tree.specs.declared.expression.UnaryOp.{UnaryOp}
 use Rattle.lt_tree.specs.declared.expression.UnaryOp.TheVariants as unary
 use Rattle.lt_tree.specs.Tree as c
-use Rattle.lt_tree.specs.Nodes.{in_marks, in_mark, in_specifiers, in_declarator}
+use Rattle.lt_tree.specs.Nodes.{in_marks, in_mark}
 use Rattle.lt_tree.specs.Typing.Types.{CType, Num, is_scalar}
 use Rattle.lt_tree.specs.Typing.Extents.{Structs, has_too_many_cells}
 use Rattle.lt_tree.specs.Typing.Constants.{Constancy, varying}
-use Rattle.lt_tree.specs.Typing.Rules.{Rule, unless, bad_mark, broken_if, floating_type, bad_length, function_as_value, volatile_access}
+use Rattle.lt_tree.specs.Typing.Rules.{Rule, unless, bad_mark, broken_if, floating_type, bad_length, function_as_value}
 use Rattle.lt_tree.specs.Typing.TypedTree as e
 use Rattle.lt_tree.specs.Typing.TypedTree.{Value, Marks, Mark, Bindings, type_of, before, after}
 use Rattle.lt_tree.specs.Typing.Entities.{Known}
-use Rattle.lt_tree.specs.Typing.Steps.{Outcome, Goes, Breaks, goes_on, settle}
-use Rattle.lt_tree.specs.Typing.Expressions.{Form, a_value, a_place, a_designator, Typed, Use, as_value, as_truth, as_place, as_callee, valued, own_type, value_in, is_lvalue, as_it_is_read, Judged, judgement, used, fact_of, faults_of_any, has_floating, has_pointer_to_function, finish}
+use Rattle.lt_tree.specs.Typing.Steps.{Outcome, Goes, Breaks, goes_on}
+use Rattle.lt_tree.specs.Typing.Expressions.{Form, a_value, Typed, Use, as_value, as_truth, as_place, as_callee, valued, own_type, value_in, Judged, used, fact_of, faults_of_any, has_floating, has_pointer_to_function, finish}
 use Rattle.lt_tree.specs.Typing.Operations.{judge_step, judge_member, judge_arrow, judge_index, judge_call, judge_cast}
 use Rattle.lt_tree.specs.Typing.BinaryOperations.{judge_binary, judge_logical, judge_conditional, judge_assignment, judge_comma}
-use Rattle.lt_tree.specs.Typing.MarkRules.{is_good_id, number_of_id, is_tag, is_truth, is_good_decision, label_of, judge_decide, judge_marked, judge_after, after_of, inside_mark, inside_after, is_lvalue_in_use}
+use Rattle.lt_tree.specs.Typing.MarkRules.{is_good_id, number_of_id, is_tag, is_good_decision, label_of, judge_decide, judge_marked, judge_after, inside_mark, is_lvalue_in_use}
 use Rattle.lt_tree.specs.Typing.NodeEnds.{judge_unary, operand_of, also, decision_labels}
-use Rattle.lt_tree.specs.Typing.Specifying.{Specified, elsewhere}
-use Rattle.lt_tree.specs.Typing.Declarators.{Declares, Built}
-use Rattle.lt_tree.specs.Typing.ExpressionTyping.{expression, expressions, marks, mark, specifiers, declarator}
+use Rattle.lt_tree.specs.Typing.Specifying.{elsewhere}
+use Rattle.lt_tree.specs.Typing.Declarators.{Declares}
+use Rattle.lt_tree.specs.Typing.ExpressionTyping.{expression, expressions, marks}
 use Rattle.lt_mark_typing.specs.Added as a
 use Rattle.lt_mark_typing.specs.Added.{AreNew, Adds, can_be_marked, AddsMarks, Keeps, KeepsBound}
-use Rattle.lt_mark_typing.specs.Beside.{IsBeside, AddsForm, values, places, designators, AddsTyped, AddsTest, AddsEach, none_added, one_added, Position, in_use, in_test, use_of, AddsAt, Follows, goes, breaks}
+use Rattle.lt_mark_typing.specs.Beside.{IsBeside, AddsForm, values, AddsTyped, AddsTest, AddsEach, none_added, one_added, Position, in_use, in_test, use_of, AddsAt, Follows, goes, breaks}
 use Rattle.lt_mark_typing.specs.Placed as p
 use Rattle.lt_mark_typing.specs.Placed.{IsNewId, AreOld, AreNewLabels, takes_labels, IsMarkable, is_good_type, IsNoNull, position_of, behind_marks, any_type_name, joined, AddsTo, as_it_is, in_parts, in_front, around, AddsToParts, AddsToAll}
 use Rattle.lt_mark_typing.proofs.Itself.{itself}
@@ -222,13 +222,15 @@ module _ {new : ℕ → Bool} where
       let found = new_labels labels u are (numbered_alone (l.next + 1) l.facts b) in
       subst (λ it. Follows new last (AddsAt new position) o (goes_on it (λ ts j. goes_on (expression other role j) (λ y j. finish l.next role (judge_marked ts y) j)))) (sym found.2)
       (then_alone (h found.1 found.4) (λ x y m n q p b.
-      let z : Typed = valued (e.Marked (own_type y) found.0 (value_in y)) varying y.erased in
-      (z, record n { facts = n.facts ++ fact_of l.next z ∷ [] },
-      finished_alone n l.next role (judge_marked found.0 y) refl (any_good n.structs role (e.Marked (own_type y) found.0 (value_in y)) varying y.erased
-          (ap (λ structs. is_good_type structs (own_type y)) (structs_same b) ∙ front_good new x y m.structs position p (f x m q).2))
-      ∙ ap (λ it. Goes it (record n { facts = n.facts ++ fact_of l.next z ∷ [] })) (used_value role (e.Marked (own_type y) found.0 (value_in y)) varying y.erased),
-      front_adds new x y found.0 position found.3 (f x m q).0 (f x m q).1 p,
-      numbered_alone n.next (n.facts ++ fact_of l.next z ∷ []) b)))
+      let z : Typed = valued (e.Marked (own_type y) found.0 (value_in y)) varying y.erased in (
+        z,
+        record n { facts = n.facts ++ fact_of l.next z ∷ [] },
+        finished_alone n l.next role (judge_marked found.0 y) refl (any_good n.structs role (e.Marked (own_type y) found.0 (value_in y)) varying y.erased
+            (ap (λ structs. is_good_type structs (own_type y)) (structs_same b) ∙ front_good new x y m.structs position p (f x m q).2))
+            ∙ ap (λ it. Goes it (record n { facts = n.facts ++ fact_of l.next z ∷ [] })) (used_value role (e.Marked (own_type y) found.0 (value_in y)) varying y.erased),
+        front_adds new x y found.0 position found.3 (f x m q).0 (f x m q).1 p,
+        numbered_alone n.next (n.facts ++ fact_of l.next z ∷ []) b,
+      )))
 
   front : (position : Position) {used between last : List ℕ} {k l : Known} (labels : c.Marks) (it other : c.Expression) → takes_labels position ≡ true
       → k.is_unmarked ≡ false → ((x : Typed) (next : Known) → expression it (use_of position) k ≡ Goes x next → IsNoNull position x × IsMarkable position x × (is_good_type next.structs (own_type x) ≡ true))
@@ -263,21 +265,23 @@ module _ {new : ℕ → Bool} where
       → IsNewId new last when_true → IsNewId new (number_of_id when_true ∷ last) when_false → is_tag tag ≡ true
       → Follows new last (AddsTest new) o (expression other as_truth (record l { next = l.next + 1 }))
       → Follows new (number_of_id when_false ∷ number_of_id when_true ∷ last) (AddsTest new) o
-          (goes_on (expression other as_truth (record l { next = l.next + 1 })) (λ y j. goes_on (finish l.next as_truth (judge_decide as_truth y when_true when_false tag j) j)
-          (λ result j. goes_on (decision_labels when_true when_false tag j) (λ u j. Goes result j))))
+      (goes_on (expression other as_truth (record l { next = l.next + 1 })) (λ y j. goes_on (finish l.next as_truth (judge_decide as_truth y when_true when_false tag j) j)
+      (λ result j. goes_on (decision_labels when_true when_false tag j) (λ u j. Goes result j))))
   unfolding judge_decide
   around_by {last} l other {o} when_true when_false tag f i j t d =
       then_alone d (λ x y m n q p b.
       let z : Typed = valued (e.Decide (Num S.Int) (value_in y) (number_of_id when_true) (number_of_id when_false)) varying y.erased in
       let noted : Known = record n { facts = n.facts ++ fact_of l.next z ∷ [] } in
       let first : Known = record noted { labels = noted.labels ++ label_of when_true tag [] ∷ [] } in
-      let second : Known = record first { labels = first.labels ++ label_of when_false tag [] ∷ [] } in
-      (z, second,
-      ap (λ it. goes_on it (λ result j. goes_on (decision_labels when_true when_false tag j) (λ u j. Goes result j)))
-      (finished_alone n l.next as_truth (judge_decide as_truth y when_true when_false tag n)
-      (ap (λ it. unless it bad_mark) (good_decision y when_true when_false tag (f x m q).1 (scalar_more p (f x m q).0) i j t b)) refl),
-      record { value = a.round i.1 j.1 p.value; type = inr refl; constancy = inr refl },
-      new_label_beside (label_of when_false tag []) j.1 refl (new_label_beside (label_of when_true tag []) i.1 refl (numbered_alone n.next (n.facts ++ fact_of l.next z ∷ []) b))))
+      let second : Known = record first { labels = first.labels ++ label_of when_false tag [] ∷ [] } in (
+        z,
+        second,
+        ap (λ it. goes_on it (λ result j. goes_on (decision_labels when_true when_false tag j) (λ u j. Goes result j)))
+            (finished_alone n l.next as_truth (judge_decide as_truth y when_true when_false tag n)
+            (ap (λ it. unless it bad_mark) (good_decision y when_true when_false tag (f x m q).1 (scalar_more p (f x m q).0) i j t b)) refl),
+        record { value = a.round i.1 j.1 p.value; type = inr refl; constancy = inr refl },
+        new_label_beside (label_of when_false tag []) j.1 refl (new_label_beside (label_of when_true tag []) i.1 refl (numbered_alone n.next (n.facts ++ fact_of l.next z ∷ []) b)),
+      ))
 
   also_adds : {j i : Judged} (faults : List Rule) → AddsJudged new j i → AddsJudged new (also faults j) (also faults i)
   also_adds {j} {i} faults d = record { faults = λ h. empty_both faults i.faults (left_empty faults j.faults h) (d.faults (right_empty faults j.faults h)); typed = d.typed }

@@ -1,24 +1,22 @@
 -- No operator on two or three operands tells expressions with marks added from the expressions: C11 6.5.5 to 6.5.17.
-use Rattle.std.proofs.Common.{◌≡◌, ℕ, suc, List, [], ◌∷◌, Option, Some, None, Bool, true, false, refl, sym, ap, ◌∙◌, subst, inl, inr}
-use Rattle.std.specs.Prelude.{◌++◌, ◌+◌, ◌⊎◌, ◌||◌, ◌&&◌, not, if◌then◌else◌, ℤ, pos}
+use Rattle.std.proofs.Common.{◌≡◌, ℕ, List, Option, Some, None, Bool, true, false, refl, sym, ap, ◌∙◌, subst, inl, inr}
+use Rattle.std.specs.Prelude.{◌++◌, ◌&&◌, if◌then◌else◌, ℤ}
 use Rattle.lt_model.specs.declared.scalar.DataModel.{DataModel}
 use Rattle.lt_model.specs.declared.scalar.Scalar.{Scalar}
-use Rattle.lt_model.specs.declared.scalar.Scalar.TheVariants as S
 use Rattle.lt_model.specs.declared.operator.Op.{Op}
 use Rattle.lt_model.specs.declared.operator.Op.TheVariants as O
-use Rattle.lt_model.specs.Scalar.{difference_type}
 use Rattle.lt_tree.specs.declared.expression.LogicalOp.{LogicalOp}
 use Rattle.lt_tree.specs.Typing.Types.{CType, Void, Num, is_integer, is_pointer, is_scalar, unqualified, value_type}
 use Rattle.lt_tree.specs.Typing.Extents.{Structs}
-use Rattle.lt_tree.specs.Typing.Constants.{Constancy, varying, faulty, number, null_constant, null_address, address, is_null_constant, is_form, converted, applied, operated, moved_by, connected, chosen}
-use Rattle.lt_tree.specs.Typing.Rules.{Rule, unless, not_scalar, bad_choice, bad_assignment}
+use Rattle.lt_tree.specs.Typing.Constants.{Constancy, varying, faulty, number, null_constant, null_address, address, is_form, converted, applied, operated, moved_by, connected, chosen}
+use Rattle.lt_tree.specs.Typing.Rules.{unless, not_scalar, bad_choice, bad_assignment}
 use Rattle.lt_tree.specs.Typing.TypedTree as e
 use Rattle.lt_tree.specs.Typing.TypedTree.{Value, Values}
 use Rattle.lt_tree.specs.Typing.Entities.{Known}
 use Rattle.lt_tree.specs.Typing.Operands.{are_integers, can_be_chosen_from}
 use Rattle.lt_tree.specs.Typing.Expressions.{Typed, valued, varies, own_type, value_in, place_in, converted_to, constancy_to}
-use Rattle.lt_tree.specs.Typing.Operations.{pointer_among, other_among, side_of, element_size, object_size, fits, write_faults}
-use Rattle.lt_tree.specs.Typing.BinaryOperations.{judge_binary, operand_faults, operation_type, right_type, result_type, on_integers, on_pointers, towards, moved, distance, beside, compared, judge_logical, settles, judge_conditional, chosen_type, judge_assignment, judge_assign, judge_update, update_faults, updated, judge_comma, values_of, last_of}
+use Rattle.lt_tree.specs.Typing.Operations.{element_size, object_size, fits, write_faults}
+use Rattle.lt_tree.specs.Typing.BinaryOperations.{judge_binary, operand_faults, operation_type, right_type, on_integers, on_pointers, towards, moved, distance, beside, compared, judge_logical, settles, judge_conditional, chosen_type, judge_assignment, judge_assign, judge_update, update_faults, updated, judge_comma, values_of, last_of}
 use Rattle.lt_mark_typing.specs.Added as a
 use Rattle.lt_mark_typing.specs.Added.{Adds, AddsAll}
 use Rattle.lt_mark_typing.specs.Beside.{IsAtMost, AddsTyped, AddsTest, AddsEach, none_added, one_added}

@@ -1,35 +1,34 @@
 -- Declarations in which no mark is added declare the same.
 use Rattle.std.proofs.Common.{◌≡◌, ℕ, zero, suc, ◌+◌, List, [], ◌∷◌, Option, Some, None, Bool, true, false, refl, sym, ap, ◌∙◌, subst}
-use Rattle.std.specs.Prelude.{◌++◌, ◌||◌, ◌&&◌, ◌==◌, not, length, slice_get, slice_set, is_some, if◌then◌else◌}
+use Rattle.std.specs.Prelude.{◌++◌, ◌||◌, ◌&&◌, not, length, slice_get, slice_set, is_some, if◌then◌else◌}
 use Rattle.std.specs.List.{flat_map}
 use Rattle.std.specs.Str.{bytes_eq}
 use Rattle.lt_tree.specs.declared.specifier.Storage.{Storage}
 use Rattle.lt_tree.specs.Tree as c
-use Rattle.lt_tree.specs.Nodes.{Node, in_expression, in_specifiers, in_declarator, in_initialiser, in_initialisers, in_optional_initialiser, in_init_declarator, in_declaration}
+use Rattle.lt_tree.specs.Nodes.{in_expression, in_specifiers, in_declarator, in_initialiser, in_initialisers, in_optional_initialiser, in_init_declarator, in_declaration}
 use Rattle.lt_tree.specs.Typing.Types.{CType, struct_of, is_array}
-use Rattle.lt_tree.specs.Typing.Rules.{Rule, broken_if, declared_twice, bad_length, bad_initialiser}
+use Rattle.lt_tree.specs.Typing.Rules.{broken_if, declared_twice, bad_length, bad_initialiser}
 use Rattle.lt_tree.specs.Typing.TypedTree.{Start, Local}
-use Rattle.lt_tree.specs.Typing.Entities.{Known, Object, Function, Label, Fact, Life, linked, local_static, literal, automatic, parameter, unmade, is_linked, linked_from, linked_object, Entity, an_object, a_function, a_typedef, an_enumerator, type_of_object, declared_here, declared_among, binding, is_static}
-use Rattle.lt_tree.specs.Typing.Steps.{Outcome, Goes, Breaks, Walk, goes_on, settle, gives, binds, changes, add_object, ◌>>◌}
+use Rattle.lt_tree.specs.Typing.Entities.{Known, Object, Life, is_linked, linked_from, linked_object, Entity, an_object, a_function, a_typedef, an_enumerator, type_of_object, declared_here, declared_among, binding, is_static}
+use Rattle.lt_tree.specs.Typing.Steps.{Walk, settle, gives, binds, ◌>>◌}
 use Rattle.lt_tree.specs.Typing.Operands.{holds}
 use Rattle.lt_tree.specs.Typing.Constants.{varying}
 use Rattle.lt_tree.specs.Typing.Extents.{has_too_many_cells}
 use Rattle.lt_tree.specs.Typing.Expressions.{Typed, as_value, own_type}
 use Rattle.lt_tree.specs.Typing.Operations.{text_type}
-use Rattle.lt_tree.specs.Typing.ExpressionTyping.{expression}
 use Rattle.lt_tree.specs.Typing.Specifying.{Specified, alone, elsewhere}
 use Rattle.lt_tree.specs.Typing.Filling.{Run, Filling, opened, first_in_struct, is_character_array, is_struct_of, is_too_long_for, letters_of, value_faults, value_part, text_in, filling_of, nothing_to_fill, list_faults}
 use Rattle.lt_tree.specs.Typing.InitialiserTyping.{literal_alone, filled_by, fill_value, value_initialiser, fill_text, initialiser_without_braces, filling_for, faults_of_list, behind_list, initialiser, initialisers, with_length, started, whole_value, whole_text, whole_without_braces, listed_length, end_of_list, object_initialiser, initialiser_of_none}
 use Rattle.lt_tree.specs.Typing.DeclarationTyping.{no_object, started_object, declare, init_declarator, init_declarators, has_no_declarator, declaration_by}
-use Rattle.lt_tree.specs.Typing.Declarators.{Built, Declares}
-use Rattle.lt_tree.specs.Typing.Declaring.{Kind, a_type_name, a_function_name, an_object_of, kind_of, is_compatible, agrees_with_object, is_linked_object, is_initialised, is_declared_twice, is_object_declared_twice, is_function_declared_twice, is_same_function, is_function_elsewhere, is_object_elsewhere, kind_faults, named_faults, declaration_faults, with_declared, declare_function, new_object, object_for, declare_object, with_start, length_faults}
-use Rattle.lt_mark_typing.specs.Added.{AreSameObjects, AddsFunctions}
+use Rattle.lt_tree.specs.Typing.Declarators.{Built}
+use Rattle.lt_tree.specs.Typing.Declaring.{Kind, a_type_name, a_function_name, an_object_of, kind_of, is_compatible, agrees_with_object, is_linked_object, is_initialised, is_declared_twice, is_same_function, is_function_elsewhere, kind_faults, named_faults, declaration_faults, declare_function, new_object, object_for, declare_object, with_start, length_faults}
+use Rattle.lt_mark_typing.specs.Added.{AreSameObjects}
 use Rattle.lt_mark_typing.specs.Placed.{AreOld}
-use Rattle.lt_mark_typing.specs.Beside.{AddsLabels, IsBeside, Follows, goes, breaks}
-use Rattle.lt_mark_typing.proofs.Going.{with_others, same_of, bind, entered_beside, settled, so}
+use Rattle.lt_mark_typing.specs.Beside.{IsBeside, Follows, goes}
+use Rattle.lt_mark_typing.proofs.Going.{same_of, entered_beside}
 use Rattle.lt_mark_typing.proofs.Knowing.{type_same, length_same}
 use Rattle.lt_mark_typing.proofs.Ends.{at_other, structs_same, noted_beside}
-use Rattle.lt_mark_typing.proofs.Unchanged.{Same, SameDeclares, old_first, old_second, bind_same, bind_declares, judged_same, frames_beside, frames_same, object_beside, of_expression, of_specifiers, of_declarator}
+use Rattle.lt_mark_typing.proofs.Unchanged.{Same, old_first, old_second, bind_same, bind_declares, judged_same, frames_beside, frames_same, object_beside, of_expression, of_specifiers, of_declarator}
 
 -- both objects are there and the same but for their nodes, or neither is there
 abbrev GotSame : Option Object → Option Object → Type 0
@@ -110,11 +109,11 @@ module _ (k : Known) (os : List Object) (h : AreSameObjects k.objects os) where
 
   object_twice_by : (linkage has_initialiser : Bool) (name : List ℕ) (t : CType)
       → (if linkage then
-          not (agrees_with_object other name t) || holds (λ entity. not (is_linked_object other entity)) (declared_here name k) || is_function_elsewhere k name || (has_initialiser && is_initialised other name)
-          else is_some (declared_here name k))
+      not (agrees_with_object other name t) || holds (λ entity. not (is_linked_object other entity)) (declared_here name k) || is_function_elsewhere k name || (has_initialiser && is_initialised other name)
+      else is_some (declared_here name k))
       ≡ (if linkage then
-          not (agrees_with_object k name t) || holds (λ entity. not (is_linked_object k entity)) (declared_here name k) || is_function_elsewhere k name || (has_initialiser && is_initialised k name)
-          else is_some (declared_here name k))
+      not (agrees_with_object k name t) || holds (λ entity. not (is_linked_object k entity)) (declared_here name k) || is_function_elsewhere k name || (has_initialiser && is_initialised k name)
+      else is_some (declared_here name k))
   object_twice_by true has_initialiser name t =
       ap (λ b. not b || holds (λ entity. not (is_linked_object other entity)) (declared_here name k) || is_function_elsewhere k name || (has_initialiser && is_initialised other name)) (agrees_there name t)
       ∙ ap (λ b. not (agrees_with_object k name t) || b || is_function_elsewhere k name || (has_initialiser && is_initialised other name)) (none_linked_by (declared_here name k))

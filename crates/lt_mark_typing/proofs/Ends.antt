@@ -1,16 +1,13 @@
 -- The ends of nodes in both texts.
-use Rattle.std.proofs.Common.{◌≡◌, ℕ, zero, suc, ◌+◌, List, [], ◌∷◌, Option, Some, None, Bool, true, false, refl, sym, ap, ◌∙◌, subst, inl, inr}
+use Rattle.std.proofs.Common.{◌≡◌, ℕ, List, [], ◌∷◌, Bool, refl, sym, ap, ◌∙◌, subst}
 use Rattle.std.proofs.lemmas.Bool.{false≢true}
-use Rattle.std.specs.Prelude.{◌++◌, ◌⊎◌, not, length}
-use Rattle.lt_tree.specs.Typing.Types.{CType, Num, is_scalar}
+use Rattle.std.specs.Prelude.{◌++◌}
 use Rattle.lt_tree.specs.Typing.Extents.{Structs}
-use Rattle.lt_tree.specs.Typing.Rules.{Rule, least, broken_if}
-use Rattle.lt_tree.specs.Typing.Entities.{Known, Object, Function, Label, Fact, Frame, innermost}
-use Rattle.lt_tree.specs.Typing.Steps.{Outcome, Goes, Breaks, goes_on, settle, left, marked_again, notes, gives, ◌>>◌}
+use Rattle.lt_tree.specs.Typing.Entities.{Known, Object, Function, Label, Fact}
+use Rattle.lt_tree.specs.Typing.Steps.{Goes, goes_on, settle, notes, gives, ◌>>◌}
 use Rattle.lt_tree.specs.Typing.Expressions.{Typed, Use, Judged, used, fact_of, faults_of_any, finish}
-use Rattle.lt_tree.specs.Typing.Operations.{counts_as_null}
 use Rattle.lt_mark_typing.specs.Added.{AreSameObjects, AddsFunctions}
-use Rattle.lt_mark_typing.specs.Beside.{AddsLabels, IsBeside, AddsTyped, AddsTest, Position, in_use, in_test, use_of, AddsAt, Follows, goes, breaks}
+use Rattle.lt_mark_typing.specs.Beside.{AddsLabels, IsBeside, Position, in_use, in_test, AddsAt, Follows, goes}
 use Rattle.lt_mark_typing.specs.Placed.{IsNoNull}
 use Rattle.lt_mark_typing.proofs.Going.{with_others, same_of, settled}
 use Rattle.lt_mark_typing.proofs.Operands.{AddsMade, AddsJudged, used_adds, any_same, test_of}

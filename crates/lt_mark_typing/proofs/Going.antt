@@ -1,11 +1,10 @@
 -- Going over both texts side by side.
-use Rattle.std.proofs.Common.{◌≡◌, ℕ, ◌+◌, List, [], ◌∷◌, Option, Some, None, Bool, true, false, refl, sym, ap, ◌∙◌, subst}
-use Rattle.std.specs.Prelude.{◌++◌}
-use Rattle.lt_tree.specs.Typing.Rules.{Rule, least}
-use Rattle.lt_tree.specs.Typing.Entities.{Known, Object, Function, Label, Fact, Frame, innermost}
-use Rattle.lt_tree.specs.Typing.Steps.{Outcome, Goes, Breaks, Walk, goes_on, settle, unless_broken, left, marked_again, notes, ◌>>◌, gives}
-use Rattle.lt_mark_typing.specs.Added.{AreSameObjects, AddsFunctions}
-use Rattle.lt_mark_typing.specs.Beside.{AddsLabels, IsBeside, Follows, goes, breaks}
+use Rattle.std.proofs.Common.{◌≡◌, ℕ, ◌+◌, List, [], ◌∷◌, Bool, refl, ap, ◌∙◌}
+use Rattle.lt_tree.specs.Typing.Rules.{Rule}
+use Rattle.lt_tree.specs.Typing.Entities.{Known, Object, Function, Label, Fact}
+use Rattle.lt_tree.specs.Typing.Steps.{Outcome, Goes, Breaks, goes_on, settle}
+use Rattle.lt_mark_typing.specs.Added.{AreSameObjects}
+use Rattle.lt_mark_typing.specs.Beside.{IsBeside, Follows, goes, breaks}
 
 -- what is known there, with these numbers, objects, functions, labels and facts
 abbrev pub with_others : Known → ℕ → List Object → List Function → List Label → List Fact → Known

@@ -1,35 +1,35 @@
 -- Initialisers and declarations with marks added are typed again.
 use Rattle.std.proofs.Common.{◌≡◌, ℕ, suc, ◌+◌, List, [], ◌∷◌, Option, Some, None, Bool, true, false, refl, sym, ap, ◌∙◌, subst}
-use Rattle.std.specs.Prelude.{◌++◌, ◌||◌, ◌&&◌, if◌then◌else◌, is_some, length}
+use Rattle.std.specs.Prelude.{◌++◌, ◌||◌, ◌&&◌, if◌then◌else◌, length}
 use Rattle.lt_tree.specs.declared.specifier.Storage.{Storage}
 use Rattle.lt_tree.specs.Tree as c
-use Rattle.lt_tree.specs.Nodes.{in_expression, in_initialiser, in_initialisers, in_specifiers, in_declarator, in_init_declarator}
+use Rattle.lt_tree.specs.Nodes.{in_expression, in_initialiser}
 use Rattle.lt_tree.specs.Typing.Types.{CType, struct_of, is_array, is_scalar, unqualified}
-use Rattle.lt_tree.specs.Typing.Rules.{Rule, unless, broken_if, bad_assignment, bad_initialiser}
+use Rattle.lt_tree.specs.Typing.Rules.{unless, broken_if, bad_assignment, bad_initialiser}
 use Rattle.lt_tree.specs.Typing.TypedTree as e
 use Rattle.lt_tree.specs.Typing.TypedTree.{StartPart, Start, Local}
 use Rattle.lt_tree.specs.Typing.Entities.{Known, automatic, type_of_object}
-use Rattle.lt_tree.specs.Typing.Steps.{Outcome, Goes, Breaks, goes_on, settle, gives, ◌>>◌}
-use Rattle.lt_tree.specs.Typing.Expressions.{Typed, as_value, own_type, value_in}
+use Rattle.lt_tree.specs.Typing.Steps.{Goes, goes_on, settle, gives, ◌>>◌}
+use Rattle.lt_tree.specs.Typing.Expressions.{Typed, as_value, own_type}
 use Rattle.lt_tree.specs.Typing.Operations.{fits}
-use Rattle.lt_tree.specs.Typing.ExpressionTyping.{specifiers, declarator}
+use Rattle.lt_tree.specs.Typing.ExpressionTyping.{specifiers}
 use Rattle.lt_tree.specs.Typing.Specifying.{Specified, alone, elsewhere}
 use Rattle.lt_tree.specs.Typing.Declarators.{Declares}
-use Rattle.lt_tree.specs.Typing.Declaring.{Kind, an_object_of, kind_of, declaration_faults, declare_object, length_faults, with_start}
+use Rattle.lt_tree.specs.Typing.Declaring.{an_object_of, kind_of, declaration_faults, length_faults, with_start}
 use Rattle.lt_tree.specs.Typing.Filling.{Run, Filling, behind_first, opened, is_character_array, is_struct_of, is_too_long_for, letters_of, value_faults, value_part, text_in, only_text, begins_with_braces, filling_of, list_faults, elements_begun}
 use Rattle.lt_tree.specs.Typing.InitialiserTyping.{literal_alone, filled_by, fill_value, value_initialiser, fill_text, initialiser_without_braces, filling_for, faults_of_list, behind_list, initialiser, initialisers, Started, with_length, started, whole_value, whole_without_braces, listed_length, end_of_list, object_initialiser}
-use Rattle.lt_tree.specs.Typing.DeclarationTyping.{DeclaredLocals, started_object, declare, init_declarator, init_declarators, has_no_declarator, left_over, declaration_by}
-use Rattle.lt_mark_typing.specs.Added.{Adds, AddsPart, AddsParts, AddsLocals}
-use Rattle.lt_mark_typing.specs.Beside.{IsBeside, AddsTyped, Follows, goes, breaks, in_use}
+use Rattle.lt_tree.specs.Typing.DeclarationTyping.{DeclaredLocals, started_object, declare, init_declarators, has_no_declarator, declaration_by}
+use Rattle.lt_mark_typing.specs.Added.{AddsPart, AddsParts, AddsLocals}
+use Rattle.lt_mark_typing.specs.Beside.{IsBeside, AddsTyped, Follows, goes, in_use}
 use Rattle.lt_mark_typing.specs.Placed.{AreOld, AddsTo, as_it_is}
 use Rattle.lt_mark_typing.specs.PlacedInitialisers as p
 use Rattle.lt_mark_typing.specs.PlacedInitialisers.{AddsToInitialiser, AddsToInitialisers, AddsToObject, AddsToStartOf, AddsToDeclarators, AddsToDeclaration}
 use Rattle.lt_mark_typing.proofs.Itself.{itself, local}
-use Rattle.lt_mark_typing.proofs.Going.{bind, bind_at, so, entered_beside, same_of, settled}
+use Rattle.lt_mark_typing.proofs.Going.{bind, bind_at, entered_beside, same_of, settled}
 use Rattle.lt_mark_typing.proofs.Knowing.{type_same as object_type_same}
 use Rattle.lt_mark_typing.proofs.Operands.{made, type_same, value_adds, value_type, converted_adds}
 use Rattle.lt_mark_typing.proofs.Operators.{unless_more, empty_both, left_empty, right_empty, fits_more}
-use Rattle.lt_mark_typing.proofs.Unchanged.{Same, old_first, old_second, bind_same, judged_same, of_specifiers, of_declarator}
+use Rattle.lt_mark_typing.proofs.Unchanged.{Same, bind_same, judged_same, of_specifiers, of_declarator}
 use Rattle.lt_mark_typing.proofs.Declared.{declare_if_named, declaration_known, object_declared, start_beside, letters_alone, opened_same, of_initialisers, of_init}
 use Rattle.lt_mark_typing.proofs.Again.{of_to, bind_same_at, bind_declares_at}
 

@@ -2,8 +2,7 @@
 use Rattle.std.proofs.Common.{ℕ, Bool, List, [], ◌∷◌, Option, Some, None, refl}
 use Rattle.lt_tree.specs.Typing.TypedTree as e
 use Rattle.lt_tree.specs.Typing.TypedTree.{Value, Values, Place, Marks, Mark, Bindings, Statement, Items, Cases, Local, Start, StartPart}
-use Rattle.lt_tree.specs.Typing.Entities.{Function, Object}
-use Rattle.lt_tree.specs.Typing.Programs.{Program}
+use Rattle.lt_tree.specs.Typing.Entities.{Function}
 use Rattle.lt_mark_typing.specs.Added as a
 use Rattle.lt_mark_typing.specs.Added.{Adds, AddsTruth, AddsAll, AddsPlace, AddsMarks, Keeps, KeepsBound, AddsPart, AddsParts, AddsStart, AddsLocal, AddsLocals, AddsOptional, AddsForStart, AddsStatement, AddsItems, AddsCases, AddsFunction, AddsFunctions, AddsProgram, AreSameObjects}
 

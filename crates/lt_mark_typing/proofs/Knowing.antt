@@ -1,7 +1,6 @@
 -- What operators ask of what is known doesn't depend on nodes, facts, labels and bodies.
-use Rattle.std.proofs.Common.{◌≡◌, ℕ, zero, suc, ◌+◌, List, [], ◌∷◌, Option, Some, None, Bool, true, false, refl, sym, ap, ◌∙◌, subst}
-use Rattle.std.specs.Prelude.{◌++◌, ◌&&◌, if◌then◌else◌, slice_get, length, unwrap_or}
-use Rattle.std.specs.Str.{bytes_eq}
+use Rattle.std.proofs.Common.{◌≡◌, ℕ, zero, suc, List, [], ◌∷◌, Option, Some, None, Bool, false, refl, sym, ap, ◌∙◌}
+use Rattle.std.specs.Prelude.{if◌then◌else◌, slice_get, length, unwrap_or}
 use Rattle.lt_model.specs.Layout.{then_some}
 use Rattle.lt_model.specs.declared.operator.Op.{Op}
 use Rattle.lt_model.specs.declared.operator.Op.TheVariants as O
@@ -9,15 +8,14 @@ use Rattle.lt_tree.specs.Typing.Types.{CType, Void, Function as FunctionType}
 use Rattle.lt_tree.specs.Typing.Rules.{bad_call}
 use Rattle.lt_tree.specs.Typing.Extents.{size_of}
 use Rattle.lt_tree.specs.Typing.TypedTree.{When}
-use Rattle.lt_tree.specs.Typing.Entities.{Known, Object, Function, Label, Fact, Entity, an_object, a_function, a_typedef, an_enumerator, type_of_object, is_static, is_linked, linked_from, Life}
+use Rattle.lt_tree.specs.Typing.Entities.{Known, Object, Entity, an_object, a_function, a_typedef, an_enumerator, type_of_object, is_static}
 use Rattle.lt_tree.specs.Typing.Operands.{holds, are_integers}
 use Rattle.lt_tree.specs.Typing.Expressions.{Form, a_value, a_place, a_designator, Typed, Use, Judged, judgement, nothing, own_type}
-use Rattle.lt_tree.specs.Typing.Operations.{judge_name, judge_step, judge_size, judge_member, judge_arrow, judge_index, judge_call, judge_function, judge_cast, judge_plus, judge_minus, judge_complement, judge_dereference, object_size, lives_from_the_start, constancy_of_object, object_named}
+use Rattle.lt_tree.specs.Typing.Operations.{judge_name, judge_step, judge_size, judge_member, judge_arrow, judge_index, judge_call, judge_function, judge_cast, object_size, lives_from_the_start}
 use Rattle.lt_tree.specs.Typing.BinaryOperations.{operand_faults, on_integers, on_pointers, judge_binary, judge_conditional, judge_assignment, judge_assign, judge_update}
-use Rattle.lt_tree.specs.Typing.NodeEnds.{judge_unary}
 use Rattle.lt_mark_typing.specs.Added.{AreSameObjects}
 use Rattle.lt_mark_typing.specs.Beside.{IsBeside}
-use Rattle.lt_mark_typing.proofs.Going.{with_others, same_of}
+use Rattle.lt_mark_typing.proofs.Going.{same_of}
 
 -- a call of what a form is
 abbrev pub call_of : List Typed → Known → Form → Judged

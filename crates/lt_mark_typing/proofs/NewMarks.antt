@@ -1,31 +1,25 @@
 -- New marks are typed where they stand.
-use Rattle.std.proofs.Common.{◌≡◌, ℕ, zero, suc, ◌+◌, List, [], ◌∷◌, Option, Some, None, Bool, true, false, refl, sym, ap, ◌∙◌, subst, inl, inr}
+use Rattle.std.proofs.Common.{◌≡◌, ℕ, ◌+◌, List, [], ◌∷◌, Option, Some, None, Bool, true, false, refl, sym, ap, ◌∙◌, subst}
 use Rattle.std.proofs.lemmas.Bool.{false≢true, eqb-true, eq-eqb}
-use Rattle.std.specs.Prelude.{◌++◌, ◌⊎◌, ◌==◌, ◌||◌, ◌&&◌, not, is_some, unwrap_or}
+use Rattle.std.specs.Prelude.{◌++◌, ◌==◌, ◌||◌, ◌&&◌, not, is_some, unwrap_or}
 use Rattle.std.specs.List.{list_any}
-use Rattle.lt_model.specs.declared.scalar.Scalar.TheVariants as S
 use Rattle.lt_tree.specs.Tree as c
 use Rattle.lt_tree.specs.Purity.{is_pure}
-use Rattle.lt_tree.specs.Typing.Types.{CType, Num, is_scalar}
+use Rattle.lt_tree.specs.Typing.Types.{CType, is_scalar}
 use Rattle.lt_tree.specs.Typing.Extents.{Structs, has_too_many_cells}
-use Rattle.lt_tree.specs.Typing.Constants.{Constancy, varying}
-use Rattle.lt_tree.specs.Typing.Rules.{Rule, unless, bad_mark, broken_if, floating_type, bad_length, function_as_value}
+use Rattle.lt_tree.specs.Typing.Rules.{unless, bad_mark, broken_if, floating_type, bad_length, function_as_value}
 use Rattle.lt_tree.specs.Typing.TypedTree as e
 use Rattle.lt_tree.specs.Typing.TypedTree.{Value, Marks, type_of}
-use Rattle.lt_tree.specs.Typing.Entities.{Known, Object, Function, Label, Fact}
-use Rattle.lt_tree.specs.Typing.Steps.{Outcome, Goes, Breaks, goes_on, settle, adds_label, gives, ◌>>◌}
-use Rattle.lt_tree.specs.Typing.Expressions.{Form, a_value, a_place, a_designator, Typed, Use, as_value, as_truth, as_place, as_callee, valued, own_type, value_in, Judged, judgement, used, fact_of, faults_of_any, has_floating, has_pointer_to_function, finish}
-use Rattle.lt_tree.specs.Typing.MarkRules.{is_new_id, is_good_id, id_of, number_of_id, is_tag, is_good_mark, is_good_decision, label_of, judge_decide, judge_marked, inside_mark}
-use Rattle.lt_tree.specs.Typing.NodeEnds.{end_of_mark, decision_labels}
-use Rattle.lt_tree.specs.Typing.ExpressionTyping.{expression, marks, mark}
-use Rattle.lt_mark_typing.specs.Added as a
-use Rattle.lt_mark_typing.specs.Added.{AreNew, Adds, can_be_marked}
-use Rattle.lt_mark_typing.specs.Beside.{AddsLabels, no_labels, kept, added, is_used, IsBeside, AddsForm, values, places, designators, AddsTyped, AddsTest, Position, in_use, in_test, use_of, AddsAt, Follows, goes, breaks}
-use Rattle.lt_mark_typing.specs.Placed.{IsNewId, IsPredicateAt, AreNewLabels, takes_labels, IsMarkable, is_good_type, IsNoNull}
-use Rattle.lt_mark_typing.proofs.Going.{with_others, same_of, entered_beside}
-use Rattle.lt_mark_typing.proofs.Operands.{type_same, value_adds, made}
-use Rattle.lt_mark_typing.proofs.Operators.{scalar_more}
-use Rattle.lt_mark_typing.proofs.Ends.{structs_same, finished_alone}
+use Rattle.lt_tree.specs.Typing.Entities.{Known, Label, Fact}
+use Rattle.lt_tree.specs.Typing.Steps.{Goes, goes_on, settle, adds_label, gives, ◌>>◌}
+use Rattle.lt_tree.specs.Typing.Expressions.{Typed, own_type, value_in, has_floating, has_pointer_to_function}
+use Rattle.lt_tree.specs.Typing.MarkRules.{is_new_id, is_good_id, id_of, number_of_id, is_tag, is_good_mark, label_of}
+use Rattle.lt_tree.specs.Typing.NodeEnds.{end_of_mark}
+use Rattle.lt_tree.specs.Typing.ExpressionTyping.{marks, mark}
+use Rattle.lt_mark_typing.specs.Added.{AreNew}
+use Rattle.lt_mark_typing.specs.Beside.{AddsLabels, no_labels, kept, added, is_used, IsBeside}
+use Rattle.lt_mark_typing.specs.Placed.{IsNewId, IsPredicateAt, AreNewLabels, is_good_type}
+use Rattle.lt_mark_typing.proofs.Going.{same_of}
 
 apart_by : (new : ℕ → Bool) (n id : ℕ) (b : Bool) → (n == id) ≡ b → new n ≡ false → new id ≡ true → b ≡ false
 apart_by new n id false q h g = refl
@@ -92,22 +86,27 @@ module _ {new : ℕ → Bool} where
       let scalar = p.1 (record l { next = l.next + 1 }) here in
       let x = scalar.0 in
       let later : Known = record l { next = scalar.1; facts = scalar.2 } in
-      let there : IsBeside new used k later = numbered_alone scalar.1 scalar.2 b in
-      (value_in x, record later { labels = later.labels ++ label_of id tag [] ∷ [] },
-      ap (λ o. goes_on o (λ x k. end_of_mark l.next predicate x id tag [] k)) scalar.3
-      ∙ ap (λ good. goes_on (settle l.next (unless good bad_mark) later) (λ u. adds_label (label_of id tag []) >> gives (e.mark (value_in x) (number_of_id id) e.no_bindings)))
-      (good_new_mark predicate x id tag u scalar.4 p.0 i t there),
-      new_label_beside (label_of id tag []) i.1 refl there)
+      let there : IsBeside new used k later = numbered_alone scalar.1 scalar.2 b in (
+        value_in x,
+        record later { labels = later.labels ++ label_of id tag [] ∷ [] },
+        ap (λ o. goes_on o (λ x k. end_of_mark l.next predicate x id tag [] k)) scalar.3
+            ∙ ap (λ good. goes_on (settle l.next (unless good bad_mark) later) (λ u. adds_label (label_of id tag []) >> gives (e.mark (value_in x) (number_of_id id) e.no_bindings)))
+            (good_new_mark predicate x id tag u scalar.4 p.0 i t there),
+        new_label_beside (label_of id tag []) i.1 refl there,
+      )
 
   pub new_labels : (labels : c.Marks) {used after : List ℕ} {k l : Known} → k.is_unmarked ≡ false → AreNewLabels new used after k labels → IsBeside new used k l
       → (ms : Marks) × (later : Known) × (marks labels l ≡ Goes ms later) × AreNew new ms × IsBeside new after k later
   new_labels c.no_marks {used} {after} {k} {l} u h b = (e.no_marks, l, refl, tt, subst (λ it. IsBeside new it k l) (sym h) b)
   new_labels (c.a_mark (c.mark predicate id tag c.no_bindings) rest) {used} {after} {k} {l} u h b =
       let first = new_mark predicate id tag u h.0 h.1 h.2 b in
-      let others = new_labels rest u h.3 first.3 in
-      (e.a_mark (e.mark first.0 (number_of_id id) e.no_bindings) others.0, others.1,
-      ap (λ o. goes_on o (λ m k. goes_on (marks rest k) (λ ms k. Goes (e.a_mark m ms) k))) first.2 ∙ ap (λ o. goes_on o (λ ms k. Goes (e.a_mark (e.mark first.0 (number_of_id id) e.no_bindings) ms) k)) others.2,
-      (h.0.1, others.3), others.4)
+      let others = new_labels rest u h.3 first.3 in (
+        e.a_mark (e.mark first.0 (number_of_id id) e.no_bindings) others.0,
+        others.1,
+        ap (λ o. goes_on o (λ m k. goes_on (marks rest k) (λ ms k. Goes (e.a_mark m ms) k))) first.2 ∙ ap (λ o. goes_on o (λ ms k. Goes (e.a_mark (e.mark first.0 (number_of_id id) e.no_bindings) ms) k)) others.2,
+        (h.0.1, others.3),
+        others.4,
+      )
   new_labels (c.a_mark (c.mark predicate id tag (c.a_binding name value bound)) rest) u h b = absurd h
 
 -- ---- what is judged of a new mark

@@ -1,13 +1,12 @@
 -- Expressions with marks added have the same types, are lvalues or not, and are read and converted alike.
-use Rattle.std.proofs.Common.{◌≡◌, ℕ, List, [], ◌∷◌, Option, Some, None, Bool, true, false, refl, sym, ap, ◌∙◌, subst, inl, inr}
-use Rattle.std.specs.Prelude.{◌++◌, ◌⊎◌, ◌||◌, ◌&&◌, if◌then◌else◌}
-use Rattle.lt_tree.specs.Typing.Types.{CType, CTypes, Void, Num, Pointer, Array, Struct, Function, Floating, Qualified, same, is_struct, is_array, unqualified}
+use Rattle.std.proofs.Common.{◌≡◌, ℕ, [], Bool, true, false, refl, sym, ap, ◌∙◌, subst, inl, inr}
+use Rattle.std.specs.Prelude.{◌||◌, ◌&&◌, if◌then◌else◌}
+use Rattle.lt_tree.specs.Typing.Types.{CType, Void, Num, Pointer, Array, Struct, Function, Floating, Qualified, same, is_struct, is_array}
 use Rattle.lt_tree.specs.Typing.Constants.{Constancy, varying, is_null_constant}
 use Rattle.lt_tree.specs.Typing.Extents.{Structs}
 use Rattle.lt_tree.specs.Typing.TypedTree as e
 use Rattle.lt_tree.specs.Typing.TypedTree.{Value, Place, type_of, type_at}
-use Rattle.lt_tree.specs.Typing.Expressions.{Form, a_value, a_place, a_designator, Typed, Use, as_value, as_truth, as_place, as_callee, valued, own_type, value_in, place_in, is_lvalue, is_lvalue_place, value_at, read, as_it_is_read, is_read, used, cast_to, how_to, converted_to, faults_of_any, Judged}
-use Rattle.lt_tree.specs.Typing.Operations.{counts_as_null}
+use Rattle.lt_tree.specs.Typing.Expressions.{Form, a_value, a_place, a_designator, Typed, Use, as_value, as_truth, as_place, as_callee, valued, own_type, value_in, place_in, is_lvalue, is_lvalue_place, value_at, read, as_it_is_read, used, cast_to, how_to, converted_to, faults_of_any, Judged}
 use Rattle.lt_mark_typing.specs.Added as a
 use Rattle.lt_mark_typing.specs.Added.{Adds, AddsPlace, AddsTruth}
 use Rattle.lt_mark_typing.specs.Beside.{AddsForm, values, places, designators, IsAtMost, AddsTyped, AddsTest}

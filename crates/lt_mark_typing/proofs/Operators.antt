@@ -1,5 +1,5 @@
 -- No operator tells an expression with marks added from the expression: C11 6.5.2 to 6.5.4.
-use Rattle.std.proofs.Common.{◌≡◌, ℕ, suc, List, [], ◌∷◌, Option, Some, None, Bool, true, false, refl, sym, ap, ◌∙◌, subst, inl, inr}
+use Rattle.std.proofs.Common.{◌≡◌, ℕ, suc, List, [], ◌∷◌, Option, Some, None, Bool, true, false, refl, ap, ◌∙◌, inl, inr}
 use Rattle.std.specs.Prelude.{◌++◌, ◌+◌, ◌⊎◌, ◌||◌, ◌&&◌, not, if◌then◌else◌, pos, ◌-ℤ◌, length, option_and_then}
 use Rattle.lt_model.specs.declared.scalar.DataModel.{DataModel}
 use Rattle.lt_model.specs.declared.scalar.Scalar.{Scalar}
@@ -9,15 +9,15 @@ use Rattle.lt_model.specs.declared.operator.Op.TheVariants as O
 use Rattle.lt_model.specs.Conversions.{promoted}
 use Rattle.lt_tree.specs.declared.expression.UnaryOp.{UnaryOp}
 use Rattle.lt_tree.specs.declared.expression.UnaryOp.TheVariants as unary
-use Rattle.lt_tree.specs.Typing.Types.{CType, CTypes, no_types, a_type, Void, Num, Pointer, Function as FunctionType, target_of, is_void, is_integer, is_pointer, is_scalar, unqualified}
-use Rattle.lt_tree.specs.Typing.Extents.{Structs, size_of, is_complete, Placed}
+use Rattle.lt_tree.specs.Typing.Types.{CType, CTypes, no_types, a_type, Num, Pointer, Function as FunctionType, target_of, is_void, is_integer, is_pointer, is_scalar, unqualified}
+use Rattle.lt_tree.specs.Typing.Extents.{size_of, is_complete, Placed}
 use Rattle.lt_tree.specs.Typing.Constants.{Constancy, varying, faulty, number, null_constant, null_address, address, is_null_constant, converted, applied, negated, moved_by, is_zero}
 use Rattle.lt_tree.specs.Typing.Rules.{Rule, unless, broken_if, floating_type, function_as_value, not_scalar, bad_call, bad_address, bad_assignment, bad_cast, no_body}
 use Rattle.lt_tree.specs.Typing.TypedTree as e
 use Rattle.lt_tree.specs.Typing.TypedTree.{Value, Values, Place, When, type_of}
 use Rattle.lt_tree.specs.Typing.Entities.{Known}
 use Rattle.lt_tree.specs.Typing.Operands.{points_to, are_integers, are_structs_alike, are_pointers_assignable, is_truth_type, is_assignable, can_be_cast}
-use Rattle.lt_tree.specs.Typing.Expressions.{Form, a_value, a_place, a_designator, Typed, valued, varies, placed, nothing, own_type, value_in, place_in, is_lvalue, judgement, converted_to, constancy_to, constancy_as_number, scalar_in, has_floating, has_pointer_to_function}
+use Rattle.lt_tree.specs.Typing.Expressions.{Form, Typed, varies, placed, nothing, own_type, value_in, place_in, is_lvalue, judgement, converted_to, constancy_to, constancy_as_number, scalar_in, has_floating, has_pointer_to_function}
 use Rattle.lt_tree.specs.Typing.Operations.{judge_plus, judge_minus, judge_complement, judge_not, judge_address_of, judge_dereference, judge_step, judge_member, judge_arrow, judge_part, judge_index, judge_call, judge_function, judge_cast, constant_address, target_in, member_in, pointer_among, other_among, element_size, object_size, fits, counts_as_null, all_fit, is_right_number, can_be_run, takes_or_gives, passed, promoted_argument, promoted_value}
 use Rattle.lt_tree.specs.Typing.NodeEnds.{judge_unary}
 use Rattle.lt_mark_typing.specs.Added as a
@@ -99,14 +99,20 @@ module _ {new : ℕ → Bool} {x y : Typed} where
 
   minus_adds : (known : Known) → AddsTyped new x y → AddsJudged new (judge_minus x known) (judge_minus y known)
   unfolding judge_minus
-  minus_adds known p = rw (type_same (made p)) (record { faults = λ h. h; typed = valued_adds (a.Minus (converted_adds (Num (promoted known.model (scalar_in x))) (value_adds (made p))))
-      (strict (λ c. applied known.model O.Sub (promoted known.model (scalar_in x)) (number (pos 0)) (converted known.model (promoted known.model (scalar_in x)) c)) refl p.constancy) })
+  minus_adds known p = rw (type_same (made p)) (record {
+    faults = λ h. h;
+    typed = valued_adds (a.Minus (converted_adds (Num (promoted known.model (scalar_in x))) (value_adds (made p))))
+        (strict (λ c. applied known.model O.Sub (promoted known.model (scalar_in x)) (number (pos 0)) (converted known.model (promoted known.model (scalar_in x)) c)) refl p.constancy);
+  })
 
   complement_adds : (known : Known) → AddsTyped new x y → AddsJudged new (judge_complement x known) (judge_complement y known)
   unfolding judge_complement
-  complement_adds known p = rw (type_same (made p)) (record { faults = λ h. h; typed = valued_adds (a.Complement (converted_adds (Num (promoted known.model (scalar_in x))) (value_adds (made p))))
-      (strict (λ c. applied known.model O.Xor (promoted known.model (scalar_in x)) (converted known.model (promoted known.model (scalar_in x)) (number (pos 0 -ℤ pos 1))) (converted known.model (promoted known.model (scalar_in x)) c))
-      (turned_varies known.model (promoted known.model (scalar_in x))) p.constancy) })
+  complement_adds known p = rw (type_same (made p)) (record {
+    faults = λ h. h;
+    typed = valued_adds (a.Complement (converted_adds (Num (promoted known.model (scalar_in x))) (value_adds (made p))))
+        (strict (λ c. applied known.model O.Xor (promoted known.model (scalar_in x)) (converted known.model (promoted known.model (scalar_in x)) (number (pos 0 -ℤ pos 1))) (converted known.model (promoted known.model (scalar_in x)) c))
+        (turned_varies known.model (promoted known.model (scalar_in x))) p.constancy);
+  })
 
   address_of_adds : AddsTyped new x y → AddsJudged new (judge_address_of x) (judge_address_of y)
   unfolding judge_address_of

@@ -1,5 +1,5 @@
 -- Predicates that are made of expressions are typed where these are.
-use Rattle.std.proofs.Common.{◌≡◌, ℕ, ◌+◌, List, [], ◌∷◌, Option, Some, None, Bool, true, false, refl, sym, ap, ◌∙◌, subst}
+use Rattle.std.proofs.Common.{◌≡◌, ℕ, ◌+◌, List, [], ◌∷◌, Some, Bool, true, false, refl, ap, ◌∙◌}
 use Rattle.std.proofs.lemmas.Bool.{false≢true}
 use Rattle.std.specs.Prelude.{◌++◌, ◌||◌, ◌&&◌, if◌then◌else◌}
 use Rattle.lt_model.specs.declared.operator.Op.{Op}
@@ -15,16 +15,15 @@ use Rattle.lt_model.specs.Conversions.{usual_of}
 use Rattle.lt_tree.specs.Typing.Extents.{Structs, has_too_many_cells}
 use Rattle.lt_tree.specs.Typing.Constants.{chosen as chosen_constancy, TypedConstant, constant_of}
 use Rattle.lt_tree.specs.Typing.TypedTree as e
-use Rattle.lt_tree.specs.Typing.Rules.{Rule, unless, broken_if, floating_type, bad_length, function_as_value, not_scalar, bad_choice, operand_not_integer}
+use Rattle.lt_tree.specs.Typing.Rules.{unless, broken_if, floating_type, bad_length, function_as_value, not_scalar, bad_choice, operand_not_integer}
 use Rattle.lt_tree.specs.Typing.Operands.{are_integers, can_be_chosen_from, is_relation, is_equality}
-use Rattle.lt_tree.specs.Typing.Entities.{Known, Object, Function, Label, Fact, an_object, meaning_of}
-use Rattle.lt_tree.specs.Typing.Steps.{Outcome, Goes, Breaks, goes_on}
-use Rattle.lt_tree.specs.Typing.Expressions.{Typed, Use, as_value, as_truth, valued, constant, own_type, as_it_is_read, faults_of_any, value_in, converted_to, constancy_to, scalar_in, has_floating, has_pointer_to_function, Judged, judgement, fact_of, finish}
+use Rattle.lt_tree.specs.Typing.Entities.{Known, an_object, meaning_of}
+use Rattle.lt_tree.specs.Typing.Steps.{goes_on}
+use Rattle.lt_tree.specs.Typing.Expressions.{Typed, as_value, as_truth, valued, constant, own_type, as_it_is_read, faults_of_any, value_in, converted_to, constancy_to, scalar_in, has_floating, has_pointer_to_function, Judged, judgement, fact_of, finish}
 use Rattle.lt_tree.specs.Typing.Operations.{object_named, judge_name, judge_constant, judge_minus, judge_not}
-use Rattle.lt_tree.specs.Typing.BinaryOperations.{judge_binary, operand_faults, result_type, operation_type, on_integers, on_pointers, judge_logical, judge_conditional, chosen_type, chosen_pointer}
+use Rattle.lt_tree.specs.Typing.BinaryOperations.{judge_binary, operand_faults, operation_type, on_integers, on_pointers, judge_logical, judge_conditional, chosen_pointer}
 use Rattle.lt_tree.specs.Typing.ExpressionTyping.{expression}
-use Rattle.lt_mark_typing.specs.Beside.{IsBeside}
-use Rattle.lt_mark_typing.specs.Placed.{IsAt, IsThere}
+use Rattle.lt_mark_typing.specs.Placed.{IsThere}
 use Rattle.lt_mark_typing.proofs.Going.{same_of}
 use Rattle.lt_mark_typing.proofs.Knowing.{name_known}
 use Rattle.lt_mark_typing.proofs.Ends.{structs_same, finished_alone}
@@ -99,86 +98,120 @@ conditional_as known test x y t =
 module _ {new : ℕ → Bool} {used' : List ℕ} {known : Known} where
   pub negated : (it : c.Expression) → IsThere is_scalar new used' known it → IsThere is_integer new used' known (c.Unary unary.Not it)
   unfolding judge_not
-  negated it p = (p.0, λ l b.
-      let first : Known = record l { next = l.next + 1 } in
-      let found = p.1 first (numbered_alone (l.next + 1) l.facts b) in
-      let x = found.0 in
-      let later : Known = record first { next = found.1; facts = found.2 } in
-      ((judge_not x).typed, found.1, found.2 ++ fact_of l.next (judge_not x).typed ∷ [],
-      ap (λ o. goes_on o (λ x k. finish l.next as_value (judge_not x) k)) (truth_role it p.0 first ∙ found.3)
-      ∙ finished_alone later l.next as_value (judge_not x) (ap (λ t. unless t not_scalar) found.4) refl, refl))
+  negated it p = (
+    p.0,
+    λ l b.
+        let first : Known = record l { next = l.next + 1 } in
+        let found = p.1 first (numbered_alone (l.next + 1) l.facts b) in
+        let x = found.0 in
+        let later : Known = record first { next = found.1; facts = found.2 } in (
+          (judge_not x).typed,
+          found.1,
+          found.2 ++ fact_of l.next (judge_not x).typed ∷ [],
+          ap (λ o. goes_on o (λ x k. finish l.next as_value (judge_not x) k)) (truth_role it p.0 first ∙ found.3)
+              ∙ finished_alone later l.next as_value (judge_not x) (ap (λ t. unless t not_scalar) found.4) refl,
+          refl,
+        ),
+  )
 
   pub connected : (op : LogicalOp) (it other : c.Expression) → IsThere is_scalar new used' known it → IsThere is_scalar new used' known other → IsThere is_integer new used' known (c.Logical op it other)
   unfolding judge_logical
-  connected op it other p q = (both_true (is_pure it) (is_pure other) p.0 q.0, λ l b.
-      let first : Known = record l { next = l.next + 1 } in
-      let found = p.1 first (numbered_alone (l.next + 1) l.facts b) in
-      let second : Known = record first { next = found.1; facts = found.2 } in
-      let others = q.1 second (numbered_alone found.1 found.2 b) in
-      let x = found.0 in
-      let y = others.0 in
-      let later : Known = record second { next = others.1; facts = others.2 } in
-      ((judge_logical op x y).typed, others.1, others.2 ++ fact_of l.next (judge_logical op x y).typed ∷ [],
-      ap (λ o. goes_on o (λ x k. goes_on (expression other as_truth k) (λ y k. finish l.next as_value (judge_logical op x y) k))) (truth_role it p.0 first ∙ found.3)
-      ∙ ap (λ o. goes_on o (λ y k. finish l.next as_value (judge_logical op x y) k)) (truth_role other q.0 second ∙ others.3)
-      ∙ finished_alone later l.next as_value (judge_logical op x y) (ap (λ t. unless t not_scalar) (both_true (is_scalar (own_type x)) (is_scalar (own_type y)) found.4 others.4)) refl, refl))
+  connected op it other p q = (
+    both_true (is_pure it) (is_pure other) p.0 q.0,
+    λ l b.
+        let first : Known = record l { next = l.next + 1 } in
+        let found = p.1 first (numbered_alone (l.next + 1) l.facts b) in
+        let second : Known = record first { next = found.1; facts = found.2 } in
+        let others = q.1 second (numbered_alone found.1 found.2 b) in
+        let x = found.0 in
+        let y = others.0 in
+        let later : Known = record second { next = others.1; facts = others.2 } in (
+          (judge_logical op x y).typed,
+          others.1,
+          others.2 ++ fact_of l.next (judge_logical op x y).typed ∷ [],
+          ap (λ o. goes_on o (λ x k. goes_on (expression other as_truth k) (λ y k. finish l.next as_value (judge_logical op x y) k))) (truth_role it p.0 first ∙ found.3)
+              ∙ ap (λ o. goes_on o (λ y k. finish l.next as_value (judge_logical op x y) k)) (truth_role other q.0 second ∙ others.3)
+              ∙ finished_alone later l.next as_value (judge_logical op x y) (ap (λ t. unless t not_scalar) (both_true (is_scalar (own_type x)) (is_scalar (own_type y)) found.4 others.4)) refl,
+          refl,
+        ),
+  )
 
   pub minus : (it : c.Expression) → IsThere is_integer new used' known it → IsThere is_integer new used' known (c.Unary unary.Minus it)
   unfolding judge_minus
-  minus it p = (p.0, λ l b.
-      let first : Known = record l { next = l.next + 1 } in
-      let found = p.1 first (numbered_alone (l.next + 1) l.facts b) in
-      let x = found.0 in
-      let later : Known = record first { next = found.1; facts = found.2 } in
-      ((judge_minus x later).typed, found.1, found.2 ++ fact_of l.next (judge_minus x later).typed ∷ [],
-      ap (λ o. goes_on o (λ x k. finish l.next as_value (judge_minus x k) k)) found.3
-      ∙ finished_alone later l.next as_value (judge_minus x later) (ap (λ t. unless t operand_not_integer) found.4) refl, refl))
+  minus it p = (
+    p.0,
+    λ l b.
+        let first : Known = record l { next = l.next + 1 } in
+        let found = p.1 first (numbered_alone (l.next + 1) l.facts b) in
+        let x = found.0 in
+        let later : Known = record first { next = found.1; facts = found.2 } in (
+          (judge_minus x later).typed,
+          found.1,
+          found.2 ++ fact_of l.next (judge_minus x later).typed ∷ [],
+          ap (λ o. goes_on o (λ x k. finish l.next as_value (judge_minus x k) k)) found.3
+              ∙ finished_alone later l.next as_value (judge_minus x later) (ap (λ t. unless t operand_not_integer) found.4) refl,
+          refl,
+        ),
+  )
 
   -- an operator on integers
   pub operated : (op : Op) (it other : c.Expression) → IsThere is_integer new used' known it → IsThere is_integer new used' known other → IsThere is_integer new used' known (c.Binary op it other)
   unfolding judge_binary
-  operated op it other p q = (both_true (is_pure it) (is_pure other) p.0 q.0, λ l b.
-      let first : Known = record l { next = l.next + 1 } in
-      let found = p.1 first (numbered_alone (l.next + 1) l.facts b) in
-      let second : Known = record first { next = found.1; facts = found.2 } in
-      let others = q.1 second (numbered_alone found.1 found.2 b) in
-      let x = found.0 in
-      let y = others.0 in
-      let later : Known = record second { next = others.1; facts = others.2 } in
-      let integers : are_integers (own_type x) (own_type y) ≡ true = both_true (is_integer (own_type x)) (is_integer (own_type y)) found.4 others.4 in
-      (on_integers later op x y, others.1, others.2 ++ fact_of l.next (on_integers later op x y) ∷ [],
-      ap (λ o. goes_on o (λ x k. goes_on (expression other as_value k) (λ y k. finish l.next as_value (judge_binary op x y k) k))) found.3
-      ∙ ap (λ o. goes_on o (λ y k. finish l.next as_value (judge_binary op x y k) k)) others.3
-      ∙ ap (λ (j : Judged). finish l.next as_value j later)
-        (ap (λ faults. judgement faults (if are_integers (own_type x) (own_type y) then on_integers later op x y else on_pointers later op x y)) (integers_take later.structs op x y integers)
-        ∙ ap (λ b. judgement [] (if b then on_integers later op x y else on_pointers later op x y)) integers)
-      ∙ finished_alone later l.next as_value (judgement [] (on_integers later op x y)) refl (good_by later.structs (is_relation op || is_equality op) (operation_type later op x y)),
-      result_by (is_relation op || is_equality op) (operation_type later op x y)))
+  operated op it other p q = (
+    both_true (is_pure it) (is_pure other) p.0 q.0,
+    λ l b.
+        let first : Known = record l { next = l.next + 1 } in
+        let found = p.1 first (numbered_alone (l.next + 1) l.facts b) in
+        let second : Known = record first { next = found.1; facts = found.2 } in
+        let others = q.1 second (numbered_alone found.1 found.2 b) in
+        let x = found.0 in
+        let y = others.0 in
+        let later : Known = record second { next = others.1; facts = others.2 } in
+        let integers : are_integers (own_type x) (own_type y) ≡ true = both_true (is_integer (own_type x)) (is_integer (own_type y)) found.4 others.4 in (
+          on_integers later op x y,
+          others.1,
+          others.2 ++ fact_of l.next (on_integers later op x y) ∷ [],
+          ap (λ o. goes_on o (λ x k. goes_on (expression other as_value k) (λ y k. finish l.next as_value (judge_binary op x y k) k))) found.3
+              ∙ ap (λ o. goes_on o (λ y k. finish l.next as_value (judge_binary op x y k) k)) others.3
+              ∙ ap (λ (j : Judged). finish l.next as_value j later)
+              (ap (λ faults. judgement faults (if are_integers (own_type x) (own_type y) then on_integers later op x y else on_pointers later op x y)) (integers_take later.structs op x y integers)
+              ∙ ap (λ b. judgement [] (if b then on_integers later op x y else on_pointers later op x y)) integers)
+              ∙ finished_alone later l.next as_value (judgement [] (on_integers later op x y)) refl (good_by later.structs (is_relation op || is_equality op) (operation_type later op x y)),
+          result_by (is_relation op || is_equality op) (operation_type later op x y),
+        ),
+  )
 
   -- a choice between integers
   pub chosen : (test it other : c.Expression) → IsThere is_scalar new used' known test → IsThere is_integer new used' known it → IsThere is_integer new used' known other
       → IsThere is_integer new used' known (c.Conditional test it other)
   unfolding judge_conditional
-  chosen test it other o p q = (both_true (is_pure test && is_pure it) (is_pure other) (both_true (is_pure test) (is_pure it) o.0 p.0) q.0, λ l b.
-      let first : Known = record l { next = l.next + 1 } in
-      let tested = o.1 first (numbered_alone (l.next + 1) l.facts b) in
-      let second : Known = record first { next = tested.1; facts = tested.2 } in
-      let found = p.1 second (numbered_alone tested.1 tested.2 b) in
-      let third : Known = record second { next = found.1; facts = found.2 } in
-      let others = q.1 third (numbered_alone found.1 found.2 b) in
-      let z = tested.0 in
-      let x = found.0 in
-      let y = others.0 in
-      let later : Known = record third { next = others.1; facts = others.2 } in
-      let integers : are_integers (own_type x) (own_type y) ≡ true = both_true (is_integer (own_type x)) (is_integer (own_type y)) found.4 others.4 in
-      let s = usual_of later.model (scalar_in x) (scalar_in y) in
-      ((conditional_as later z x y (Num s)).typed, others.1, others.2 ++ fact_of l.next (conditional_as later z x y (Num s)).typed ∷ [],
-      ap (λ o. goes_on o (λ z k. goes_on (expression it as_value k) (λ x k. goes_on (expression other as_value k) (λ y k. finish l.next as_value (judge_conditional z x y k) k)))) (truth_role test o.0 first ∙ tested.3)
-      ∙ ap (λ o. goes_on o (λ x k. goes_on (expression other as_value k) (λ y k. finish l.next as_value (judge_conditional z x y k) k))) found.3
-      ∙ ap (λ o. goes_on o (λ y k. finish l.next as_value (judge_conditional z x y k) k)) others.3
-      ∙ ap (λ t. finish l.next as_value (conditional_as later z x y t) later) (ap (λ b. if b then Num s else (if is_pointer (own_type x) || is_pointer (own_type y) then chosen_pointer x y else own_type x)) integers)
-      ∙ finished_alone later l.next as_value (conditional_as later z x y (Num s))
-        (ap (λ t. unless t not_scalar ++ unless (can_be_chosen_from (own_type x) x.constancy (own_type y) y.constancy) bad_choice) tested.4 ∙ choice_taken x y integers) refl, refl))
+  chosen test it other o p q = (
+    both_true (is_pure test && is_pure it) (is_pure other) (both_true (is_pure test) (is_pure it) o.0 p.0) q.0,
+    λ l b.
+        let first : Known = record l { next = l.next + 1 } in
+        let tested = o.1 first (numbered_alone (l.next + 1) l.facts b) in
+        let second : Known = record first { next = tested.1; facts = tested.2 } in
+        let found = p.1 second (numbered_alone tested.1 tested.2 b) in
+        let third : Known = record second { next = found.1; facts = found.2 } in
+        let others = q.1 third (numbered_alone found.1 found.2 b) in
+        let z = tested.0 in
+        let x = found.0 in
+        let y = others.0 in
+        let later : Known = record third { next = others.1; facts = others.2 } in
+        let integers : are_integers (own_type x) (own_type y) ≡ true = both_true (is_integer (own_type x)) (is_integer (own_type y)) found.4 others.4 in
+        let s = usual_of later.model (scalar_in x) (scalar_in y) in (
+          (conditional_as later z x y (Num s)).typed,
+          others.1,
+          others.2 ++ fact_of l.next (conditional_as later z x y (Num s)).typed ∷ [],
+          ap (λ o. goes_on o (λ z k. goes_on (expression it as_value k) (λ x k. goes_on (expression other as_value k) (λ y k. finish l.next as_value (judge_conditional z x y k) k)))) (truth_role test o.0 first ∙ tested.3)
+              ∙ ap (λ o. goes_on o (λ x k. goes_on (expression other as_value k) (λ y k. finish l.next as_value (judge_conditional z x y k) k))) found.3
+              ∙ ap (λ o. goes_on o (λ y k. finish l.next as_value (judge_conditional z x y k) k)) others.3
+              ∙ ap (λ t. finish l.next as_value (conditional_as later z x y t) later) (ap (λ b. if b then Num s else (if is_pointer (own_type x) || is_pointer (own_type y) then chosen_pointer x y else own_type x)) integers)
+              ∙ finished_alone later l.next as_value (conditional_as later z x y (Num s))
+              (ap (λ t. unless t not_scalar ++ unless (can_be_chosen_from (own_type x) x.constancy (own_type y) y.constancy) bad_choice) tested.4 ∙ choice_taken x y integers) refl,
+          refl,
+        ),
+  )
 
   pub integer_there : (it : c.Expression) → IsThere is_integer new used' known it → IsThere is_scalar new used' known it
   integer_there it p = (p.0, λ l b. let found = p.1 l b in (found.0, found.1, found.2, found.3, integer_scalar (own_type found.0) found.4))
@@ -190,22 +223,36 @@ module _ {new : ℕ → Bool} {used' : List ℕ} {known : Known} where
       → faults_of_any known.structs as_value (object_named known n is_register) ≡ [] → test (own_type (as_it_is_read (object_named known n is_register))) ≡ true
       → IsThere test new used' known (c.Name w)
   unfolding judge_name
-  name_there test w n is_register m h t = (refl, λ l b.
-      let first : Known = record l { next = l.next + 1 } in
-      let there = numbered_alone (l.next + 1) l.facts b in
-      let x = object_named known n is_register in
-      let judged : judge_name as_value w (meaning_of w first) first ≡ judgement [] x =
-          ap (λ found. judge_name as_value w found first) (same_of (meaning_of w) there (λ n os fs ls facts h. refl) ∙ m) ∙ name_known there as_value w (Some (an_object n is_register)) in
-      (as_it_is_read x, first.next, l.facts ++ fact_of l.next x ∷ [],
-      ap (λ (j : Judged). finish l.next as_value j first) judged
-      ∙ finished_alone first l.next as_value (judgement [] x) refl (ap (λ structs. faults_of_any structs as_value x) (structs_same there) ∙ h), t))
+  name_there test w n is_register m h t = (
+    refl,
+    λ l b.
+        let first : Known = record l { next = l.next + 1 } in
+        let there = numbered_alone (l.next + 1) l.facts b in
+        let x = object_named known n is_register in
+        let judged : judge_name as_value w (meaning_of w first) first ≡ judgement [] x =
+        ap (λ found. judge_name as_value w found first) (same_of (meaning_of w) there (λ n os fs ls facts h. refl) ∙ m) ∙ name_known there as_value w (Some (an_object n is_register)) in (
+          as_it_is_read x,
+          first.next,
+          l.facts ++ fact_of l.next x ∷ [],
+          ap (λ (j : Judged). finish l.next as_value j first) judged
+              ∙ finished_alone first l.next as_value (judgement [] x) refl (ap (λ structs. faults_of_any structs as_value x) (structs_same there) ∙ h),
+          t,
+        ),
+  )
 
   pub constant_there : (text : List ℕ) (found : TypedConstant) → constant_of known.model text ≡ Some found → IsThere is_integer new used' known (c.Constant text)
   unfolding judge_constant
-  constant_there text found m = (refl, λ l b.
-      let first : Known = record l { next = l.next + 1 } in
-      let there = numbered_alone (l.next + 1) l.facts b in
-      let x = constant found.type found.value in
-      (x, first.next, l.facts ++ fact_of l.next x ∷ [],
-      ap (λ it. finish l.next as_value (judge_constant it) first) (same_of (λ (it : Known). constant_of it.model text) there (λ n os fs ls facts h. refl) ∙ m)
-      ∙ finished_alone first l.next as_value (judgement [] x) refl refl, refl))
+  constant_there text found m = (
+    refl,
+    λ l b.
+        let first : Known = record l { next = l.next + 1 } in
+        let there = numbered_alone (l.next + 1) l.facts b in
+        let x = constant found.type found.value in (
+          x,
+          first.next,
+          l.facts ++ fact_of l.next x ∷ [],
+          ap (λ it. finish l.next as_value (judge_constant it) first) (same_of (λ (it : Known). constant_of it.model text) there (λ n os fs ls facts h. refl) ∙ m)
+              ∙ finished_alone first l.next as_value (judgement [] x) refl refl,
+          refl,
+        ),
+  )

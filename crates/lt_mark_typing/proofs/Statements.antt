@@ -1,36 +1,32 @@
 -- Statements with marks added are typed again.
 use Rattle.std.proofs.Common.{◌≡◌, ℕ, ◌+◌, List, [], ◌∷◌, Option, Some, None, Bool, true, false, refl, sym, ap, ◌∙◌, subst}
-use Rattle.std.specs.Prelude.{◌++◌, ◌||◌, not, option_map, if◌then◌else◌}
+use Rattle.std.specs.Prelude.{◌++◌, ◌||◌, option_map, if◌then◌else◌}
 use Rattle.std.specs.List.{flat_map}
-use Rattle.lt_model.specs.declared.scalar.DataModel.{DataModel}
 use Rattle.lt_model.specs.declared.scalar.Scalar.{Scalar}
 use Rattle.lt_model.specs.Conversions.{promoted}
 use Rattle.lt_tree.specs.Tree as c
-use Rattle.lt_tree.specs.Nodes.{in_expression, in_declaration, in_label}
+use Rattle.lt_tree.specs.Nodes.{in_expression, in_label}
 use Rattle.lt_tree.specs.Typing.Types.{CType, scalar_of, is_scalar, is_integer, is_void, unqualified}
-use Rattle.lt_tree.specs.Typing.Rules.{Rule, unless, broken_if, not_scalar, bad_case, bad_return, bad_assignment, stray_jump}
+use Rattle.lt_tree.specs.Typing.Rules.{unless, broken_if, not_scalar, bad_case, bad_return, bad_assignment, stray_jump}
 use Rattle.lt_tree.specs.Typing.TypedTree as e
 use Rattle.lt_tree.specs.Typing.TypedTree.{Value, Statement, Items, Cases, Local}
-use Rattle.lt_tree.specs.Typing.Entities.{Known, Frame, no_names}
-use Rattle.lt_tree.specs.Typing.Steps.{Outcome, Goes, Breaks, goes_on, left, settle, gives, ◌>>=◌, in_block}
-use Rattle.lt_tree.specs.Typing.Expressions.{Typed, as_value, as_truth, own_type, value_in, converted_to}
-use Rattle.lt_tree.specs.Typing.Operations.{fits, promoted_argument}
+use Rattle.lt_tree.specs.Typing.Entities.{Known, no_names}
+use Rattle.lt_tree.specs.Typing.Steps.{Outcome, Goes, goes_on, left, gives, ◌>>=◌}
+use Rattle.lt_tree.specs.Typing.Expressions.{Typed, as_value, own_type, value_in}
+use Rattle.lt_tree.specs.Typing.Operations.{fits}
 use Rattle.lt_tree.specs.Typing.MarkRules.{number_of_id}
-use Rattle.lt_tree.specs.Typing.ExpressionTyping.{expression, mark}
-use Rattle.lt_tree.specs.Typing.DeclarationTyping.{DeclaredLocals, declaration, declaration_in_for, effective_in_for}
-use Rattle.lt_tree.specs.Typing.StatementTyping.{Around, in_a_loop, in_a_switch, test_faults, optional_test_faults, optional_expression, optional_test, optional_value, TypedStart, for_start, switch_type, switch_value, Seen, case_value, is_new_case, with_case, case_label, Labelled, label_before, end_of_case, labels, return_faults, returned, locals_before, statement, items, cases}
+use Rattle.lt_tree.specs.Typing.StatementTyping.{Around, in_a_switch, test_faults, optional_test_faults, optional_expression, optional_test, optional_value, TypedStart, for_start, switch_type, switch_value, Seen, case_value, is_new_case, with_case, end_of_case, labels, return_faults, returned, locals_before, statement, items, cases}
 use Rattle.lt_mark_typing.specs.Added as a
 use Rattle.lt_mark_typing.specs.Added.{Adds, AddsTruth, AddsLocals, AddsOptional, AddsForStart, AddsStatement, AddsItems, AddsCases}
-use Rattle.lt_mark_typing.specs.Beside.{IsBeside, AddsTyped, AddsTest, Follows, goes, breaks}
-use Rattle.lt_mark_typing.specs.Placed.{AreOld, AreNewLabels}
+use Rattle.lt_mark_typing.specs.Beside.{IsBeside, AddsTyped, AddsTest, Follows, goes}
+use Rattle.lt_mark_typing.specs.Placed.{AreOld}
 use Rattle.lt_mark_typing.specs.PlacedItems as p
 use Rattle.lt_mark_typing.specs.PlacedItems.{in_new_block, AddsToTest, AddsToOptional, AddsToStart, AddsToStatement, AddsToItems, AddsToCases}
-use Rattle.lt_mark_typing.proofs.Itself.{itself}
-use Rattle.lt_mark_typing.proofs.Going.{bind, bind_at, so, entered_beside, same_of, settled}
+use Rattle.lt_mark_typing.proofs.Going.{bind, bind_at, entered_beside, same_of, settled}
 use Rattle.lt_mark_typing.proofs.Operands.{made, type_same, value_adds, converted_adds}
 use Rattle.lt_mark_typing.proofs.Operators.{unless_more, empty_both, left_empty, right_empty, scalar_more, fits_more, argument_adds}
 use Rattle.lt_mark_typing.proofs.Unchanged.{Same, old_first, old_second, bind_same, judged_same, unmarked, unmarked_beside, unmarked_same, frames_beside, frames_same, scoped, of_expression, of_mark}
-use Rattle.lt_mark_typing.proofs.Initialisers.{AddsDeclared, of_declaration_with}
+use Rattle.lt_mark_typing.proofs.Initialisers.{of_declaration_with}
 use Rattle.lt_mark_typing.proofs.NewMarks.{new_mark, numbered_alone}
 use Rattle.lt_mark_typing.proofs.Again.{of_to, then_alone, bind_same_at, mark_kept}
 

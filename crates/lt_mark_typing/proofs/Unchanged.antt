@@ -1,8 +1,8 @@
 -- What is typed in a text is typed alike where marks are added elsewhere.
-use Rattle.std.proofs.Common.{◌≡◌, ℕ, ℤ, pos, zero, suc, ◌+◌, List, [], ◌∷◌, Option, Some, None, Bool, true, false, refl, sym, ap, ◌∙◌, subst}
+use Rattle.std.proofs.Common.{◌≡◌, ℕ, ℤ, pos, ◌+◌, List, [], ◌∷◌, Option, Some, None, Bool, true, false, refl, sym, ap, ◌∙◌, subst}
 use Rattle.std.proofs.lemmas.Bool.{false≢true, eqb-true}
 use Rattle.std.specs.Prelude.{◌++◌, ◌==◌, ◌||◌, ◌&&◌, ◌+ℤ◌, not, length, unwrap_or, if◌then◌else◌}
-use Rattle.std.specs.List.{list_any, list_all}
+use Rattle.std.specs.List.{list_any}
 use Rattle.lt_model.specs.declared.operator.Op.TheVariants as O
 use Rattle.lt_model.specs.declared.scalar.Scalar.TheVariants as S
 use Rattle.lt_tree.specs.declared.expression.UnaryOp.{UnaryOp}
@@ -12,23 +12,23 @@ use Rattle.lt_tree.specs.Nodes.{Node, in_expression, in_expressions, in_maybe, i
 use Rattle.lt_tree.specs.Typing.Types.{CType, Struct, adjusted}
 use Rattle.lt_tree.specs.Typing.Extents.{Member, Structs, has_too_many_cells}
 use Rattle.lt_tree.specs.Typing.Constants.{constant_of, address}
-use Rattle.lt_tree.specs.Typing.Rules.{Rule, least, broken_if, unless, bad_mark, bad_length, incomplete_type, declared_twice}
+use Rattle.lt_tree.specs.Typing.Rules.{Rule, broken_if, unless, bad_mark, bad_length, incomplete_type, declared_twice}
 use Rattle.lt_tree.specs.Typing.TypedTree as e
 use Rattle.lt_tree.specs.Typing.TypedTree.{before, after, letters}
 use Rattle.lt_tree.specs.Typing.Entities.{Known, Object, Function, Label, Fact, Frame, Tagged, a_struct, an_enum, an_enumerator, tag_here, tagged_in, meaning_of, bound_in, innermost, binding, an_object, no_names, literal, unmade, parameter}
-use Rattle.lt_tree.specs.Typing.Steps.{Outcome, Goes, Breaks, Walk, goes_on, settle, left, marked_again, gives, binds, adds_label, ◌>>◌}
-use Rattle.lt_tree.specs.Typing.Expressions.{Typed, Use, Judged, as_value, as_truth, as_place, as_callee, own_type, value_in, placed, judgement, finish}
-use Rattle.lt_tree.specs.Typing.Operations.{judge_name, judge_constant, judge_step, judge_size, judge_member, judge_arrow, judge_index, judge_call, judge_cast, judge_plus, judge_minus, judge_complement, judge_dereference, is_among, text_type}
-use Rattle.lt_tree.specs.Typing.BinaryOperations.{judge_binary, judge_logical, judge_conditional, judge_assignment, judge_comma}
-use Rattle.lt_tree.specs.Typing.MarkRules.{TypedBinding, names_of, is_new_id, is_new_name, are_new_names, is_good_id, id_of, number_of_id, is_good_mark, is_good_binding, is_good_decision, is_tag, label_of, judge_decide, inside_mark, inside_after, judge_after, judge_marked, is_lvalue_in_use, bindings_of}
+use Rattle.lt_tree.specs.Typing.Steps.{Outcome, Goes, goes_on, settle, left, marked_again, gives, binds, adds_label, ◌>>◌}
+use Rattle.lt_tree.specs.Typing.Expressions.{Typed, Use, as_value, as_truth, as_place, as_callee, own_type, value_in, placed, judgement, finish}
+use Rattle.lt_tree.specs.Typing.Operations.{judge_name, judge_constant, judge_size, judge_cast, judge_plus, judge_minus, judge_complement, judge_dereference, is_among, text_type}
+use Rattle.lt_tree.specs.Typing.BinaryOperations.{judge_logical, judge_comma}
+use Rattle.lt_tree.specs.Typing.MarkRules.{TypedBinding, names_of, is_new_id, is_new_name, are_new_names, is_good_id, id_of, number_of_id, is_good_mark, label_of, judge_decide, inside_mark, inside_after, judge_after, judge_marked, bindings_of}
 use Rattle.lt_tree.specs.Typing.Specifying.{Naming, struct_faults, Specified, is_register, Setting, elsewhere, is_alone, beside_words, struct_tagged, OpenStruct, open_new, open_tagged, open_struct, is_complete_struct, with_members, close_struct, open_enum, close_enum, enum_tagged, typedef_named, value_given, enumerator_faults}
-use Rattle.lt_tree.specs.Typing.Declarators.{Built, Declares, declares, Parameters, no_parameters_yet, array_of, length_or_none, all_faults, setting_in_sizeof, is_written, type_name_faults, parameter_faults, binds_parameter, parameter_before, member_faults, with_member, has_width}
-use Rattle.lt_tree.specs.Typing.NodeEnds.{text_object, text_at, judge_unary, operand_of, also, is_no_declarator, alone_faults, end_of_mark, end_of_enumerator, end_of_declarator, enter_if, without_parameters, with_dots, decision_labels}
+use Rattle.lt_tree.specs.Typing.Declarators.{Built, Declares, declares, no_parameters_yet, array_of, length_or_none, all_faults, setting_in_sizeof, is_written, type_name_faults, parameter_faults, binds_parameter, parameter_before, member_faults, with_member, has_width}
+use Rattle.lt_tree.specs.Typing.NodeEnds.{text_object, text_at, judge_unary, operand_of, also, is_no_declarator, alone_faults, end_of_mark, end_of_enumerator, end_of_declarator, enter_if, without_parameters}
 use Rattle.lt_tree.specs.Typing.ExpressionTyping.{expression, expressions, maybe, marks, mark, bindings, specifiers, type_specifiers, type_specifier, members, struct_member, member_declarators, enumerators, declarator, parts, parameters, parameter_list}
 use Rattle.lt_mark_typing.specs.Added.{AreSameObjects, AddsFunctions}
-use Rattle.lt_mark_typing.specs.Beside.{AddsLabels, no_labels, kept, added, is_used, IsBeside, Follows, goes, breaks}
+use Rattle.lt_mark_typing.specs.Beside.{AddsLabels, no_labels, kept, added, IsBeside, Follows, goes, breaks}
 use Rattle.lt_mark_typing.specs.Placed.{AreOld}
-use Rattle.lt_mark_typing.proofs.Going.{with_others, same_of, bind, entered_beside, settled, so}
+use Rattle.lt_mark_typing.proofs.Going.{with_others, same_of, bind, entered_beside, settled}
 use Rattle.lt_mark_typing.proofs.Knowing.{length_same, name_known, index_known, binary_known, conditional_known, assignment_known, call_known, member_known, arrow_known, step_known, size_known, cast_known}
 use Rattle.lt_mark_typing.proofs.Ends.{at_other, structs_same, finished_same}
 

@@ -1,5 +1,5 @@
 -- Units with marks added are typed again.
-use Rattle.std.proofs.Common.{◌≡◌, ℕ, ◌+◌, List, [], ◌∷◌, Option, Some, None, Bool, true, false, refl, sym, ap, ◌∙◌, subst}
+use Rattle.std.proofs.Common.{◌≡◌, ℕ, List, [], ◌∷◌, Option, Some, None, Bool, true, false, refl, sym, ap, ◌∙◌, subst}
 use Rattle.std.specs.Prelude.{◌++◌, ◌||◌, filter_map, unwrap_or}
 use Rattle.std.specs.List.{list_any}
 use Rattle.std.specs.Str.{bytes_eq}
@@ -8,23 +8,21 @@ use Rattle.lt_tree.specs.declared.specifier.Storage.{Storage}
 use Rattle.lt_tree.specs.declared.specifier.Storage.TheVariants as storage
 use Rattle.lt_tree.specs.Tree as c
 use Rattle.lt_tree.specs.Typing.Types.{CType}
-use Rattle.lt_tree.specs.Typing.Rules.{Rule, broken_if, function_disagrees}
+use Rattle.lt_tree.specs.Typing.Rules.{broken_if, function_disagrees}
 use Rattle.lt_tree.specs.Typing.TypedTree.{Items}
 use Rattle.lt_tree.specs.Typing.Entities.{Known, Frame, Function, a_function, bind_name, at_start}
-use Rattle.lt_tree.specs.Typing.Steps.{Outcome, Goes, Breaks, goes_on, left}
-use Rattle.lt_tree.specs.Typing.Operands.{holds}
+use Rattle.lt_tree.specs.Typing.Steps.{Outcome, Goes, Breaks, left}
 use Rattle.lt_tree.specs.Typing.Specifying.{elsewhere, is_class}
 use Rattle.lt_tree.specs.Typing.Declarators.{Built, Declares}
-use Rattle.lt_tree.specs.Typing.Declaring.{declaration_faults, definition_shape_faults, definition_faults, has_body_already, with_declared, declare_function}
-use Rattle.lt_tree.specs.Typing.StatementTyping.{items}
+use Rattle.lt_tree.specs.Typing.Declaring.{declaration_faults, definition_shape_faults, definition_faults, has_body_already, with_declared}
 use Rattle.lt_tree.specs.Typing.UnitTyping.{around_body, frame_of, objects_of, defines, external, externals, defined_in, answer, typing}
-use Rattle.lt_tree.specs.Typing.Programs.{Program, Typing, typed, broken, program_of}
-use Rattle.lt_mark_typing.specs.Added.{AddsItems, AddsFunction, AddsFunctions, AddsProgram}
+use Rattle.lt_tree.specs.Typing.Programs.{Program, typed, program_of}
+use Rattle.lt_mark_typing.specs.Added.{AddsItems, AddsFunctions, AddsProgram}
 use Rattle.lt_mark_typing.specs.Beside.{no_labels, IsBeside, Follows, goes, breaks}
 use Rattle.lt_mark_typing.specs.PlacedItems.{AddsToItems}
 use Rattle.lt_mark_typing.specs.PlacedUnits as p
 use Rattle.lt_mark_typing.specs.PlacedUnits.{in_body, AddsToExternal, AddsToUnit}
-use Rattle.lt_mark_typing.proofs.Going.{with_others, bind, bind_at, same_of, entered_beside}
+use Rattle.lt_mark_typing.proofs.Going.{bind, bind_at, entered_beside}
 use Rattle.lt_mark_typing.proofs.Unchanged.{Same, bind_same, judged_same, frames_beside, frames_same, of_specifiers, of_declarator}
 use Rattle.lt_mark_typing.proofs.Declared.{declaration_known, function_declared, of_declaration}
 use Rattle.lt_mark_typing.proofs.Again.{bind_same_at, bind_declares_at}
@@ -101,9 +99,12 @@ module _ {new : ℕ → Bool} where
 
   answered : {after : List ℕ} (unit marked : c.Unit) (o r : Outcome (Unit {0})) (program : Program) → Follows new after (Same {A = Unit {0}}) o r → answer unit o ≡ typed program
       → (other : Program) × (answer marked r ≡ typed other) × (program.types ≡ other.types → AddsProgram new program other)
-  answered unit marked (Goes u k) (Goes v j) program (goes r b) h =
-      (program_of marked j, refl, λ types. subst (λ (it : Program). it.types ≡ (program_of marked j).types → AddsProgram new it (program_of marked j)) (program_is h)
-      (λ types. record { model = sym (ap (λ (it : Known). it.model) b.same); structs = sym (ap (λ (it : Known). it.structs) b.same); objects = b.objects; types = types; functions = b.functions }) types)
+  answered unit marked (Goes u k) (Goes v j) program (goes r b) h = (
+    program_of marked j,
+    refl,
+    λ types. subst (λ (it : Program). it.types ≡ (program_of marked j).types → AddsProgram new it (program_of marked j)) (program_is h)
+        (λ types. record { model = sym (ap (λ (it : Known). it.model) b.same); structs = sym (ap (λ (it : Known). it.structs) b.same); objects = b.objects; types = types; functions = b.functions }) types,
+  )
     where
       program_is : typed (program_of unit k) ≡ typed program → program_of unit k ≡ program
       program_is h = cc

@@ -61,8 +61,8 @@ PredicatesAreMade =
     × (IsThere is_integer new used known it → IsThere is_integer new used known (c.Unary unary.Minus it))
     × ((op : Op) → IsThere is_integer new used known it → IsThere is_integer new used known other → IsThere is_integer new used known (c.Binary op it other))
     × (IsThere is_scalar new used known test → IsThere is_integer new used known it → IsThere is_integer new used known other
-        → IsThere is_integer new used known (c.Conditional test it other))
+    → IsThere is_integer new used known (c.Conditional test it other))
     × (IsThere is_integer new used known it → IsThere is_scalar new used known it)
     × ((name : List ℕ) (n : ℕ) (is_register : Bool) → meaning_of name known ≡ Some (an_object n is_register) → faults_of_any known.structs as_value (object_named known n is_register) ≡ []
-        → is_scalar (own_type (as_it_is_read (object_named known n is_register))) ≡ true → IsThere is_scalar new used known (c.Name name))
+    → is_scalar (own_type (as_it_is_read (object_named known n is_register))) ≡ true → IsThere is_scalar new used known (c.Name name))
     × ((text : List ℕ) (found : TypedConstant) → constant_of known.model text ≡ Some found → IsThere is_integer new used known (c.Constant text))

@@ -1,5 +1,5 @@
 -- Expressions with marks added, each where it may stand: predicates and conditions are those of the place, as the walk comes to it.
-use Rattle.std.specs.Prelude.{◌≡◌, ℕ, ◌+◌, not, ◌&&◌, Bool, true, false, List, [], ◌∷◌, Some, Option, is_some}
+use Rattle.std.specs.Prelude.{◌≡◌, ℕ, ◌+◌, not, ◌&&◌, Bool, true, false, List, [], ◌∷◌, Option, is_some}
 use Rattle.lt_model.specs.declared.operator.Op.{Op}
 use Rattle.lt_tree.specs.declared.expression.LogicalOp.{LogicalOp}
 use Rattle.lt_tree.specs.declared.expression.UnaryOp.{UnaryOp}
@@ -12,14 +12,13 @@ use Rattle.lt_tree.specs.Typing.Extents.{Structs, has_too_many_cells}
 use Rattle.lt_tree.specs.Typing.TypedTree.{Value, Marks as TypedMarks}
 use Rattle.lt_tree.specs.Typing.Entities.{Known, Fact}
 use Rattle.lt_tree.specs.Typing.Steps.{Goes}
-use Rattle.lt_tree.specs.Typing.Expressions.{a_value, Typed, Use, as_value, as_truth, as_place, as_callee, own_type, has_floating, has_pointer_to_function}
+use Rattle.lt_tree.specs.Typing.Expressions.{a_value, Typed, as_value, as_truth, as_place, as_callee, own_type, has_floating, has_pointer_to_function}
 use Rattle.lt_tree.specs.Typing.Operations.{counts_as_null}
 use Rattle.lt_tree.specs.Typing.MarkRules.{id_of, number_of_id, is_tag, inside_mark, inside_after}
-use Rattle.lt_tree.specs.Typing.NodeEnds.{operand_of}
 use Rattle.lt_tree.specs.Typing.Specifying.{Specified, elsewhere}
 use Rattle.lt_tree.specs.Typing.Declarators.{Built, Declares, type_name_faults}
 use Rattle.lt_tree.specs.Typing.Rules.{Rule}
-use Rattle.lt_tree.specs.Typing.ExpressionTyping.{expression, expressions, marks, specifiers, declarator}
+use Rattle.lt_tree.specs.Typing.ExpressionTyping.{expression, marks, specifiers, declarator}
 use Rattle.lt_mark_typing.specs.Added.{can_be_marked}
 use Rattle.lt_mark_typing.specs.Beside.{is_used, IsBeside, Position, in_use, in_test, use_of}
 
@@ -154,7 +153,7 @@ mutual
     Cast : {position : Position} {used after : List ℕ} {known : Known} {s : c.Specifiers} {t : c.Declarator} {d e : c.Expression}
         → AreOld new (in_specifiers s) → AreOld new (in_declarator t)
         → ((it : Specified) (next : Known) (type : Declares) (last : Known) → specifiers s elsewhere (entered known) ≡ Goes it next → declarator t it false any_type_name next ≡ Goes type last
-            → AddsTo new (in_use as_value) used after last d e)
+        → AddsTo new (in_use as_value) used after last d e)
         → AddsToParts new position used after known (c.Cast s t d) (c.Cast s t e)
     Binary : {position : Position} {used between after : List ℕ} {known : Known} {op : Op} {d i e j : c.Expression}
         → AddsTo new (in_use as_value) used between (entered known) d e
@@ -168,7 +167,7 @@ mutual
         → AddsTo new in_test used first (entered known) test other
         → ((x : Typed) (next : Known) → expression test as_truth (entered known) ≡ Goes x next → AddsTo new (in_use as_value) first second next d e)
         → ((x y : Typed) (next last : Known) → expression test as_truth (entered known) ≡ Goes x next → expression d as_value next ≡ Goes y last
-            → AddsTo new (in_use as_value) second after last i j)
+        → AddsTo new (in_use as_value) second after last i j)
         → AddsToParts new position used after known (c.Conditional test d i) (c.Conditional other e j)
     Assign : {position : Position} {used between after : List ℕ} {known : Known} {op : Option Op} {d i e j : c.Expression}
         → AddsTo new (in_use as_place) used between (entered known) d e

@@ -2,7 +2,7 @@
 use Rattle.std.specs.Prelude.{◌≡◌, ℕ, Bool, true, false, List, [], ◌∷◌, Option, Some, None}
 use Rattle.lt_tree.specs.declared.specifier.Storage.{Storage}
 use Rattle.lt_tree.specs.Tree as c
-use Rattle.lt_tree.specs.Nodes.{in_specifiers, in_declarator, in_initialiser, in_init_declarator, in_declaration}
+use Rattle.lt_tree.specs.Nodes.{in_specifiers, in_declarator, in_initialiser, in_init_declarator}
 use Rattle.lt_tree.specs.Typing.Types.{CType}
 use Rattle.lt_tree.specs.Typing.TypedTree.{Local}
 use Rattle.lt_tree.specs.Typing.Entities.{Known, automatic, type_of_object}
@@ -68,5 +68,5 @@ pub data AddsToDeclaration (new : ℕ → Bool) (effective : Option Storage → 
   a_declaration : {used after : List ℕ} {known : Known} {s : c.Specifiers} {ds es : List c.InitDeclarator}
       → AreOld new (in_specifiers s) → has_no_declarator es ≡ has_no_declarator ds
       → ((it : Specified) (next : Known) → specifiers s (if has_no_declarator ds then alone else elsewhere) known ≡ Goes it next
-          → AddsToDeclarators new used after (record it { storage = effective it.storage }) next ds es)
+      → AddsToDeclarators new used after (record it { storage = effective it.storage }) next ds es)
       → AddsToDeclaration new effective used after known (record { specifiers = s; declarators = ds }) (record { specifiers = s; declarators = es })

@@ -1,10 +1,10 @@
 -- Statements with marks added, each where it may stand.
-use Rattle.std.specs.Prelude.{◌≡◌, ℕ, Bool, true, false, List, [], ◌∷◌, Option, Some, None}
+use Rattle.std.specs.Prelude.{◌≡◌, ℕ, Bool, false, List, [], ◌∷◌, Option, Some, None}
 use Rattle.std.specs.List.{flat_map}
 use Rattle.lt_model.specs.declared.scalar.Scalar.{Scalar}
 use Rattle.lt_tree.specs.Tree as c
 use Rattle.lt_tree.specs.Nodes.{in_mark, in_label}
-use Rattle.lt_tree.specs.Typing.TypedTree.{Mark, Statement, Items, Cases}
+use Rattle.lt_tree.specs.Typing.TypedTree.{Mark, Statement}
 use Rattle.lt_tree.specs.Typing.Entities.{Known, no_names}
 use Rattle.lt_tree.specs.Typing.Steps.{Goes, in_block}
 use Rattle.lt_tree.specs.Typing.Expressions.{Typed, as_value, as_truth}
@@ -50,7 +50,7 @@ mutual
         → AddsTo new in_test used first (in_new_block (entered known)) test other
         → ((p : Typed) (next : Known) → expression test as_truth (in_new_block (entered known)) ≡ Goes p next → AddsToStatement new first second around (in_new_block next) x y)
         → ((p : Typed) (next : Known) (s : Statement) (last : Known) → expression test as_truth (in_new_block (entered known)) ≡ Goes p next → in_block (statement x around) next ≡ Goes s last
-            → AddsToStatement new second after around (in_new_block last) v w)
+        → AddsToStatement new second after around (in_new_block last) v w)
         → AddsToStatement new used after around known (c.IfElse test x v) (c.IfElse other y w)
     While : {used between after : List ℕ} {around : Around} {known : Known} {test other : c.Expression} {x y : c.Statement}
         → AddsTo new in_test used between (in_new_block (entered known)) test other
@@ -64,15 +64,15 @@ mutual
         → AddsToStart new used first (in_new_block (entered known)) start begin
         → ((i : TypedStart) (next : Known) → for_start start (in_new_block (entered known)) ≡ Goes i next → AddsToTest new first second next test other)
         → ((i : TypedStart) (p : Option Typed) (next last : Known) → for_start start (in_new_block (entered known)) ≡ Goes i next → optional_test test next ≡ Goes p last
-            → AddsToOptional new second third last step further)
+        → AddsToOptional new second third last step further)
         → ((i : TypedStart) (p q : Option Typed) (next last end : Known) → for_start start (in_new_block (entered known)) ≡ Goes i next → optional_test test next ≡ Goes p last
-            → optional_expression step last ≡ Goes q end → AddsToStatement new third after (in_a_loop around) (in_new_block end) x y)
+        → optional_expression step last ≡ Goes q end → AddsToStatement new third after (in_a_loop around) (in_new_block end) x y)
         → AddsToStatement new used after around known (c.For start test step x) (c.For begin other further y)
     -- of the operand of a `switch` the value counts
     Switch : {used between after : List ℕ} {around : Around} {known : Known} {it other : c.Expression} {cs ds : c.Cases}
         → AddsTo new (in_use as_truth) used between (in_new_block (entered known)) it other
         → ((x : Typed) (next : Known) → expression it as_truth (in_new_block (entered known)) ≡ Goes x next
-            → AddsToCases new between after (switch_type next.model x) (record { values = []; has_default = false }) (in_a_switch around) next cs ds)
+        → AddsToCases new between after (switch_type next.model x) (record { values = []; has_default = false }) (in_a_switch around) next cs ds)
         → AddsToStatement new used after around known (c.Switch it cs) (c.Switch other ds)
     Break : {used : List ℕ} {around : Around} {known : Known} → AddsToStatement new used used around known c.Break c.Break
     Continue : {used : List ℕ} {around : Around} {known : Known} → AddsToStatement new used used around known c.Continue c.Continue
@@ -105,5 +105,5 @@ mutual
         → AreOld new (flat_map in_label list)
         → ((it : Labelled) (next : Known) → labels list type seen known ≡ Goes it next → AddsToStatement new used between around (in_new_block next) x y)
         → ((it : Labelled) (s : Statement) (next last : Known) → labels list type seen known ≡ Goes it next → in_block (statement x around) next ≡ Goes s last
-            → AddsToCases new between after type it.seen around last cs ds)
+        → AddsToCases new between after type it.seen around last cs ds)
         → AddsToCases new used after type seen around known (c.a_case list x cs) (c.a_case list y ds)

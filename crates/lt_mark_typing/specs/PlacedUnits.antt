@@ -2,7 +2,6 @@
 use Rattle.std.specs.Prelude.{◌≡◌, ℕ, Bool, true, List, [], ◌∷◌, unwrap_or}
 use Rattle.lt_tree.specs.Tree as c
 use Rattle.lt_tree.specs.Nodes.{in_specifiers, in_declarator, in_declaration}
-use Rattle.lt_tree.specs.Typing.Types.{CType}
 use Rattle.lt_tree.specs.Typing.Entities.{Known, a_function, bind_name}
 use Rattle.lt_tree.specs.Typing.Steps.{Goes}
 use Rattle.lt_tree.specs.Typing.Specifying.{Specified, elsewhere}
@@ -23,7 +22,7 @@ pub data AddsToExternal (new : ℕ → Bool) : List ℕ → List ℕ → Known �
   Defines : {used after : List ℕ} {known : Known} {s : c.Specifiers} {d : c.Declarator} {is js : c.Items}
       → AreOld new (in_specifiers s) → AreOld new (in_declarator d)
       → ((it : Specified) (next : Known) (declared : Declares) (last : Known) → specifiers s elsewhere (entered known) ≡ Goes it next → declarator d it true (definition_faults it.storage) next ≡ Goes declared last
-          → AddsToItems new used after (around_body declared.type) (in_body declared last) is js)
+      → AddsToItems new used after (around_body declared.type) (in_body declared last) is js)
       → AddsToExternal new used after known (c.Defines s d is) (c.Defines s d js)
   Declared : {used : List ℕ} {known : Known} {d : c.Declaration} → AreOld new (in_declaration d) → AddsToExternal new used used known (c.Declared d) (c.Declared d)
 

@@ -11,4 +11,5 @@ returns c = λ new used known test it other. (
   chosen test it other,
   integer_there it,
   (λ name n is_register m h t. name_there is_scalar name n is_register m h t),
-  (λ text found m. constant_there text found m))
+  (λ text found m. constant_there text found m),
+)
