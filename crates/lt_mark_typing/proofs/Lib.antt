@@ -13,3 +13,4 @@ mod Initialisers
 mod Statements
 mod Units
 mod Predicates
+mod Quiet

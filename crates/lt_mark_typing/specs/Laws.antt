@@ -5,9 +5,11 @@ use Rattle.lt_model.specs.declared.operator.Op.{Op}
 use Rattle.lt_tree.specs.declared.expression.LogicalOp.{LogicalOp}
 use Rattle.lt_tree.specs.declared.expression.UnaryOp.TheVariants as unary
 use Rattle.lt_tree.specs.Tree as c
-use Rattle.lt_tree.specs.Typing.Types.{is_scalar, is_integer}
+use Rattle.lt_tree.specs.Typing.Types.{CType, is_scalar, is_integer}
+use Rattle.lt_tree.specs.Purity.{is_pure}
 use Rattle.lt_tree.specs.Nodes.{in_expression}
-use Rattle.lt_tree.specs.Typing.Entities.{Known, an_object, meaning_of, at_start}
+use Rattle.lt_tree.specs.Typing.Steps.{Goes}
+use Rattle.lt_tree.specs.Typing.Entities.{Known, Fact, an_object, meaning_of, at_start}
 use Rattle.lt_tree.specs.Typing.Expressions.{Typed, Use, as_value, own_type, as_it_is_read, faults_of_any}
 use Rattle.lt_tree.specs.Typing.Constants.{TypedConstant, constant_of}
 use Rattle.lt_tree.specs.Typing.Operations.{object_named}
@@ -66,3 +68,12 @@ PredicatesAreMade =
     × ((name : List ℕ) (n : ℕ) (is_register : Bool) → meaning_of name known ≡ Some (an_object n is_register) → faults_of_any known.structs as_value (object_named known n is_register) ≡ []
     → is_scalar (own_type (as_it_is_read (object_named known n is_register))) ≡ true → IsThere is_scalar new used known (c.Name name))
     × ((text : List ℕ) (found : TypedConstant) → constant_of known.model text ≡ Some found → IsThere is_integer new used known (c.Constant text))
+
+-- A pure expression of the text that declares nothing is a predicate where it stands, if it is a scalar: it is typed in the same way where labels are
+-- put in front of it.
+abbrev pub PureExpressionsAreThere : Type 0
+PureExpressionsAreThere =
+    (new : ℕ → Bool) (used : List ℕ) (known : Known) (test : CType → Bool) (it : c.Expression) (x : Typed) (next : ℕ) (facts : List Fact)
+    → is_pure it ≡ true → AreOld new (in_expression it)
+    → expression it as_value known ≡ Goes x (record known { next = next; facts = facts }) → test (own_type x) ≡ true
+    → IsThere test new used known it

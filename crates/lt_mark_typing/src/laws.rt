@@ -1,6 +1,6 @@
 //! Laws of the definitions; the functions do nothing.
 
-ghost use Rattle.lt_mark_typing.specs.Laws.{ExpressionsAreTypedAgain, OthersAreTypedAlike, PredicatesAreMade, StatementsAreTypedAgain, UnitsAreTypedAgain};
+ghost use Rattle.lt_mark_typing.specs.Laws.{ExpressionsAreTypedAgain, OthersAreTypedAlike, PredicatesAreMade, PureExpressionsAreThere, StatementsAreTypedAgain, UnitsAreTypedAgain};
 
 /// An expression with marks added, each where it may stand, is typed as the typed expression with these marks added.
 pub fn expressions_are_typed_again()
@@ -25,4 +25,9 @@ pub fn units_are_typed_again()
 /// What negations, `&&`, `||`, `-`, `?:` and operators on integers make of predicates is one.
 pub fn predicates_are_made()
     ensures { PredicatesAreMade }
+{}
+
+/// A pure expression that declares nothing is typed alike where labels are put in front of it.
+pub fn pure_expressions_are_there()
+    ensures { PureExpressionsAreThere }
 {}

@@ -5,5 +5,5 @@ mod laws;
 
 pub use laws::{
     expressions_are_typed_again, others_are_typed_alike, predicates_are_made,
-    statements_are_typed_again, units_are_typed_again,
+    pure_expressions_are_there, statements_are_typed_again, units_are_typed_again,
 };

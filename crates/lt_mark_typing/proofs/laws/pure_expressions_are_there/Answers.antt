@@ -1,0 +1,5 @@
+use Rattle.lt_mark_typing.proofs.Quiet.{pure_there}
+use Rattle.lt_mark_typing.proofs.laws.pure_expressions_are_there.Goals as goal
+
+pub returns : goal.returns
+returns c = λ new used known test it x next facts p h q t. pure_there test known it x next facts p h q t
