@@ -24,12 +24,12 @@ use Rattle.lt_tree.specs.Typing.NodeEnds.{judge_unary, operand_of, also, decisio
 use Rattle.lt_tree.specs.Typing.Specifying.{elsewhere}
 use Rattle.lt_tree.specs.Typing.Declarators.{Declares}
 use Rattle.lt_tree.specs.Typing.ExpressionTyping.{expression, expressions, marks}
-use Rattle.lt_mark_typing.specs.Added as a
-use Rattle.lt_mark_typing.specs.Added.{AreNew, Adds, can_be_marked, AddsMarks, Keeps, KeepsBound}
+use Rattle.lt_mark_laws.specs.Added as a
+use Rattle.lt_mark_laws.specs.Added.{AreNew, Adds, can_be_marked, AddsMarks, Keeps, KeepsBound}
 use Rattle.lt_mark_typing.specs.Beside.{IsBeside, AddsForm, values, AddsTyped, AddsTest, AddsEach, none_added, one_added, Position, in_use, in_test, use_of, AddsAt, Follows, goes, breaks}
 use Rattle.lt_mark_typing.specs.Placed as p
 use Rattle.lt_mark_typing.specs.Placed.{IsNewId, AreOld, AreNewLabels, takes_labels, IsMarkable, is_good_type, IsNoNull, position_of, behind_marks, any_type_name, joined, AddsTo, as_it_is, in_parts, in_front, around, AddsToParts, AddsToAll}
-use Rattle.lt_mark_typing.proofs.Itself.{itself}
+use Rattle.lt_mark_laws.proofs.Itself.{itself}
 use Rattle.lt_mark_typing.proofs.Going.{bind, bind_at, so, so_at, entered_beside}
 use Rattle.lt_mark_typing.proofs.Operands.{AddsMade, AddsJudged, made, typed_itself, test_of, type_same, value_adds, lvalue_same, valued_adds, as_read}
 use Rattle.lt_mark_typing.proofs.Knowing.{index_known, binary_known, conditional_known, assignment_known, call_known, member_known, arrow_known, step_known, cast_known}

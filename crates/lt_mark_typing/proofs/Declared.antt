@@ -22,7 +22,7 @@ use Rattle.lt_tree.specs.Typing.InitialiserTyping.{literal_alone, filled_by, fil
 use Rattle.lt_tree.specs.Typing.DeclarationTyping.{no_object, started_object, declare, init_declarator, init_declarators, has_no_declarator, declaration_by}
 use Rattle.lt_tree.specs.Typing.Declarators.{Built}
 use Rattle.lt_tree.specs.Typing.Declaring.{Kind, a_type_name, a_function_name, an_object_of, kind_of, is_compatible, agrees_with_object, is_linked_object, is_initialised, is_declared_twice, is_same_function, is_function_elsewhere, kind_faults, named_faults, declaration_faults, declare_function, new_object, object_for, declare_object, with_start, length_faults}
-use Rattle.lt_mark_typing.specs.Added.{AreSameObjects}
+use Rattle.lt_mark_laws.specs.Added.{AreSameObjects}
 use Rattle.lt_mark_typing.specs.Placed.{AreOld}
 use Rattle.lt_mark_typing.specs.Beside.{IsBeside, Follows, goes}
 use Rattle.lt_mark_typing.proofs.Going.{same_of, entered_beside}

@@ -6,7 +6,7 @@ use Rattle.lt_tree.specs.Typing.Extents.{Structs}
 use Rattle.lt_tree.specs.Typing.Entities.{Known, Object, Function, Label, Fact}
 use Rattle.lt_tree.specs.Typing.Steps.{Goes, goes_on, settle, notes, gives, ◌>>◌}
 use Rattle.lt_tree.specs.Typing.Expressions.{Typed, Use, Judged, used, fact_of, faults_of_any, finish}
-use Rattle.lt_mark_typing.specs.Added.{AreSameObjects, AddsFunctions}
+use Rattle.lt_mark_laws.specs.Added.{AreSameObjects, AddsFunctions}
 use Rattle.lt_mark_typing.specs.Beside.{AddsLabels, IsBeside, Position, in_use, in_test, AddsAt, Follows, goes}
 use Rattle.lt_mark_typing.specs.Placed.{IsNoNull}
 use Rattle.lt_mark_typing.proofs.Going.{with_others, same_of, settled}

@@ -3,7 +3,7 @@ use Rattle.std.proofs.Common.{◌≡◌, ℕ, ◌+◌, List, [], ◌∷◌, Bool
 use Rattle.lt_tree.specs.Typing.Rules.{Rule}
 use Rattle.lt_tree.specs.Typing.Entities.{Known, Object, Function, Label, Fact}
 use Rattle.lt_tree.specs.Typing.Steps.{Outcome, Goes, Breaks, goes_on, settle}
-use Rattle.lt_mark_typing.specs.Added.{AreSameObjects}
+use Rattle.lt_mark_laws.specs.Added.{AreSameObjects}
 use Rattle.lt_mark_typing.specs.Beside.{IsBeside, Follows, goes, breaks}
 
 -- what is known there, with these numbers, objects, functions, labels and facts

@@ -19,12 +19,12 @@ use Rattle.lt_tree.specs.Typing.Declaring.{an_object_of, kind_of, declaration_fa
 use Rattle.lt_tree.specs.Typing.Filling.{Run, Filling, behind_first, opened, is_character_array, is_struct_of, is_too_long_for, letters_of, value_faults, value_part, text_in, only_text, begins_with_braces, filling_of, list_faults, elements_begun}
 use Rattle.lt_tree.specs.Typing.InitialiserTyping.{literal_alone, filled_by, fill_value, value_initialiser, fill_text, initialiser_without_braces, filling_for, faults_of_list, behind_list, initialiser, initialisers, Started, with_length, started, whole_value, whole_without_braces, listed_length, end_of_list, object_initialiser}
 use Rattle.lt_tree.specs.Typing.DeclarationTyping.{DeclaredLocals, started_object, declare, init_declarators, has_no_declarator, declaration_by}
-use Rattle.lt_mark_typing.specs.Added.{AddsPart, AddsParts, AddsLocals}
+use Rattle.lt_mark_laws.specs.Added.{AddsPart, AddsParts, AddsLocals}
 use Rattle.lt_mark_typing.specs.Beside.{IsBeside, AddsTyped, Follows, goes, in_use}
 use Rattle.lt_mark_typing.specs.Placed.{AreOld, AddsTo, as_it_is}
 use Rattle.lt_mark_typing.specs.PlacedInitialisers as p
 use Rattle.lt_mark_typing.specs.PlacedInitialisers.{AddsToInitialiser, AddsToInitialisers, AddsToObject, AddsToStartOf, AddsToDeclarators, AddsToDeclaration}
-use Rattle.lt_mark_typing.proofs.Itself.{itself, local}
+use Rattle.lt_mark_laws.proofs.Itself.{itself, local}
 use Rattle.lt_mark_typing.proofs.Going.{bind, bind_at, entered_beside, same_of, settled}
 use Rattle.lt_mark_typing.proofs.Knowing.{type_same as object_type_same}
 use Rattle.lt_mark_typing.proofs.Operands.{made, type_same, value_adds, value_type, converted_adds}

@@ -13,7 +13,7 @@ use Rattle.lt_tree.specs.Typing.Operands.{holds, are_integers}
 use Rattle.lt_tree.specs.Typing.Expressions.{Form, a_value, a_place, a_designator, Typed, Use, Judged, judgement, nothing, own_type}
 use Rattle.lt_tree.specs.Typing.Operations.{judge_name, judge_step, judge_size, judge_member, judge_arrow, judge_index, judge_call, judge_function, judge_cast, object_size, lives_from_the_start}
 use Rattle.lt_tree.specs.Typing.BinaryOperations.{operand_faults, on_integers, on_pointers, judge_binary, judge_conditional, judge_assignment, judge_assign, judge_update}
-use Rattle.lt_mark_typing.specs.Added.{AreSameObjects}
+use Rattle.lt_mark_laws.specs.Added.{AreSameObjects}
 use Rattle.lt_mark_typing.specs.Beside.{IsBeside}
 use Rattle.lt_mark_typing.proofs.Going.{same_of}
 

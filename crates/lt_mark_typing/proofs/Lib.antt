@@ -1,4 +1,3 @@
-mod Itself
 mod Going
 mod Operands
 mod Knowing

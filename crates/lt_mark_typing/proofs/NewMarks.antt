@@ -16,7 +16,7 @@ use Rattle.lt_tree.specs.Typing.Expressions.{Typed, own_type, value_in, has_floa
 use Rattle.lt_tree.specs.Typing.MarkRules.{is_new_id, is_good_id, id_of, number_of_id, is_tag, is_good_mark, label_of}
 use Rattle.lt_tree.specs.Typing.NodeEnds.{end_of_mark}
 use Rattle.lt_tree.specs.Typing.ExpressionTyping.{marks, mark}
-use Rattle.lt_mark_typing.specs.Added.{AreNew}
+use Rattle.lt_mark_laws.specs.Added.{AreNew}
 use Rattle.lt_mark_typing.specs.Beside.{AddsLabels, no_labels, kept, added, is_used, IsBeside}
 use Rattle.lt_mark_typing.specs.Placed.{IsNewId, IsPredicateAt, AreNewLabels, is_good_type}
 use Rattle.lt_mark_typing.proofs.Going.{same_of}

@@ -7,10 +7,10 @@ use Rattle.lt_tree.specs.Typing.Extents.{Structs}
 use Rattle.lt_tree.specs.Typing.TypedTree as e
 use Rattle.lt_tree.specs.Typing.TypedTree.{Value, Place, type_of, type_at}
 use Rattle.lt_tree.specs.Typing.Expressions.{Form, a_value, a_place, a_designator, Typed, Use, as_value, as_truth, as_place, as_callee, valued, own_type, value_in, place_in, is_lvalue, is_lvalue_place, value_at, read, as_it_is_read, used, cast_to, how_to, converted_to, faults_of_any, Judged}
-use Rattle.lt_mark_typing.specs.Added as a
-use Rattle.lt_mark_typing.specs.Added.{Adds, AddsPlace, AddsTruth}
+use Rattle.lt_mark_laws.specs.Added as a
+use Rattle.lt_mark_laws.specs.Added.{Adds, AddsPlace, AddsTruth}
 use Rattle.lt_mark_typing.specs.Beside.{AddsForm, values, places, designators, IsAtMost, AddsTyped, AddsTest}
-use Rattle.lt_mark_typing.proofs.Itself.{itself}
+use Rattle.lt_mark_laws.proofs.Itself.{itself}
 
 -- an expression with marks added, of which nothing is said as a null pointer constant
 pub record AddsMade (new : ℕ → Bool) (x y : Typed) : Type 0 where

@@ -20,8 +20,8 @@ use Rattle.lt_tree.specs.Typing.Operands.{points_to, are_integers, are_structs_a
 use Rattle.lt_tree.specs.Typing.Expressions.{Form, Typed, varies, placed, nothing, own_type, value_in, place_in, is_lvalue, judgement, converted_to, constancy_to, constancy_as_number, scalar_in, has_floating, has_pointer_to_function}
 use Rattle.lt_tree.specs.Typing.Operations.{judge_plus, judge_minus, judge_complement, judge_not, judge_address_of, judge_dereference, judge_step, judge_member, judge_arrow, judge_part, judge_index, judge_call, judge_function, judge_cast, constant_address, target_in, member_in, pointer_among, other_among, element_size, object_size, fits, counts_as_null, all_fit, is_right_number, can_be_run, takes_or_gives, passed, promoted_argument, promoted_value}
 use Rattle.lt_tree.specs.Typing.NodeEnds.{judge_unary}
-use Rattle.lt_mark_typing.specs.Added as a
-use Rattle.lt_mark_typing.specs.Added.{Adds, AddsAll, AddsPlace, AddsTruth}
+use Rattle.lt_mark_laws.specs.Added as a
+use Rattle.lt_mark_laws.specs.Added.{Adds, AddsAll, AddsPlace, AddsTruth}
 use Rattle.lt_mark_typing.specs.Beside.{AddsForm, values, places, designators, IsAtMost, AddsTyped, AddsTest, AddsEach, none_added, one_added, AddsAt}
 use Rattle.lt_mark_typing.specs.Placed.{position_of}
 use Rattle.lt_mark_typing.proofs.Knowing.{call_of}

@@ -16,8 +16,8 @@ use Rattle.lt_tree.specs.Typing.Expressions.{Typed, as_value, own_type, value_in
 use Rattle.lt_tree.specs.Typing.Operations.{fits}
 use Rattle.lt_tree.specs.Typing.MarkRules.{number_of_id}
 use Rattle.lt_tree.specs.Typing.StatementTyping.{Around, in_a_switch, test_faults, optional_test_faults, optional_expression, optional_test, optional_value, TypedStart, for_start, switch_type, switch_value, Seen, case_value, is_new_case, with_case, end_of_case, labels, return_faults, returned, locals_before, statement, items, cases}
-use Rattle.lt_mark_typing.specs.Added as a
-use Rattle.lt_mark_typing.specs.Added.{Adds, AddsTruth, AddsLocals, AddsOptional, AddsForStart, AddsStatement, AddsItems, AddsCases}
+use Rattle.lt_mark_laws.specs.Added as a
+use Rattle.lt_mark_laws.specs.Added.{Adds, AddsTruth, AddsLocals, AddsOptional, AddsForStart, AddsStatement, AddsItems, AddsCases}
 use Rattle.lt_mark_typing.specs.Beside.{IsBeside, AddsTyped, AddsTest, Follows, goes}
 use Rattle.lt_mark_typing.specs.Placed.{AreOld}
 use Rattle.lt_mark_typing.specs.PlacedItems as p

@@ -25,7 +25,7 @@ use Rattle.lt_tree.specs.Typing.Specifying.{Naming, struct_faults, Specified, is
 use Rattle.lt_tree.specs.Typing.Declarators.{Built, Declares, declares, no_parameters_yet, array_of, length_or_none, all_faults, setting_in_sizeof, is_written, type_name_faults, parameter_faults, binds_parameter, parameter_before, member_faults, with_member, has_width}
 use Rattle.lt_tree.specs.Typing.NodeEnds.{text_object, text_at, judge_unary, operand_of, also, is_no_declarator, alone_faults, end_of_mark, end_of_enumerator, end_of_declarator, enter_if, without_parameters}
 use Rattle.lt_tree.specs.Typing.ExpressionTyping.{expression, expressions, maybe, marks, mark, bindings, specifiers, type_specifiers, type_specifier, members, struct_member, member_declarators, enumerators, declarator, parts, parameters, parameter_list}
-use Rattle.lt_mark_typing.specs.Added.{AreSameObjects, AddsFunctions}
+use Rattle.lt_mark_laws.specs.Added.{AreSameObjects, AddsFunctions}
 use Rattle.lt_mark_typing.specs.Beside.{AddsLabels, no_labels, kept, added, IsBeside, Follows, goes, breaks}
 use Rattle.lt_mark_typing.specs.Placed.{AreOld}
 use Rattle.lt_mark_typing.proofs.Going.{with_others, same_of, bind, entered_beside, settled}

@@ -17,7 +17,7 @@ use Rattle.lt_tree.specs.Typing.Declarators.{Built, Declares}
 use Rattle.lt_tree.specs.Typing.Declaring.{declaration_faults, definition_shape_faults, definition_faults, has_body_already, with_declared}
 use Rattle.lt_tree.specs.Typing.UnitTyping.{around_body, frame_of, objects_of, defines, external, externals, defined_in, answer, typing}
 use Rattle.lt_tree.specs.Typing.Programs.{Program, typed, program_of}
-use Rattle.lt_mark_typing.specs.Added.{AddsItems, AddsFunctions, AddsProgram}
+use Rattle.lt_mark_laws.specs.Added.{AddsItems, AddsFunctions, AddsProgram}
 use Rattle.lt_mark_typing.specs.Beside.{no_labels, IsBeside, Follows, goes, breaks}
 use Rattle.lt_mark_typing.specs.PlacedItems.{AddsToItems}
 use Rattle.lt_mark_typing.specs.PlacedUnits as p

@@ -11,7 +11,7 @@ use Rattle.lt_tree.specs.Typing.Entities.{Known, Label}
 use Rattle.lt_tree.specs.Typing.Steps.{Outcome, Goes, Breaks}
 use Rattle.lt_tree.specs.Typing.Expressions.{Form, a_value, a_place, a_designator, Typed, Use, as_truth, own_type, value_in}
 use Rattle.lt_tree.specs.Typing.Operations.{counts_as_null}
-use Rattle.lt_mark_typing.specs.Added.{Adds, AddsTruth, AddsPlace, AddsFunctions, AreSameObjects}
+use Rattle.lt_mark_laws.specs.Added.{Adds, AddsTruth, AddsPlace, AddsFunctions, AreSameObjects}
 
 -- ---- what is known
 

@@ -17,7 +17,7 @@ use Rattle.lt_tree.specs.Typing.ExpressionTyping.{expression}
 use Rattle.lt_tree.specs.Typing.StatementTyping.{Around, statement, items}
 use Rattle.lt_tree.specs.Typing.UnitTyping.{defined_in, IsProgramOf}
 use Rattle.lt_tree.specs.Typing.Programs.{Program}
-use Rattle.lt_mark_typing.specs.Added.{AddsStatement, AddsItems, AddsProgram}
+use Rattle.lt_mark_laws.specs.Added.{AddsStatement, AddsItems, AddsProgram}
 use Rattle.lt_mark_typing.specs.Beside.{IsBeside, Position, use_of, AddsAt, Follows}
 use Rattle.lt_mark_typing.specs.Placed.{AreOld, IsThere, AddsTo}
 use Rattle.lt_mark_typing.specs.PlacedItems.{AddsToStatement, AddsToItems}

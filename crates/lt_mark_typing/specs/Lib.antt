@@ -1,4 +1,3 @@
-pub mod Added
 pub mod Beside
 pub mod Placed
 pub mod PlacedInitialisers

@@ -19,7 +19,7 @@ use Rattle.lt_tree.specs.Typing.Specifying.{Specified, elsewhere}
 use Rattle.lt_tree.specs.Typing.Declarators.{Built, Declares, type_name_faults}
 use Rattle.lt_tree.specs.Typing.Rules.{Rule}
 use Rattle.lt_tree.specs.Typing.ExpressionTyping.{expression, marks, specifiers, declarator}
-use Rattle.lt_mark_typing.specs.Added.{can_be_marked}
+use Rattle.lt_mark_laws.specs.Added.{can_be_marked}
 use Rattle.lt_mark_typing.specs.Beside.{is_used, IsBeside, Position, in_use, in_test, use_of}
 
 -- ---- marks that the text has
