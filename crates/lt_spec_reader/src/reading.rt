@@ -7,13 +7,14 @@ ghost use Rattle.lt_entry.specs.Naming.{parameters_of};
 ghost use Rattle.lt_entry.specs.SpecificationLines.{entry_line};
 ghost use Rattle.lt_entry.specs.Conditions.{default_blocks, entry_named};
 ghost use Rattle.lt_entry.specs.Specifications.{line_number};
-ghost use Rattle.lt_entry.specs.LineViews.{row_view};
+ghost use Rattle.lt_entry.specs.LineViews.{row_view, line_view};
 ghost use Rattle.lt_input_names.specs.Blocks.{program_types, block_of};
 ghost use Rattle.lt_input_names.specs.Kinds.{AreKinds};
 ghost use Rattle.lt_input_specs.specs.Defaults.{root_of};
 ghost use Rattle.lt_spec_reader.specs.Answers.{AnswersRows};
 ghost use Rattle.lt_spec_reader.specs.Fronts.{AreFirst};
 ghost use Rattle.lt_spec_reader.specs.Reading.{IsSpecificationAnswer};
+ghost use Rattle.lt_spec_reader.specs.States.{AreRead, IsBehind, IsReady};
 
 use crate::entry::{Entry, entry_of};
 use crate::faults::{first_bad, free_cells};
@@ -21,6 +22,7 @@ use crate::lines::lines_of;
 use crate::pointed::without_points;
 use crate::said::said;
 use crate::start::start;
+use crate::state::State;
 use crate::stops::NoSpecification;
 use lt_entry::{Line, Row, count_of_lines, rows_of};
 use lt_input_names::{Block, Kinds, Specification};
@@ -42,6 +44,55 @@ fn no_line(alloc: Global, text: &[u8]) -> Result<NoSpecification, AllocError>
     Ok(bad_line((count_of_lines(alloc, text)? as u64).saturating_add(1)))
 }
 
+// The answer of a file of an entry, where these lines of it fit, and this is the state behind them.
+fn judged<'p>(
+    alloc: Global,
+    kinds: &Kinds<'p>,
+    objects: &[&'p Object],
+    blocks: &'p [Block],
+    rows: &[Row<'p>],
+    entry: usize,
+    state: &State<'p>,
+    lines: &[Line<'p>],
+) -> Result<Specification, NoSpecification>
+    requires kinds { AreKinds kinds.now }
+    requires ready { IsReady state.now }
+    ensures { AreRead kinds.now.program.now (map row_view rows.now) entry (map line_view lines.now) state.now → map (λ object. root_of kinds.now.program.now object.now) objects.now ≡ parameters_of (program_of kinds.now.program.now) entry → map (block_of (program_types kinds.now.program.now)) blocks.now ≡ default_blocks (program_of kinds.now.program.now) (map row_view rows.now) entry → AnswersRows kinds.now.program.now (map row_view rows.now) result }
+{
+    let free = free_cells(alloc, state, objects, blocks, rows)?;
+    match first_bad(alloc, state, &free, rows, lines)? {
+        Some(number) => Err(bad_line(number)),
+        None => Ok(said(alloc, kinds, entry, objects, blocks, state, lines)?),
+    }
+}
+
+// The answer of a file whose first row names this entry, where this is the state behind that row.
+fn read_behind<'p>(
+    alloc: Global,
+    kinds: &Kinds<'p>,
+    objects: &[&'p Object],
+    blocks: &'p [Block],
+    rows: &[Row<'p>],
+    entry: Entry<'p>,
+    state: &mut State<'p>,
+) -> Result<Specification, NoSpecification>
+    requires kinds { AreKinds kinds.now }
+    requires ready { IsReady state.old }
+    ensures { AreFirst (program_of kinds.now.program.now) (map row_view rows.now) (entry_line entry.entry.name.now ∷ []) → IsBehind kinds.now.program.now (map row_view rows.now) entry.entry.number (entry_line entry.entry.name.now ∷ []) state.old → map (λ object. root_of kinds.now.program.now object.now) objects.now ≡ parameters_of (program_of kinds.now.program.now) entry.entry.number → map (block_of (program_types kinds.now.program.now)) blocks.now ≡ default_blocks (program_of kinds.now.program.now) (map row_view rows.now) entry.entry.number → AnswersRows kinds.now.program.now (map row_view rows.now) result }
+{
+    let lines = lines_of(alloc, state, Line::Entry(entry.name), rows)?;
+    judged(
+        alloc,
+        kinds,
+        objects,
+        blocks,
+        rows,
+        entry.number,
+        state,
+        lines.as_slice(),
+    )
+}
+
 // The answer of a file whose first row names this entry, where these are its parameters and their default blocks.
 fn read_rows<'p>(
     alloc: Global,
@@ -55,20 +106,7 @@ fn read_rows<'p>(
     ensures { AreFirst (program_of kinds.now.program.now) (map row_view rows.now) (entry_line entry.entry.name.now ∷ []) → entry_named (program_of kinds.now.program.now) entry.entry.name.now ≡ Some entry.entry.number → map (λ object. root_of kinds.now.program.now object.now) objects.now ≡ parameters_of (program_of kinds.now.program.now) entry.entry.number → map (block_of (program_types kinds.now.program.now)) blocks.now ≡ default_blocks (program_of kinds.now.program.now) (map row_view rows.now) entry.entry.number → AnswersRows kinds.now.program.now (map row_view rows.now) result }
 {
     let mut state = start(alloc, kinds.program, entry.number, blocks)?;
-    let lines = lines_of(alloc, &mut state, Line::Entry(entry.name), rows)?;
-    let free = free_cells(alloc, &state, objects, blocks, rows)?;
-    match first_bad(alloc, &state, &free, rows, lines.as_slice())? {
-        Some(number) => Err(bad_line(number)),
-        None => Ok(said(
-            alloc,
-            kinds,
-            entry.number,
-            objects,
-            blocks,
-            &state,
-            lines.as_slice(),
-        )?),
-    }
+    read_behind(alloc, kinds, objects, blocks, rows, entry, &mut state)
 }
 
 // The same, where what is lent is lent for different times.
