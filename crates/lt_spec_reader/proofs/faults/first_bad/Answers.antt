@@ -1,4 +1,4 @@
-use Rattle.std.proofs.Common.{length, map, sym, ap, ◌∙◌}
+use Rattle.std.proofs.Common.{length, map, sym, ◌∙◌}
 use Rattle.lt_entry.specs.LineViews.{row_view, line_view}
 use Rattle.lt_spec_reader.proofs.FaultLaws.{fault_unfree, fault_behind, number_mapped, mapped_length}
 use Rattle.lt_spec_reader.proofs.faults.first_bad.Goals as goal

@@ -1,8 +1,7 @@
-use Rattle.std.proofs.Common.{◌≡◌, ◌≤◌, ◌+◌, ◌∷◌, ◌++◌, [], List, length, map, sym, ap, ◌∙◌, subst, arith}
+use Rattle.std.proofs.Common.{◌≤◌, ◌+◌, ◌∷◌, [], length, map, sym, ap, ◌∙◌, subst, arith}
 use Rattle.std.specs.Prelude.{option_map}
 use Rattle.std.proofs.lemmas.List.{map-append}
 use Rattle.lt_tree.specs.Typing.ProgramView.{program_of}
-use Rattle.lt_entry.specs.declared.specification_line.Line as memory
 use Rattle.lt_entry.specs.LineViews.{row_view, line_view}
 use Rattle.lt_spec_reader.specs.Fronts.{IsNext, AreFirst}
 use Rattle.lt_spec_reader.specs.States.{IsBehind, GoesAlong}

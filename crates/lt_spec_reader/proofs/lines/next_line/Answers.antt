@@ -1,6 +1,5 @@
-use Rattle.std.proofs.Common.{◌≡◌, true, false, Bor, List, ℕ, Some, None, map, sym, ap, ◌∙◌, rules}
+use Rattle.std.proofs.Common.{◌≡◌, true, false, Bor, List, ℕ, map, sym, ap, ◌∙◌, rules}
 use Rattle.std.specs.Prelude.{option_map}
-use Rattle.lt_tree.specs.Typing.ProgramView.{program_of}
 use Rattle.lt_entry.specs.LineViews.{row_view, line_view}
 use Rattle.lt_entry.specs.ReadingLines.{read_line}
 use Rattle.lt_spec_reader.proofs.StateLaws.{next_unread, next_unfit, next_fits}

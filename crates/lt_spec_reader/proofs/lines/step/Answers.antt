@@ -1,4 +1,4 @@
-use Rattle.std.proofs.Common.{◌≡◌, Bor, List, ℕ, map, refl, sym, subst}
+use Rattle.std.proofs.Common.{Bor, List, ℕ, map, refl, sym, subst}
 use Rattle.lt_entry.specs.Views.{numeral_view}
 use Rattle.lt_entry.specs.LineViews.{line_view, range_view, points_view, require_view}
 use Rattle.lt_spec_reader.specs.declared.state.State.{State}

@@ -1,4 +1,3 @@
-use Rattle.std.proofs.Common.{ℕ, List, refl}
 use Rattle.std.specs.Str.{bytes_eq}
 use Rattle.lt_input_names.specs.declared.block.Block.{Block}
 use Rattle.lt_input_names.specs.Stubs.{has_name}

@@ -1,9 +1,9 @@
-use Rattle.std.proofs.Common.{◌≡◌, ◌≤◌, ℕ, List, [], length, get_or, refl, arith}
+use Rattle.std.proofs.Common.{[], get_or, refl}
 use Rattle.std.specs.Str.{bytes_eq}
 use Rattle.lt_input_names.specs.declared.block.Base.TheVariants as base
 use Rattle.lt_input_names.specs.declared.block.LineBlock.{LineBlock}
 use Rattle.lt_input_names.specs.Stubs.{has_name}
-use Rattle.lt_spec_reader.proofs.Loops.{any_more, any_done, item_is}
+use Rattle.lt_spec_reader.proofs.Loops.{any_more, item_is}
 use Rattle.lt_spec_reader.proofs.MapLaws.{name_more}
 use Rattle.lt_spec_reader.proofs.own.put_line_blocks.Goals as goal
 

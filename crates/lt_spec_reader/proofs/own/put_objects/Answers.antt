@@ -1,4 +1,3 @@
-use Rattle.std.proofs.Common.{ℕ, List, refl}
 use Rattle.std.specs.Str.{bytes_eq}
 use Rattle.std.specs.Borrow.{Bor}
 use Rattle.lt_tree.specs.declared.typed.entity.Object.{Object}

@@ -1,7 +1,6 @@
-use Rattle.std.proofs.Common.{◌≡◌, ◌≤◌, List, length, map, ap, sym, ◌∙◌, arith}
+use Rattle.std.proofs.Common.{◌≤◌, List, length, map, ap, ◌∙◌, arith}
 use Rattle.std.specs.Prelude.{Option, Some, None, if◌then◌else◌}
 use Rattle.lt_model.specs.declared.input.Place.{Place}
-use Rattle.lt_model.specs.declared.input.Want.{Want}
 use Rattle.lt_model.specs.declared.input.Want.TheVariants as want
 use Rattle.lt_tree.specs.Typing.Entities.{or_else}
 use Rattle.lt_entry.specs.Conditions.{same_place}

@@ -1,10 +1,9 @@
-use Rattle.std.proofs.Common.{◌≡◌, List, map, sym, ap, ◌∙◌}
-use Rattle.std.specs.Prelude.{◌||◌, OnOk}
+use Rattle.std.proofs.Common.{sym, ap, ◌∙◌}
+use Rattle.std.specs.Prelude.{◌||◌}
 use Rattle.std.specs.List.{list_any}
 use Rattle.lt_entry.specs.Conditions.{same_place}
 use Rattle.lt_entry.specs.Views.{place_view}
 use Rattle.lt_input_names.specs.declared.part.Part.{Part}
-use Rattle.lt_input_names.specs.Views.{scope_of}
 use Rattle.lt_spec_reader.specs.Frees.{has_place}
 use Rattle.lt_spec_reader.proofs.MapLaws.{at}
 use Rattle.lt_spec_reader.proofs.SaidLaws.{any_at}

@@ -1,5 +1,4 @@
-use Rattle.std.proofs.Common.{◌≡◌, ◌≤◌, length, map, take, sym, ap, ◌∙◌, arith}
-use Rattle.std.specs.List.{list_any}
+use Rattle.std.proofs.Common.{◌≤◌, length, arith}
 use Rattle.lt_entry.specs.Lines.{Row}
 use Rattle.lt_entry.specs.Conditions.{is_ranged_by}
 use Rattle.lt_entry.specs.LineViews.{row_view}

@@ -1,4 +1,4 @@
-use Rattle.std.proofs.Common.{◌≡◌, false, map, take}
+use Rattle.std.proofs.Common.{◌≡◌, map, take}
 use Rattle.std.specs.List.{list_any}
 use Rattle.lt_model.specs.declared.input.Place.{Place}
 use Rattle.lt_entry.specs.Conditions.{is_ranged_by}

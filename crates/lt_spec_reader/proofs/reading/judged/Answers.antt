@@ -1,4 +1,4 @@
-use Rattle.std.proofs.Common.{◌≡◌, Some, None, map, subst}
+use Rattle.std.proofs.Common.{map, subst}
 use Rattle.lt_entry.specs.LineViews.{row_view, line_view}
 use Rattle.lt_spec_reader.specs.Answers.{IsFault}
 use Rattle.lt_spec_reader.proofs.FaultLaws.{answer_bad, answer_said}

@@ -1,4 +1,4 @@
-use Rattle.std.proofs.Common.{◌≡◌, map, sym, subst}
+use Rattle.std.proofs.Common.{map, sym, subst}
 use Rattle.lt_entry.specs.LineViews.{row_view, line_view}
 use Rattle.lt_spec_reader.specs.States.{AreRead}
 use Rattle.lt_spec_reader.proofs.reading.read_behind.Goals as goal

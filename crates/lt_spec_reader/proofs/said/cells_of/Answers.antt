@@ -1,7 +1,6 @@
 use Rattle.std.proofs.Common.{◌≡◌, ◌∙◌, ◌++◌, Bor, map, sym, ap, subst}
 use Rattle.std.specs.Prelude.{flat_map}
 use Rattle.lt_tree.specs.declared.typed.entity.Object.{Object}
-use Rattle.lt_tree.specs.declared.typed.program.Program as typed
 use Rattle.lt_tree.specs.Typing.ProgramView.{program_of}
 use Rattle.lt_entry.specs.Naming.{block_root}
 use Rattle.lt_entry.specs.Meaning.{free_cells, freed_unless_hidden, only_null}

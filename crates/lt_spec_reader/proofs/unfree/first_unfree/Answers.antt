@@ -1,5 +1,4 @@
 use Rattle.std.proofs.Common.{◌≡◌, ◌≤◌, true, false, length, sym, ◌∙◌, arith, rules}
-use Rattle.lt_entry.specs.Specifications.{unfree_rows}
 use Rattle.lt_entry.specs.LineViews.{row_view, line_view}
 use Rattle.lt_input_names.specs.Views.{scope_of}
 use Rattle.lt_spec_reader.proofs.UnfreeLaws.{free_more, free_stops, free_ends}
