@@ -1,3 +1,5 @@
 mod TableFronts
 mod OneText
+mod Members
 mod OneMerge
+mod Grouped

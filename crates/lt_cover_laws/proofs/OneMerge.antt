@@ -1,5 +1,5 @@
 -- Two tables have a merge, or one least label, hyperlabel or test on which they don't agree.
-use Rattle.std.proofs.Common.{◌≡◌, ℕ, suc, zero, ◌<◌, List, [], ◌∷◌, map, refl, sym, ap, ◌∙◌, arith, inl, inr}
+use Rattle.std.proofs.Common.{◌≡◌, ℕ, ◌<◌, List, [], ◌∷◌, map, refl, sym, ap, ◌∙◌, arith, inl, inr}
 use Rattle.std.specs.Prelude.{Contains, ◌⊎◌}
 use Rattle.std.specs.Ordering.{nat_cmp, ordering_index, ordering_reverse}
 use Rattle.std.specs.Cmp.Lexicographic.{slice_cmp}
@@ -7,9 +7,7 @@ use Rattle.std.specs.declared.cmp.Ordering.{Ordering}
 use Rattle.std.specs.declared.cmp.Ordering.TheVariants.{Less, Equal, Greater}
 use Rattle.std.proofs.lemmas.Bool.{cases_lt}
 use Rattle.std.proofs.lemmas.Cmp.{nat_list_cmp_total, tied_itself}
-use Rattle.std.proofs.lemmas.List.{length-map}
 use Rattle.std.proofs.lemmas.List.Elements.{All-contains}
-use Rattle.std.proofs.Math.ListN.{get_or-map}
 use Rattle.lt_cover.specs.declared.rows.TestRow.{TestRow}
 use Rattle.lt_cover.specs.declared.rows.LabelRow.{LabelRow}
 use Rattle.lt_cover.specs.declared.rows.HyperRow.{HyperRow}
@@ -18,6 +16,7 @@ use Rattle.lt_cover.specs.Coverage.Merge.{EachMerged, IsMerge, IsMergedHyper, Is
 use Rattle.lt_cover.proofs.Drafts.{same_name}
 use Rattle.lt_cover.proofs.Rising.{rise_head, rise_tail}
 use Rattle.lt_cover_laws.specs.Laws.{MergesAreOne}
+use Rattle.lt_cover_laws.proofs.Members.{first_or_behind, mapped}
 
 abbrev Keys : Type 0
 Keys = List (ℕ × List ℕ)
@@ -71,20 +70,16 @@ same_hyper x y z h = λ i. ((sym h.left.0 ∙ h.right.0) i, (sym h.left.1 ∙ h.
 keys_alike : (a b m : Table) → IsMerge a b m → (label_keys a.labels ≡ label_keys b.labels) × (hyper_keys a.hypers ≡ hyper_keys b.hypers)
 keys_alike a b m h = (each_alike IsMergedLabel label_key same_label a.labels b.labels m.labels h.labels, each_alike IsMergedHyper hyper_key same_hyper a.hypers b.hypers m.hypers h.hypers)
 
-first_or_behind : (x : TestRow) (tests : List TestRow) (z : TestRow) → Contains (x ∷ tests) z → (x ≡ z) ⊎ Contains tests z
-first_or_behind x tests z (zero, within, is) = inl is
-first_or_behind x tests z (suc i, within, is) = inr (i, omega (arith, within), is)
-
 -- no test behind the first has its name
 not_again : (x : TestRow) (tests : List TestRow) (z : TestRow) → NamesRise (names_of (x ∷ tests)) → Contains tests z → x.name ≡ z.name → ⊥
 not_again x tests z h k same =
-    let named : Contains (names_of tests) z.name = (k.0, omega (arith, k.1, length-map tests (λ (t : TestRow). t.name)), get_or-map (λ (t : TestRow). t.name) tests k.0 z ∙ ap (λ (t : TestRow). t.name) k.2) in
+    let named : Contains (names_of tests) z.name = mapped (λ (t : TestRow). t.name) tests z k in
     let less : slice_cmp nat_cmp x.name z.name ≡ Less = All-contains (λ n. slice_cmp nat_cmp x.name n ≡ Less) (names_of tests) z.name (rise_head (slice_cmp nat_cmp) x.name (names_of tests) h) named in
     let tied : slice_cmp nat_cmp x.name z.name ≡ Equal = ap (slice_cmp nat_cmp x.name) (sym same) ∙ tied_itself nat_list_cmp_total x.name in
     absurd (omega (arith, ap ordering_index less, ap ordering_index tied))
 
 -- tests of one name are one
-test_is_one : (tests : List TestRow) (u v : TestRow) → NamesRise (names_of tests) → Contains tests u → Contains tests v → u.name ≡ v.name → u ≡ v
+pub test_is_one : (tests : List TestRow) (u v : TestRow) → NamesRise (names_of tests) → Contains tests u → Contains tests v → u.name ≡ v.name → u ≡ v
 test_is_one [] u v h i j e = absurd (omega (arith, i.1))
 test_is_one (x ∷ tests) u v h i j e = by (test_is_one tests u v (rise_tail (slice_cmp nat_cmp) x.name (names_of tests) h)) (first_or_behind x tests u i) (first_or_behind x tests v j)
   where

@@ -1,6 +1,6 @@
 -- What holds of the definitions of coverage files.
 use Rattle.std.specs.Prelude.{◌≡◌, ℕ, List}
-use Rattle.lt_cover.specs.Coverage.Table.{Table}
+use Rattle.lt_cover.specs.Coverage.Table.{Table, IsOrdered}
 use Rattle.lt_cover.specs.Coverage.Text.{IsCoverText, BreaksAt}
 use Rattle.lt_cover.specs.Coverage.Merge.{IsMerge, IsLeastMixed, IsLeastDiffering, label_keys, hyper_keys}
 
@@ -23,3 +23,8 @@ pub record MergeIsOne (a b : Table) : Type 0 where
 
 abbrev pub MergesAreOne : Type 0
 MergesAreOne = (a b : Table) → MergeIsOne a b
+
+-- Where the first and the second table have a merge, and this has one with the third, the second and the third have a merge, too, and the first
+-- has the same one with it. The second and the third stand in order: a label of one that doesn't could be covered by a test of the first alone.
+abbrev pub MergesAreThereHoweverGrouped : Type 0
+MergesAreThereHoweverGrouped = (a b c m x : Table) → IsOrdered b → IsOrdered c → IsMerge a b m → IsMerge m c x → (n : Table) × IsMerge b c n × IsMerge a n x

@@ -3,4 +3,4 @@
 
 mod laws;
 
-pub use laws::{merges_are_one, texts_stand_for_one_table};
+pub use laws::{merges_are_one, merges_are_there_however_grouped, texts_stand_for_one_table};
