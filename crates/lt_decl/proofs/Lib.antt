@@ -19,3 +19,4 @@ pub mod SoundDeclarations
 pub mod SoundMarked
 pub mod SoundStatements
 pub mod SoundUnits
+pub mod Places

@@ -14,4 +14,4 @@ mod statement;
 mod walk;
 
 pub use laws::{at_most_one_unit, unit_derived_is_read, unit_read_is_derived};
-pub use parse::{Parsed, parse_unit};
+pub use parse::{Parsed, parse_into_unit, parse_unit};

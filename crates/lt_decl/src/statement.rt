@@ -191,6 +191,7 @@ fn cases(parser: &mut Parser, mut depth: usize, operand: &Expr) -> Result<Vec<Sw
         if parser.sees(Terminal::CloseBrace) {
             parser.advance();
             parser.close_list(around);
+            cases.shrink_to_fit();
             return Ok(cases);
         }
         let one = case(parser, depth)?;
@@ -225,6 +226,7 @@ pub(crate) fn items(parser: &mut Parser, mut depth: usize) -> Result<Vec<Item>, 
         if parser.sees(Terminal::CloseBrace) {
             parser.advance();
             parser.close_list(around);
+            items.shrink_to_fit();
             return Ok(items);
         }
         let one = item(parser, depth)?;

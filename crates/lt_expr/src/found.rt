@@ -102,7 +102,11 @@ pub(crate) fn gathered(alloc: Global, found: Specifiers) -> Result<Specifiers, A
     ensures { IfOk result (λ all. specifiers_of all ≡ spec.specifiers_of (found_of found)) }
 {
     match named_together(alloc, found.types.as_slice())? {
-        None => Ok(found),
+        None => {
+            let mut found = found;
+            found.types.shrink_to_fit();
+            Ok(found)
+        }
         Some(basic) => {
             let Specifiers {
                 storage,
@@ -111,7 +115,7 @@ pub(crate) fn gathered(alloc: Global, found: Specifiers) -> Result<Specifiers, A
                 quals,
                 types: _,
             } = found;
-            let mut types = Vec::new(alloc);
+            let mut types = Vec::with_capacity(alloc, 1)?;
             types.push(TypeSpecifier::Basic(basic))?;
             Ok(Specifiers {
                 storage,

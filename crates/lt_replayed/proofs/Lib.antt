@@ -1,2 +1,4 @@
 mod Members
 mod OneTable
+mod Units
+mod WithoutFacts

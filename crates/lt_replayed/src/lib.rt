@@ -2,5 +2,7 @@
 #![tactic(auto)]
 
 mod laws;
+mod runnable;
 
-pub use laws::a_suite_has_one_table;
+pub use laws::{a_suite_has_one_table, coverage_needs_no_unit};
+pub use runnable::stripped;

@@ -1,3 +1,4 @@
 pub mod Texts
 pub mod Stages
+pub mod Tasks
 pub mod Usage

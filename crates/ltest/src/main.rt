@@ -5,10 +5,10 @@ mod coverages;
 mod laws;
 mod merges;
 mod programs;
-mod replays;
 mod specifications;
 mod stops;
 mod suites;
+mod tasks;
 #[cfg(test)]
 mod tests;
 mod text;

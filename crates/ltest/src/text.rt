@@ -1,24 +1,23 @@
 //! The text that a command puts.
 
 ghost use Rattle.std.specs.Prelude.{◌≤◌, length};
-ghost use Rattle.lt_tree.specs.Typing.ProgramView.{program_of};
 ghost use Rattle.lt_answers.specs.Answers.{most_bytes};
-ghost use Rattle.lt_answers.specs.Programs.{IsProgram};
 ghost use Rattle.lt_sources.specs.Views.{sources_of};
-ghost use Rattle.ltest.specs.Stages.{GivesCovered};
+ghost use Rattle.ltest.specs.Stages.{GivesCovered, SpellsParsed};
 ghost use Rattle.ltest.specs.Texts.{IsReplayAnswer, IsConversionAnswer};
 
-use crate::coverages::{coverage_of_text, old_coverage};
+use crate::coverages::coverage_of_text;
 use crate::merges::merged;
 use crate::programs::program_of_unit;
-use crate::replays::new_coverage;
-use crate::specifications::specification_of;
 use crate::stops::TextStop;
-use crate::suites::suite_of_text;
+use crate::tasks::task_of;
 use crate::units::unit_of_text;
 use lt_cover::{Coverage, write_cover};
+use lt_decl::Parsed;
+use lt_replayed::{coverage_needs_no_unit, stripped};
+use lt_replayer::replay;
 use lt_sources::Sources;
-use lt_tree::typed::Program;
+use lt_tree::Unit;
 use std::alloc::Global;
 
 /// The text of a replay, or the first reason why there is none: its program, specification, suite and old coverage are understood in this
@@ -28,21 +27,27 @@ pub fn replay_text(alloc: Global, from: &Sources) -> Result<Vec<u8>, TextStop>
     ensures { IsReplayAnswer (sources_of from.now) result }
 {
     let parsed = unit_of_text(alloc, from.file.as_slice())?;
-    let program = program_of_unit(alloc, &parsed, from.model)?;
-    let coverage = covered(alloc, &program, from)?;
+    let coverage = covered(alloc, parsed, from)?;
     Ok(write_cover(alloc, &coverage)?)
 }
 
-// The coverage of a program, merged with the old one.
-fn covered(alloc: Global, program: &Program<'_>, from: &Sources) -> Result<Coverage, TextStop>
-    requires { IsProgram from.now.model from.now.file.items (program_of program.now) }
+// The coverage of a unit, merged with the old one. The unit is given up before the suite is run: the code of a large one takes much memory,
+// and runs don't need it.
+fn covered(alloc: Global, parsed: Parsed, from: &Sources) -> Result<Coverage, TextStop>
+    requires { SpellsParsed from.now.file.items parsed }
     ensures { GivesCovered (sources_of from.now) result }
 {
-    let specification = specification_of(alloc, program, from)?;
-    let suite = suite_of_text(alloc, program, &specification, from.suite.as_slice())?;
-    let old = old_coverage(alloc, from)?;
-    let new = new_coverage(alloc, program, &specification, &suite, from)?;
-    merged(alloc, new, old)
+    coverage_needs_no_unit();
+    let nothing = Unit {
+        externals: Vec::new(alloc),
+    };
+    let program = program_of_unit(alloc, &parsed, from.model)?;
+    let task = task_of(alloc, &program, from)?;
+    let program = stripped(alloc, program, &nothing);
+    drop(parsed);
+    let spec = &task.specification.spec;
+    let new = replay(alloc, &program, spec, &task.suite, from.steps)?;
+    merged(alloc, new, task.old)
 }
 
 /// The text of version 2 for a coverage file of either version, or the first row that breaks the grammar.

@@ -5,7 +5,7 @@ ghost use Rattle.ltest.specs.Stages.{GivesTokens, GivesUnit};
 
 use crate::stops::TextStop;
 use lt_answers::Refusal;
-use lt_decl::{Parsed, parse_unit};
+use lt_decl::{Parsed, parse_into_unit};
 use lt_expr::ParseStop;
 use lt_lex::{LexStop, Tokens, lex};
 use std::alloc::Global;
@@ -16,7 +16,7 @@ pub fn unit_of_text(alloc: Global, text: &[u8]) -> Result<Parsed, TextStop>
     ensures { GivesUnit text.now result }
 {
     let tokens = tokens_of_text(alloc, text)?;
-    match parse_unit(alloc, &tokens) {
+    match parse_into_unit(alloc, tokens) {
         Ok(parsed) => Ok(parsed),
         Err(ParseStop::Syntax(at)) => Err(TextStop::Refused(Refusal::Syntax(at))),
         Err(ParseStop::NoMemory) => Err(TextStop::NoMemory),

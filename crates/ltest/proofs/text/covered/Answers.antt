@@ -1,34 +1,37 @@
+use Rattle.std.proofs.Common.{◌≡◌, sym, subst, ap}
+use Rattle.std.specs.Prelude.{◌<◌, length}
 use Rattle.std.proofs.lemmas.Result.{err_from_is_err_and}
+use Rattle.lt_tree.specs.Typing.Programs.{Program}
 use Rattle.lt_tree.specs.Typing.ProgramView.{program_of}
+use Rattle.lt_replayed.specs.Replayed.{IsCoverage}
 use Rattle.lt_input_names.specs.Blocks.{specification_of}
 use Rattle.lt_sources.specs.Views.{sources_of}
 use Rattle.ltest.proofs.Merging.{programmed, specified, suited, covered_by, merged_so}
-use Rattle.ltest.proofs.Stages.{at_specification, at_suite, at_old}
+use Rattle.ltest.proofs.Stages.{at_program}
 use Rattle.ltest.proofs.text.covered.Goals as goal
 
-pub returns-in_err-specification : goal.returns-in_err-specification
-returns-in_err-specification c =
+pub returns-in_err-program : goal.returns-in_err-program
+returns-in_err-program c =
     let from = sources_of c.args.from.now in
     let p = err_from_is_err_and c.from_residual.result c.from_residual.ensures.1 in
-    rw (p.1, p.2) (at_specification from (programmed from (program_of c.args.program.now) c.requires) _ c.in_err-specification.ensures)
+    rw (p.1, p.2) (at_program from _ (c.in_err-program.ensures c.args.from.now.file.items c.requires))
 
-pub returns-in_err-suite : goal.returns-in_err-suite
-returns-in_err-suite c =
-    let from = sources_of c.args.from.now in
-    let p = err_from_is_err_and c.from_residual-in_err-suite.result c.from_residual-in_err-suite.ensures.1 in
-    let before = specified from (programmed from (program_of c.args.program.now) c.requires) (specification_of c.args.program.now c.in_ok-specification.specification) c.in_ok-specification.ensures in
-    rw (p.1, p.2) (at_suite from before _ (rw c.as_slice.ensures.value at c.in_err-suite.ensures))
+pub returns-in_err-task : goal.returns-in_err-task
+returns-in_err-task c =
+    let p = err_from_is_err_and c.from_residual-in_err-task.result c.from_residual-in_err-task.ensures.1 in
+    rw (p.1, p.2) c.in_err-task.ensures
 
-pub returns-in_err-old : goal.returns-in_err-old
-returns-in_err-old c =
-    let from = sources_of c.args.from.now in
-    let p = err_from_is_err_and c.from_residual-in_err-old.result c.from_residual-in_err-old.ensures.1 in
-    let before = specified from (programmed from (program_of c.args.program.now) c.requires) (specification_of c.args.program.now c.in_ok-specification.specification) c.in_ok-specification.ensures in
-    rw (p.1, p.2) (at_old from (suited from before c.in_ok-suite.suite (rw c.as_slice.ensures.value at c.in_ok-suite.ensures)) _ c.in_err-old.ensures)
+pub replay-requires-clause-entry : goal.replay-requires-clause-entry
+replay-requires-clause-entry c = subst (λ (p : Program). c.in_ok-task.task.specification.spec.entry < length p.functions) (sym c.stripped.ensures) c.in_ok-task.ensures.entry
 
 pub returns : goal.returns
 returns c =
     let from = sources_of c.args.from.now in
-    let before = specified from (programmed from (program_of c.args.program.now) c.requires) (specification_of c.args.program.now c.in_ok-specification.specification) c.in_ok-specification.ensures in
-    let read = suited from before c.in_ok-suite.suite (rw c.as_slice.ensures.value at c.in_ok-suite.ensures) in
-    merged_so from (covered_by from read c.in_ok-old.old c.in_ok-new.new c.in_ok-old.ensures c.in_ok-new.ensures) c.merged.result c.merged.ensures
+    let program = program_of c.in_ok-program.program in
+    let task = c.in_ok-task.task in
+    let is = c.in_ok-program.ensures c.args.from.now.file.items c.requires in
+    let before = specified from (programmed from program is) (specification_of c.in_ok-program.program task.specification) c.in_ok-task.ensures.specified in
+    let read = suited from before task.suite c.in_ok-task.ensures.said in
+    let new = c.coverage_needs_no_unit.ensures program _ _ task.specification.spec task.suite c.args.from.now.steps c.in_ok-new.new
+    (subst (λ (p : Program). IsCoverage p task.specification.spec task.suite c.args.from.now.steps c.in_ok-new.new) c.stripped.ensures c.in_ok-new.ensures) in
+    merged_so from (covered_by from read task.old c.in_ok-new.new c.in_ok-task.ensures.old new) c.merged.result c.merged.ensures
