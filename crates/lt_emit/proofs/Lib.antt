@@ -21,3 +21,4 @@ pub mod Arguments
 pub mod Connected
 pub mod Calls
 pub mod Begun
+mod Stepwise

@@ -1,22 +1,25 @@
 //! Nodes that are turned round: the last that was emitted is the first.
 
-ghost use Rattle.std.specs.Prelude.{◌≡◌, IfOk, map};
+ghost use Rattle.std.specs.Prelude.{◌≡◌, map};
 ghost use Rattle.lt_emit.specs.Turning.{turned, turned_arm};
 ghost use Rattle.lt_emit.specs.Turned.{point_of, turned_round, IsNoSwitch};
 
 use lt_ir::{Arm, Node};
 use lt_model::Sequence;
-use std::alloc::{AllocError, Global};
+use std::mem;
 
-/// Nodes in turned order, with the points of their successors, where the last one has this number.
-pub fn turned_round(alloc: Global, nodes: Vec<Node>, last: u32) -> Result<Vec<Node>, AllocError>
-    ensures { IfOk result (λ all. all.items ≡ turned_round last nodes.items) }
+/// Nodes in turned order, with the points of their successors, where the last one has this number. They are turned in place, and room
+/// to spare is given back: the code of a large function takes most of the memory.
+pub fn turned_round(nodes: Vec<Node>, last: u32) -> Vec<Node>
+    ensures { result.items ≡ turned_round last nodes.items }
 {
+    let mut nodes = nodes;
+    nodes.reverse();
+    'nodes: for node in nodes.iter_mut() {
+        *node = turned(mem::replace(node, Node::Stop), last);
+    }
+    nodes.shrink_to_fit();
     nodes
-        .into_iter()
-        .rev()
-        .map(|node| turned(node, last))
-        .collect(alloc)
 }
 
 // A node with the points of its successors.

@@ -65,7 +65,7 @@ fn finished(b: Builder, start: u32) -> Result<Code, AllocError>
         locals: Sequence::new(local_shapes(alloc, site)?),
         structs: Sequence::new(b.structs),
         registers: b.registers,
-        nodes: Sequence::new(turned_round(alloc, nodes, last)?),
+        nodes: Sequence::new(turned_round(nodes, last)),
         start: last - start,
     })
 }

@@ -1,17 +1,9 @@
-use Rattle.std.proofs.Common.{◌≡◌, ℕ, zero, suc, pos, ◌+◌, ◌<◌, List, [], ◌∷◌, ◌++◌, length, map, take, drop, slice_set, slice_index_or, refl, ap, ◌∙◌, arith}
+use Rattle.std.proofs.Common.{◌≡◌, ℕ, suc, pos, ◌+◌, ◌<◌, ◌++◌, length, map, take, drop, slice_set, slice_index_or, ap, ◌∙◌, arith}
 use Rattle.lt_ir.specs.declared.node.Arm.{Arm}
 use Rattle.lt_emit.specs.Turning.{turned_arm}
 use Rattle.lt_emit.specs.Turned.{point_of}
+use Rattle.lt_emit.proofs.Stepwise.{turn_step}
 use Rattle.lt_emit.proofs.turning.turned_arms.Goals as goal
-
--- one element more
-turn_step :
-    {A : Type 0} (f : A → A) (xs : List A) (i : ℕ) (d : A) → i < length xs
-    → slice_set (map f (take i xs) ++ drop i xs) i (f (slice_index_or (map f (take i xs) ++ drop i xs) i d))
-    ≡ map f (take (suc i) xs) ++ drop (suc i) xs
-turn_step f [] i d there = absurd (omega (arith, there))
-turn_step f (x ∷ xs) zero d there = refl
-turn_step f (x ∷ xs) (suc i) d there = ap (λ ys. f x ∷ ys) (turn_step f xs i d (omega (arith, there)))
 
 pub arms-preserved : goal.arms-preserved
 arms-preserved c =

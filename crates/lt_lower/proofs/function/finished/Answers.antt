@@ -14,6 +14,6 @@ returns c =
       registers = refl;
       last = last;
       count = omega (arith, number, c.requires);
-      nodes = c.new-5.ensures ∙ c.in_ok-turned_round.ensures ∙ ap (turned_round last) c.give_back.ensures;
+      nodes = c.new-5.ensures ∙ c.turned_round.ensures ∙ ap (turned_round last) c.give_back.ensures;
       start = refl;
     }
