@@ -16,7 +16,7 @@ use lt_input_names::Specification;
 use lt_input_specs::{default_spec, defaults_are_bounded, specifications_are_bounded};
 use lt_input_suites::{read_suite, tests_of_a_suite_differ};
 use lt_model::DataModel;
-use lt_replayer::replay;
+use lt_replay::replay;
 use lt_spec_reader::read_spec;
 use lt_tree::typed::Program;
 use lt_unit::elaborate;
@@ -81,7 +81,15 @@ fn new_coverage(
     defaults_are_bounded();
     specifications_are_bounded();
     tests_of_a_suite_differ();
-    Ok(replay(alloc, program, &specification.spec, &suite, steps)?)
+    let hypers = Vec::new(alloc);
+    Ok(replay(
+        alloc,
+        program,
+        &specification.spec,
+        &suite,
+        hypers.as_slice(),
+        steps,
+    )?)
 }
 
 // The coverage of a text, if there is one.

@@ -14,8 +14,8 @@ use crate::tasks::task_of;
 use crate::units::unit_of_text;
 use lt_cover::{Coverage, write_cover};
 use lt_decl::Parsed;
+use lt_replay::replay;
 use lt_replayed::{coverage_needs_no_unit, stripped};
-use lt_replayer::replay;
 use lt_sources::Sources;
 use lt_tree::Unit;
 use std::alloc::Global;
@@ -45,8 +45,15 @@ fn covered(alloc: Global, parsed: Parsed, from: &Sources) -> Result<Coverage, Te
     let task = task_of(alloc, &program, from)?;
     let program = stripped(alloc, program, &nothing);
     drop(parsed);
-    let spec = &task.specification.spec;
-    let new = replay(alloc, &program, spec, &task.suite, from.steps)?;
+    let hypers = Vec::new(alloc);
+    let new = replay(
+        alloc,
+        &program,
+        &task.specification.spec,
+        &task.suite,
+        hypers.as_slice(),
+        from.steps,
+    )?;
     merged(alloc, new, task.old)
 }
 

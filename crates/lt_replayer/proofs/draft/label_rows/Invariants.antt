@@ -1,6 +1,0 @@
-use Rattle.std.proofs.Common.{◌≡◌, ◌++◌, map}
-use Rattle.lt_replayer.specs.Drafts.{row_of}
-use Rattle.lt_replayer.proofs.draft.label_rows.Given as goal
-
-abbrev pub invariant-loop-id : goal.invariant-loop-id
-invariant-loop-id l = l.rows.items ++ map row_of l.id-iterator ≡ map row_of l.initial.id-iterator
