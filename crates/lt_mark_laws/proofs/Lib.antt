@@ -4,7 +4,7 @@ mod Values
 mod Expressions
 mod Objects
 mod Statements
-mod Runs
+pub mod Runs
 pub mod Itself
 mod Truths
 mod Pure

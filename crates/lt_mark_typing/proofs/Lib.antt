@@ -3,13 +3,13 @@ mod Operands
 mod Knowing
 mod Operators
 mod BinaryOperators
-mod Ends
-mod Unchanged
-mod NewMarks
+pub mod Ends
+pub mod Unchanged
+pub mod NewMarks
 mod Again
 mod Declared
 mod Initialisers
 mod Statements
 mod Units
-mod Predicates
-mod Quiet
+pub mod Predicates
+pub mod Quiet

@@ -30,7 +30,7 @@ use Rattle.lt_mark_typing.proofs.Ends.{structs_same, finished_alone}
 use Rattle.lt_mark_typing.proofs.NewMarks.{numbered_alone}
 
 -- where a pure expression is used as a truth it is typed as where its value is used
-truth_role : (it : c.Expression) → is_pure it ≡ true → (known : Known) → expression it as_truth known ≡ expression it as_value known
+pub truth_role : (it : c.Expression) → is_pure it ≡ true → (known : Known) → expression it as_truth known ≡ expression it as_value known
 unfolding judge_name finish
 truth_role (c.Marked ms value) h known = absurd (false≢true h)
 truth_role (c.Decide operand when_true when_false tag) h known = absurd (false≢true h)

@@ -1,6 +1,6 @@
 -- Units with marks added are typed again.
-use Rattle.std.proofs.Common.{◌≡◌, ℕ, List, [], ◌∷◌, Option, Some, None, Bool, true, false, refl, sym, ap, ◌∙◌, subst}
-use Rattle.std.specs.Prelude.{◌++◌, ◌||◌, filter_map, unwrap_or}
+use Rattle.std.proofs.Common.{◌≡◌, ℕ, zero, suc, List, [], ◌∷◌, Option, Some, None, Bool, true, false, refl, sym, ap, ◌∙◌, subst}
+use Rattle.std.specs.Prelude.{◌++◌, ◌||◌, length, slice_get, filter_map, unwrap_or}
 use Rattle.std.specs.List.{list_any}
 use Rattle.std.specs.Str.{bytes_eq}
 use Rattle.lt_model.specs.declared.scalar.DataModel.{DataModel}
@@ -17,9 +17,11 @@ use Rattle.lt_tree.specs.Typing.Declarators.{Built, Declares}
 use Rattle.lt_tree.specs.Typing.Declaring.{declaration_faults, definition_shape_faults, definition_faults, has_body_already, with_declared}
 use Rattle.lt_tree.specs.Typing.UnitTyping.{around_body, frame_of, objects_of, defines, external, externals, defined_in, answer, typing}
 use Rattle.lt_tree.specs.Typing.Programs.{Program, typed, program_of}
-use Rattle.lt_mark_laws.specs.Added.{AddsItems, AddsFunctions, AddsProgram}
+use Rattle.lt_mark_laws.specs.Added.{AddsItems, AddsFunction, AddsFunctions, AddsProgram}
+use Rattle.lt_mark_laws.proofs.Runs.{nothing_changes}
 use Rattle.lt_mark_typing.specs.Beside.{no_labels, IsBeside, Follows, goes, breaks}
 use Rattle.lt_mark_typing.specs.PlacedItems.{AddsToItems}
+use Rattle.lt_mark_typing.specs.Laws.{MarkedUnitsRunAlike}
 use Rattle.lt_mark_typing.specs.PlacedUnits as p
 use Rattle.lt_mark_typing.specs.PlacedUnits.{in_body, AddsToExternal, AddsToUnit}
 use Rattle.lt_mark_typing.proofs.Going.{bind, bind_at, entered_beside}
@@ -98,12 +100,12 @@ module _ {new : ℕ → Bool} where
   -- ---- programs
 
   answered : {after : List ℕ} (unit marked : c.Unit) (o r : Outcome (Unit {0})) (program : Program) → Follows new after (Same {A = Unit {0}}) o r → answer unit o ≡ typed program
-      → (other : Program) × (answer marked r ≡ typed other) × (program.types ≡ other.types → AddsProgram new program other)
+      → (other : Program) × (answer marked r ≡ typed other) × AddsProgram new (record program { types = other.types }) other
   answered unit marked (Goes u k) (Goes v j) program (goes r b) h = (
     program_of marked j,
     refl,
-    λ types. subst (λ (it : Program). it.types ≡ (program_of marked j).types → AddsProgram new it (program_of marked j)) (program_is h)
-        (λ types. record { model = sym (ap (λ (it : Known). it.model) b.same); structs = sym (ap (λ (it : Known). it.structs) b.same); objects = b.objects; types = types; functions = b.functions }) types,
+    subst (λ (it : Program). AddsProgram new (record it { types = (program_of marked j).types }) (program_of marked j)) (program_is h)
+        (record { model = sym (ap (λ (it : Known). it.model) b.same); structs = sym (ap (λ (it : Known). it.structs) b.same); objects = b.objects; types = refl; functions = b.functions }),
   )
     where
       program_is : typed (program_of unit k) ≡ typed program → program_of unit k ≡ program
@@ -113,9 +115,37 @@ module _ {new : ℕ → Bool} where
 
   pub units : (model : DataModel) (unit marked : c.Unit) (after : List ℕ) (program : Program)
       → AddsToUnit new [] after (at_start model (filter_map defined_in unit)) unit marked → filter_map defined_in marked ≡ filter_map defined_in unit → typing model unit ≡ typed program
-      → (other : Program) × (typing model marked ≡ typed other) × (program.types ≡ other.types → AddsProgram new program other)
+      → (other : Program) × (typing model marked ≡ typed other) × AddsProgram new (record program { types = other.types }) other
   unfolding typing
   units model unit marked after program d e h =
       answered unit marked (externals unit (at_start model (filter_map defined_in unit))) (externals marked (at_start model (filter_map defined_in marked))) program
       (subst (λ names. Follows new after (Same {A = Unit {0}}) (externals unit (at_start model (filter_map defined_in unit))) (externals marked (at_start model names))) (sym e)
       (of_externals d (record { same = refl; objects = tt; functions = tt; labels = no_labels }))) h
+
+-- ---- runs
+
+functions_length : (new : ℕ → Bool) (fs gs : List Function) → AddsFunctions new fs gs → length gs ≡ length fs
+functions_length new [] [] h = refl
+functions_length new (f ∷ fs) (g ∷ gs) h = ap suc (functions_length new fs gs h.1)
+functions_length new [] (g ∷ gs) h = absurd h
+functions_length new (f ∷ fs) [] h = absurd h
+
+some_is : {f g : Function} → Some f ≡ Some g → f ≡ g
+some_is e = cc
+
+function_at : (new : ℕ → Bool) (fs gs : List Function) → AddsFunctions new fs gs → (n : ℕ) (f g : Function) → slice_get fs n ≡ Some f → slice_get gs n ≡ Some g → AddsFunction new f g
+function_at new (x ∷ fs) (y ∷ gs) h zero f g p q = subst (λ it. AddsFunction new it g) (some_is p) (subst (λ it. AddsFunction new x it) (some_is q) h.0)
+function_at new (x ∷ fs) (y ∷ gs) h (suc n) f g p q = function_at new fs gs h.1 n f g p q
+function_at new [] [] h n f g p q = absurd cc
+function_at new [] (y ∷ gs) h n f g p q = absurd h
+function_at new (x ∷ fs) [] h n f g p q = absurd h
+
+pub run_alike : MarkedUnitsRunAlike
+run_alike new model unit marked after program d e h =
+    let it = units {new = new} model unit marked after program d e h in
+    let adds = it.2 in (
+      it.0,
+      it.1,
+      functions_length new program.functions it.0.functions adds.functions,
+      λ n f g input ticks p q. nothing_changes new (record program { types = it.0.types }) it.0 f g input ticks adds (function_at new program.functions it.0.functions adds.functions n f g p q),
+    )

@@ -1,7 +1,8 @@
 -- That what is marked is typed again.
-use Rattle.std.specs.Prelude.{◌≡◌, ℕ, Bool, true, List, [], filter_map, Some}
+use Rattle.std.specs.Prelude.{◌≡◌, ℕ, Bool, true, List, [], length, slice_get, filter_map, Some}
 use Rattle.lt_model.specs.declared.scalar.DataModel.{DataModel}
 use Rattle.lt_model.specs.declared.operator.Op.{Op}
+use Rattle.lt_model.specs.declared.input.Input.{Input}
 use Rattle.lt_tree.specs.declared.expression.LogicalOp.{LogicalOp}
 use Rattle.lt_tree.specs.declared.expression.UnaryOp.TheVariants as unary
 use Rattle.lt_tree.specs.Tree as c
@@ -9,7 +10,7 @@ use Rattle.lt_tree.specs.Typing.Types.{CType, is_scalar, is_integer}
 use Rattle.lt_tree.specs.Purity.{is_pure}
 use Rattle.lt_tree.specs.Nodes.{in_expression}
 use Rattle.lt_tree.specs.Typing.Steps.{Goes}
-use Rattle.lt_tree.specs.Typing.Entities.{Known, Fact, an_object, meaning_of, at_start}
+use Rattle.lt_tree.specs.Typing.Entities.{Known, Function, Fact, an_object, meaning_of, at_start}
 use Rattle.lt_tree.specs.Typing.Expressions.{Typed, Use, as_value, own_type, as_it_is_read, faults_of_any}
 use Rattle.lt_tree.specs.Typing.Constants.{TypedConstant, constant_of}
 use Rattle.lt_tree.specs.Typing.Operations.{object_named}
@@ -17,7 +18,9 @@ use Rattle.lt_tree.specs.Typing.ExpressionTyping.{expression}
 use Rattle.lt_tree.specs.Typing.StatementTyping.{Around, statement, items}
 use Rattle.lt_tree.specs.Typing.UnitTyping.{defined_in, IsProgramOf}
 use Rattle.lt_tree.specs.Typing.Programs.{Program}
+use Rattle.lt_meaning.specs.Runs.{run}
 use Rattle.lt_mark_laws.specs.Added.{AddsStatement, AddsItems, AddsProgram}
+use Rattle.lt_mark_laws.specs.Laws.{AreAlike}
 use Rattle.lt_mark_typing.specs.Beside.{IsBeside, Position, use_of, AddsAt, Follows}
 use Rattle.lt_mark_typing.specs.Placed.{AreOld, IsThere, AddsTo}
 use Rattle.lt_mark_typing.specs.PlacedItems.{AddsToStatement, AddsToItems}
@@ -44,14 +47,25 @@ StatementsAreTypedAgain =
     → ((it marked : c.Statement) → AddsToStatement new used after around known it marked → Follows new after (AddsStatement new) (statement it around known) (statement marked around other))
     × ((them marked : c.Items) → AddsToItems new used after around known them marked → Follows new after (AddsItems new) (items them around known) (items marked around other))
 
--- A unit with marks added, each where it may stand, has a typed program, if the unit has one: that of the unit with these marks added, where the
--- list of types is the same. (The types of predicates may come into it, and before others.)
+-- A unit with marks added, each where it may stand, has a typed program, if the unit has one: that of the unit with these marks added, but for the list
+-- of types. (The types of predicates may come into it, and before others.)
 abbrev pub UnitsAreTypedAgain : Type 0
 UnitsAreTypedAgain =
     (new : ℕ → Bool) (model : DataModel) (unit marked : c.Unit) (after : List ℕ) (program : Program)
     → AddsToUnit new [] after (at_start model (filter_map defined_in unit)) unit marked → filter_map defined_in marked ≡ filter_map defined_in unit
     → IsProgramOf model unit program
-    → (other : Program) × IsProgramOf model marked other × (program.types ≡ other.types → AddsProgram new program other)
+    → (other : Program) × IsProgramOf model marked other × AddsProgram new (record program { types = other.types }) other
+
+-- And each function of the marked unit runs as that of the unit does where types have these numbers: the same end, memory, ticks and values left, and
+-- the same marks, new ones aside.
+abbrev pub MarkedUnitsRunAlike : Type 0
+MarkedUnitsRunAlike =
+    (new : ℕ → Bool) (model : DataModel) (unit marked : c.Unit) (after : List ℕ) (program : Program)
+    → AddsToUnit new [] after (at_start model (filter_map defined_in unit)) unit marked → filter_map defined_in marked ≡ filter_map defined_in unit
+    → IsProgramOf model unit program
+    → (other : Program) × IsProgramOf model marked other × (length other.functions ≡ length program.functions)
+    × ((n : ℕ) (f g : Function) (input : Input) (ticks : ℕ) → slice_get program.functions n ≡ Some f → slice_get other.functions n ≡ Some g
+    → AreAlike new (run (record program { types = other.types }) f input ticks) (run other g input ticks))
 
 -- What is made of predicates is one: negations and `&&` and `||` of scalars, and `-`, `?:` and other operators of integers. Constants are predicates, and
 -- so are names of objects that break no rule where they are read.

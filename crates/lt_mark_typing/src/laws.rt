@@ -1,6 +1,6 @@
 //! Laws of the definitions; the functions do nothing.
 
-ghost use Rattle.lt_mark_typing.specs.Laws.{ExpressionsAreTypedAgain, OthersAreTypedAlike, PredicatesAreMade, PureExpressionsAreThere, StatementsAreTypedAgain, UnitsAreTypedAgain};
+ghost use Rattle.lt_mark_typing.specs.Laws.{ExpressionsAreTypedAgain, MarkedUnitsRunAlike, OthersAreTypedAlike, PredicatesAreMade, PureExpressionsAreThere, StatementsAreTypedAgain, UnitsAreTypedAgain};
 
 /// An expression with marks added, each where it may stand, is typed as the typed expression with these marks added.
 pub fn expressions_are_typed_again()
@@ -20,6 +20,11 @@ pub fn statements_are_typed_again()
 /// A unit with marks added, each where it may stand, is typed as the unit's program with these marks added.
 pub fn units_are_typed_again()
     ensures { UnitsAreTypedAgain }
+{}
+
+/// A unit with marks added, each where it may stand, runs as the unit does, new marks aside.
+pub fn marked_units_run_alike()
+    ensures { MarkedUnitsRunAlike }
 {}
 
 /// What negations, `&&`, `||`, `-`, `?:` and operators on integers make of predicates is one.
