@@ -26,3 +26,7 @@ absolute = (refl, refl, refl)
 pub once : s.CallsAreMadeOnce
 unfolding digits typing struct_cells struct_extent struct_cells_at load store create_shaped
 once = (refl, refl)
+
+pub behind : s.TestsComeBehindOldMarks
+unfolding digits typing struct_cells struct_extent struct_cells_at load store create_shaped
+behind = (refl, refl)

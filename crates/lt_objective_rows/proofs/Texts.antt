@@ -53,4 +53,4 @@ others = (refl, refl)
 
 pub places : s.PlacesAreMarked
 unfolding digits typing text_of operand lines
-places = (refl, (refl, refl, refl), refl, refl, refl)
+places = (refl, (refl, refl, refl, refl, refl), refl, refl, refl)

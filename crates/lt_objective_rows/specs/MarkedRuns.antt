@@ -5,7 +5,8 @@ use Rattle.lt_model.specs.declared.input.Input.{Input}
 use Rattle.lt_model.specs.declared.input.CellSet.{CellSet}
 use Rattle.lt_model.specs.declared.input.CellSet.TheVariants as cellset
 use Rattle.lt_model.specs.declared.run.End.{End}
-use Rattle.lt_model.specs.declared.run.End.TheVariants.{Returned, NoInput}
+use Rattle.lt_model.specs.declared.run.End.TheVariants.{Returned, Undefined, NoInput}
+use Rattle.lt_model.specs.declared.operator.Ub.TheVariants.{NoValue}
 use Rattle.lt_model.specs.State.{Made}
 use Rattle.lt_tree.specs.Tree as c
 use Rattle.lt_tree.specs.Typing.Entities.{Function}
@@ -17,7 +18,7 @@ use Rattle.lt_meaning.specs.Runs.{run, function_among}
 use Rattle.lt_meaning_runs.specs.Samples.{shown}
 use Rattle.lt_objectives.specs.declared.criteria.Criterion.TheVariants as C
 use Rattle.lt_objectives.specs.Criteria.{bit_of}
-use Rattle.lt_objective_rows.specs.MarkedTexts.{marked_in, counts, follows_p, adds, gives_x, asks_g}
+use Rattle.lt_objective_rows.specs.MarkedTexts.{marked_from, counts, follows_p, adds, gives_x, asks_g, tests_nothing}
 
 -- how a run ends, and its marks: each id, and whether it is true
 abbrev pub Shown : Type 0
@@ -35,10 +36,13 @@ with_cells cells = record { blocks = []; cells = cells; stubs = [] }
 abbrev pub run_in : Program → Input → Option Function → Option Shown
 run_in program input f = option_map (λ it. shown_over (run program it input 100)) f
 
--- how the function `f` of a unit runs that has the marks of a set of criteria
+-- how the function `f` of a unit runs that has the marks of a set of criteria, numbered from an id
+abbrev pub run_from : ℕ → c.Unit → ℕ → Input → Option Shown
+run_from id unit set input =
+    elim (typing Lp64 (marked_from id Lp64 unit set)) [ typed program ↦ run_in program input (function_among (codes "f") program.functions) | broken rule node ↦ None ]
+
 abbrev pub run_marked : c.Unit → ℕ → Input → Option Shown
-run_marked unit set input =
-    elim (typing Lp64 (marked_in Lp64 unit set)) [ typed program ↦ run_in program input (function_among (codes "f") program.functions) | broken rule node ↦ None ]
+run_marked = run_from 1
 
 -- a loop's test is marked each time that it is evaluated
 abbrev pub TestsAreMarkedEachTime : Type 0
@@ -78,5 +82,12 @@ CallsAreMadeOnce =
     ≡ Some (Returned, (1, true) ∷ (2, false) ∷ []))
     × (run_marked asks_g (bit_of C.Decision) (with_cells (sets (codes "x") (pos 0) ∷ [])) ≡ Some (NoInput (codes "g"), []))
 
+-- Where a test can't be made, as that of a value which a function didn't give, an old `pc_after` before it notes what it did.
+abbrev pub TestsComeBehindOldMarks : Type 0
+TestsComeBehindOldMarks =
+    (run_from 2 tests_nothing 0 (with_cells []) ≡ Some (Undefined NoValue, (1, true) ∷ []))
+    × (run_from 2 tests_nothing (bit_of C.Decision) (with_cells []) ≡ Some (Undefined NoValue, (1, true) ∷ []))
+
 abbrev pub MarkedTextsRun : Type 0
-MarkedTextsRun = TestsAreMarkedEachTime × MarksStandWhereTheyAreEvaluated × UndefinedMutantsAreNotTrue × AbsoluteValues × CallsAreMadeOnce
+MarkedTextsRun =
+    TestsAreMarkedEachTime × MarksStandWhereTheyAreEvaluated × UndefinedMutantsAreNotTrue × AbsoluteValues × CallsAreMadeOnce × TestsComeBehindOldMarks

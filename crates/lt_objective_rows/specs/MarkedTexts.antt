@@ -113,6 +113,12 @@ asks_g =
     object int (codes "g") (c.Function (c.Listed (c.a_parameter int missing c.no_parameters)) c.no_parts)
     ∷ function_of (takes_x int) (decides_by (is_positive (c.Call (name (codes "g")) (just x)))) ∷ []
 
+-- `int g(void) { } int f(int x) { if (pc_after(g(), 1, "old")) return 1; return 0; }`
+abbrev pub tests_nothing : c.Unit
+tests_nothing =
+    c.Defines int (declares (codes "g") (c.Function c.Void c.no_parts)) c.no_items
+    ∷ function_of (takes_x int) (decides_by (c.After (c.Call (name (codes "g")) c.no_expressions) (codes "1") (codes "old"))) ∷ []
+
 -- a label that the text has already
 abbrev pub old_label : c.Expression → List ℕ → c.Mark
 old_label predicate id = c.mark predicate id (codes "old") c.no_bindings
@@ -376,7 +382,7 @@ OldMarksComeFirst =
         (c.a_label (old_label x (codes "5"))
         (returns (c.Marked (c.a_mark (old_label (c.Unary unary.Not x) (codes "6")) c.no_marks) (c.Binary op.Add (c.Unary unary.Minus x) one)))) ∷ []
 
--- New marks at an expression inside a `pc_decide` or a `pc_after` stand inside these.
+-- New marks at an expression inside a `pc_decide` or a `pc_after` stand inside these, but a `pc_decide` around a `pc_after`.
 abbrev pub OldMarksStandAround : Type 0
 OldMarksStandAround =
     IsMarkedFrom 3 (function_of (takes_x int) (decides_by (old_decide (is_positive x))) ∷ []) (bit_of C.Decision)
@@ -391,11 +397,26 @@ OldMarksStandAround =
     ∷ codes "    return 1;"
     ∷ codes "  return 0;"
     ∷ codes "}" ∷ [])
-    × IsMarkedFrom 2 (function_of takes_a_and_b (returns (c.After (c.Binary op.Add a b) (codes "1") (codes "old"))) ∷ []) (bit_of C.ArithmeticOperator)
+    × IsMarkedFrom 2 (function_of takes_a_and_b (returns (old_after (c.Binary op.Add a b))) ∷ []) (bit_of C.ArithmeticOperator)
     (codes "int f(int a, int b) {"
     ∷ codes "  return pc_after((pc_label(a + b != a - b, 2, \"AOR\"), pc_label(a + b != a * b, 3, \"AOR\"), pc_label(a + b != a / b, 4, \"AOR\"), pc_label(a + b != a % b, 5, \"AOR\"), a + b), 1, \"old\");"
     ∷ codes "}" ∷ [])
+    × IsMarkedFrom 2 (function_of (takes_x int) (decides_by (old_after (is_positive x))) ∷ []) (bit_of C.Condition)
+    (codes "int f(int x) {"
+    ∷ codes "  if (pc_after((pc_label(x > 0, 2, \"CC\"), pc_label(!(x > 0), 3, \"CC\"), x > 0), 1, \"old\"))"
+    ∷ codes "    return 1;"
+    ∷ codes "  return 0;"
+    ∷ codes "}" ∷ [])
+    × IsMarkedFrom 2 (function_of (takes_x int) (decides_by (old_after (is_positive (c.PostInc x)))) ∷ []) (bit_of C.Decision + bit_of C.Condition)
+    (codes "int f(int x) {"
+    ∷ codes "  if (pc_decide(pc_decide(pc_after(x++ > 0, 1, \"old\"), 4, 5, \"CC\"), 2, 3, \"DC\"))"
+    ∷ codes "    return 1;"
+    ∷ codes "  return 0;"
+    ∷ codes "}" ∷ [])
   where
+    old_after : c.Expression → c.Expression
+    old_after e = c.After e (codes "1") (codes "old")
+
     old_decide : c.Expression → c.Expression
     old_decide e = c.Decide e (codes "1") (codes "2") (codes "old")
 

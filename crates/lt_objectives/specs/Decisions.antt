@@ -1,38 +1,59 @@
 -- Decisions and their clauses.
-use Rattle.std.specs.Prelude.{ℕ, zero, suc, ◌+◌, ◌-◌, nat_le, nat_lt, Bool, ◌&&◌, if◌then◌else◌, List, [], ◌∷◌, ◌++◌, length, map, codes, Option, Some, None}
+use Rattle.std.specs.Prelude.{ℕ, zero, suc, ◌+◌, ◌-◌, nat_le, nat_lt, Bool, ◌&&◌, if◌then◌else◌, List, [], ◌∷◌, ◌++◌, length, map, codes, Option, Some, None, unwrap_or}
 use Rattle.std.specs.List.{flat_map}
 use Rattle.lt_model.specs.declared.operator.Op.TheVariants as O
 use Rattle.lt_tree.specs.declared.expression.UnaryOp.TheVariants as unary
 use Rattle.lt_tree.specs.declared.expression.LogicalOp.TheVariants as logical
 use Rattle.lt_tree.specs.Tree as c
 use Rattle.lt_tree.specs.Nodes.{Node, a_statement, an_expression, in_expression, in_marks, in_start, in_statement}
-use Rattle.lt_objectives.specs.Places.{Site, sites, Part, part, core}
+use Rattle.lt_objectives.specs.Places.{Site, sites, Part, part}
 
--- The controlling expressions of `if`, `while`, `do` and `for`, and the first operand of `?:`, C11 6.8.4, 6.8.5 and 6.5.15; without the marks around
+-- The controlling expressions of `if`, `while`, `do` and `for`, and the first operand of `?:`, C11 6.8.4, 6.8.5 and 6.5.15, with the marks around
 -- them.
-abbrev pub decisions_of : ℕ → Node → List Part
-decisions_of k (a_statement (c.If test x)) = core (k + 1) test ∷ []
-decisions_of k (a_statement (c.IfElse test x y)) = core (k + 1) test ∷ []
-decisions_of k (a_statement (c.While test x)) = core (k + 1) test ∷ []
-decisions_of k (a_statement (c.Do x test)) = core (k + 1 + length (in_statement x)) test ∷ []
-decisions_of k (a_statement (c.For start (Some test) step x)) = core (k + 1 + length (in_start start)) test ∷ []
-decisions_of k (an_expression (c.Conditional test left right)) = core (k + 1) test ∷ []
-decisions_of k node = []
+abbrev pub controlling : ℕ → Node → List Part
+controlling k (a_statement (c.If test x)) = part (k + 1) test ∷ []
+controlling k (a_statement (c.IfElse test x y)) = part (k + 1) test ∷ []
+controlling k (a_statement (c.While test x)) = part (k + 1) test ∷ []
+controlling k (a_statement (c.Do x test)) = part (k + 1 + length (in_statement x)) test ∷ []
+controlling k (a_statement (c.For start (Some test) step x)) = part (k + 1 + length (in_start start)) test ∷ []
+controlling k (an_expression (c.Conditional test left right)) = part (k + 1) test ∷ []
+controlling k node = []
 
-abbrev pub decisions : c.Unit → List Part
-decisions unit = flat_map (λ site. decisions_of site.number site.node) (sites unit)
+-- A decision or a clause without the marks around it, and the number of what a new `pc_decide` stands around: that expression, or the outermost
+-- `pc_after` that stands directly around it. Where a value can't be tested the run is over, and a `pc_after` notes before that that it was evaluated:
+-- so it isn't tested inside.
+pub record Test : Type 0 where
+  pub core : Part
+  pub decided : ℕ
+
+-- an expression, with the number of the `pc_after` in which it stands, if it stands in one
+abbrev pub test_at : Option ℕ → ℕ → c.Expression → Test
+test_at after k e = record { core = part k e; decided = unwrap_or after k }
+
+abbrev pub in_after : Option ℕ → ℕ → Option ℕ
+in_after after k = Some (unwrap_or after k)
+
+-- the decision that is an expression with marks around it
+abbrev pub decision_of : Option ℕ → ℕ → c.Expression → Test
+decision_of after k (c.Marked marks e) = decision_of after (k + 1 + length (in_marks marks)) e
+decision_of after k (c.Decide e when_true when_false tag) = decision_of after (k + 1) e
+decision_of after k (c.After e id tag) = decision_of (in_after after k) (k + 1) e
+decision_of after k e = test_at after k e
 
 -- the clauses of an expression that begins at this number: what `&&`, `||` and `!` leave
-abbrev pub clauses_of : ℕ → c.Expression → List Part
-clauses_of k (c.Logical op left right) = clauses_of (k + 1) left ++ clauses_of (k + 1 + length (in_expression left)) right
-clauses_of k (c.Unary unary.Not e) = clauses_of (k + 1) e
-clauses_of k (c.Marked marks e) = clauses_of (k + 1 + length (in_marks marks)) e
-clauses_of k (c.Decide e when_true when_false tag) = clauses_of (k + 1) e
-clauses_of k (c.After e id tag) = clauses_of (k + 1) e
-clauses_of k e = part k e ∷ []
+abbrev pub clauses_of : Option ℕ → ℕ → c.Expression → List Test
+clauses_of after k (c.Logical op left right) = clauses_of None (k + 1) left ++ clauses_of None (k + 1 + length (in_expression left)) right
+clauses_of after k (c.Unary unary.Not e) = clauses_of None (k + 1) e
+clauses_of after k (c.Marked marks e) = clauses_of after (k + 1 + length (in_marks marks)) e
+clauses_of after k (c.Decide e when_true when_false tag) = clauses_of after (k + 1) e
+clauses_of after k (c.After e id tag) = clauses_of (in_after after k) (k + 1) e
+clauses_of after k e = test_at after k e ∷ []
 
-abbrev pub clauses : c.Unit → List Part
-clauses unit = flat_map (λ d. clauses_of d.number d.expression) (decisions unit)
+abbrev pub decisions : c.Unit → List Test
+decisions unit = flat_map (λ site. map (λ it. decision_of None it.number it.expression) (controlling site.number site.node)) (sites unit)
+
+abbrev pub clauses : c.Unit → List Test
+clauses unit = flat_map (λ site. flat_map (λ it. clauses_of None it.number it.expression) (controlling site.number site.node)) (sites unit)
 
 -- ---- expressions made of clauses
 
@@ -53,7 +74,7 @@ one = c.Constant (codes "1")
 
 -- the clauses of a decision that has no marks
 abbrev pub clause_list : c.Expression → List c.Expression
-clause_list d = map (λ it. it.expression) (clauses_of 0 d)
+clause_list d = map (λ it. it.core.expression) (clauses_of None 0 d)
 
 -- A conjunction that goes on with each of these clauses or its negation, all true first, the last changing fastest.
 abbrev pub conjunctions_from : c.Expression → List c.Expression → List c.Expression
@@ -66,7 +87,7 @@ conjunctions [] = []
 conjunctions (e ∷ es) = conjunctions_from e es ++ conjunctions_from (negation e) es
 
 abbrev pub clause_count : c.Expression → ℕ
-clause_count d = length (clauses_of 0 d)
+clause_count d = length (clauses_of None 0 d)
 
 -- a decision without marks whose clause of this number, from 0, is replaced
 abbrev pub with_clause : ℕ → c.Expression → c.Expression → c.Expression

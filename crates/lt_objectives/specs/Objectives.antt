@@ -1,6 +1,6 @@
 -- The objectives of each criterion, in the order of a walk from parent to child: where each stands, in which form, with which predicate and tag.
 use Rattle.std.specs.Prelude.{ℕ, suc, ◌+◌, ◌==◌, nat_le, Bool, true, false, not, ◌&&◌, if◌then◌else◌, List, [], ◌∷◌, ◌++◌, length, map, slice_get, Option, Some, None}
-use Rattle.std.specs.List.{flat_map, list_any}
+use Rattle.std.specs.List.{flat_map}
 use Rattle.lt_model.specs.declared.operator.Op.TheVariants as O
 use Rattle.lt_model.specs.declared.scalar.DataModel.{DataModel}
 use Rattle.lt_tree.specs.Tree as c
@@ -13,8 +13,8 @@ use Rattle.lt_tree.specs.Typing.Programs.{Program}
 use Rattle.lt_objectives.specs.declared.criteria.Criterion.{Criterion}
 use Rattle.lt_objectives.specs.declared.criteria.Criterion.TheVariants as C
 use Rattle.lt_objectives.specs.Criteria.{tag_of}
-use Rattle.lt_objectives.specs.Places.{Site, sites, Part, is_at, value_part, corresponding_node, type_at, is_open, is_value_position}
-use Rattle.lt_objectives.specs.Decisions.{decisions, clauses, one, zero_constant, negation, inequality, clause_list, conjunctions, active_clauses, has_few_clauses}
+use Rattle.lt_objectives.specs.Places.{Site, sites, is_at, value_part, corresponding_node, type_at, is_open, is_value_position}
+use Rattle.lt_objectives.specs.Decisions.{Test, decisions, clauses, one, zero_constant, negation, inequality, clause_list, conjunctions, active_clauses, has_few_clauses}
 use Rattle.lt_objectives.specs.Mutants.{is_signed_integer, absolute_mutants, arithmetic_mutants, connector_mutants, relational_mutants}
 
 pub data Form : Type 0 where
@@ -69,25 +69,28 @@ at_body unit program _ k = []
 
 -- ---- at decisions and clauses
 
-abbrev pub has_part_at : List Part → ℕ → Bool
-has_part_at parts k = list_any (is_at k) parts
+-- the test at this number, if there is one: the number of what a new `pc_decide` stands around
+abbrev pub decided_at : List Test → ℕ → Option ℕ
+decided_at [] k = None
+decided_at (it ∷ rest) k = if is_at k it.core then Some it.decided else decided_at rest k
 
 -- both truths of an expression: two labels if it is pure, else a `pc_decide`
-abbrev pub both_truths : Criterion → ℕ → c.Expression → List Objective
-both_truths criterion k e =
-    if is_pure e then all_at k in_front criterion (e ∷ negation e ∷ []) else objective k around criterion e ∷ []
+abbrev pub both_truths : Criterion → ℕ → (decided : ℕ) → c.Expression → List Objective
+both_truths criterion k decided e =
+    if is_pure e then all_at k in_front criterion (e ∷ negation e ∷ []) else objective decided around criterion e ∷ []
 
 -- the combinations of the clauses of a pure decision
 abbrev pub combinations : Criterion → ℕ → (c.Expression → List c.Expression) → c.Expression → List Objective
 combinations criterion k predicates d = if is_pure d && has_few_clauses d then all_at k in_front criterion (predicates d) else []
 
--- the objectives of a criterion at an expression, without its marks, that is a decision or a clause
-abbrev pub at_test : Criterion → (is_decision is_clause : Bool) → ℕ → c.Expression → List Objective
-at_test C.Decision true is_clause k e = both_truths C.Decision k e
-at_test C.Condition is_decision true k e = both_truths C.Condition k e
-at_test C.MultipleCondition true is_clause k e = combinations C.MultipleCondition k (λ d. conjunctions (clause_list d)) e
-at_test C.GeneralActiveClause true is_clause k e = combinations C.GeneralActiveClause k active_clauses e
-at_test _ is_decision is_clause k e = []
+-- The objectives of a criterion at an expression, without its marks, that is a decision or a clause; with the number of what a new `pc_decide` stands
+-- around.
+abbrev pub at_test : Criterion → (decision clause : Option ℕ) → ℕ → c.Expression → List Objective
+at_test C.Decision (Some decided) clause k e = both_truths C.Decision k decided e
+at_test C.Condition decision (Some decided) k e = both_truths C.Condition k decided e
+at_test C.MultipleCondition (Some decided) clause k e = combinations C.MultipleCondition k (λ d. conjunctions (clause_list d)) e
+at_test C.GeneralActiveClause (Some decided) clause k e = combinations C.GeneralActiveClause k active_clauses e
+at_test _ decision clause k e = []
 
 -- ---- at pure expressions in value positions
 
@@ -125,7 +128,7 @@ is_core e = true
 abbrev pub at_expression : c.Unit → Program → Criterion → ℕ → c.Expression → List Objective
 at_expression unit program criterion k e =
     if is_core e && is_open unit program k
-    then at_test criterion (has_part_at (decisions unit) k) (has_part_at (clauses unit) k) k (erased e) ++ differences unit program criterion k e else []
+    then at_test criterion (decided_at (decisions unit) k) (decided_at (clauses unit) k) k (erased e) ++ differences unit program criterion k e else []
 
 abbrev pub at_node : c.Unit → Program → Criterion → Site → List Objective
 at_node unit program criterion site =
