@@ -1,0 +1,9 @@
+mod Constants
+mod Clauses
+mod Equalities
+mod Mutants
+mod Domains
+mod Growing
+mod Parts
+mod Old
+mod Places

@@ -1,0 +1,72 @@
+-- That the predicates of objectives are typed where they stand, also where marks were put in front of them.
+use Rattle.std.specs.Prelude.{◌≡◌, ℕ, ◌+◌, ◌&&◌, Bool, true, List, [], ◌∷◌, map, Option}
+use Rattle.std.specs.List.{AllByRecursion}
+use Rattle.lt_model.specs.declared.scalar.DataModel.{DataModel}
+use Rattle.lt_model.specs.declared.operator.Op.{Op}
+use Rattle.lt_tree.specs.declared.expression.LogicalOp.{LogicalOp}
+use Rattle.lt_tree.specs.Tree as c
+use Rattle.lt_tree.specs.Purity.{is_pure}
+use Rattle.lt_tree.specs.Typing.Types.{CType, is_integer, is_pointer, is_scalar}
+use Rattle.lt_tree.specs.Typing.Entities.{Known, Fact}
+use Rattle.lt_tree.specs.Typing.Steps.{Goes}
+use Rattle.lt_tree.specs.Typing.Expressions.{Typed, as_value, own_type}
+use Rattle.lt_tree.specs.Typing.ExpressionTyping.{expression}
+use Rattle.lt_objectives.specs.declared.criteria.Criterion.{Criterion}
+use Rattle.lt_objectives.specs.Decisions.{negation, inequality, clause_list, conjunctions, active_clauses}
+use Rattle.lt_objectives.specs.Mutants.{is_signed_integer, pointer_relations, relations, with_others, absolute_mutants, arithmetic_mutants, connector_mutants, relational_mutants}
+use Rattle.lt_objectives.specs.Objectives.{domains, at_test}
+use Rattle.lt_mark_typing.specs.Placed.{IsThere}
+
+-- all of these are predicates where this is known
+abbrev pub ArePredicates : (ℕ → Bool) → List ℕ → Known → List c.Expression → Type 0
+ArePredicates new used known list = AllByRecursion (IsThere is_scalar new used known) list
+
+-- A decision without marks whose clauses are predicates is one, and so are its negation, the conjunctions of its clauses, and what says that a clause
+-- determines it.
+abbrev pub DecisionsGivePredicates : Type 0
+DecisionsGivePredicates =
+    (new : ℕ → Bool) (used : List ℕ) (known : Known) (d : c.Expression) → is_pure d ≡ true → ArePredicates new used known (clause_list d)
+    → ArePredicates new used known (d ∷ negation d ∷ []) × ArePredicates new used known (conjunctions (clause_list d)) × ArePredicates new used known (active_clauses d)
+
+-- an expression and each of these differ
+abbrev pub differences_from : c.Expression → List c.Expression → List c.Expression
+differences_from e mutants = map (inequality e) mutants
+
+-- Where the operands of an operator are integers, or those of a connector scalars, that it and each mutant differ is a predicate; so it is of an
+-- equality, also of pointers, and of an integer expression and what is made of its absolute value.
+abbrev pub MutantsGivePredicates : Type 0
+MutantsGivePredicates =
+    (new : ℕ → Bool) (used : List ℕ) (known : Known) (model : DataModel) (t u : CType) (op : Op) (connector : LogicalOp) (left right e : c.Expression)
+    → (IsThere is_integer new used known left → IsThere is_integer new used known right
+    → ArePredicates new used known (differences_from (c.Binary op left right) (arithmetic_mutants t u (c.Binary op left right)))
+    × ArePredicates new used known (differences_from (c.Binary op left right) (with_others relations op left right)))
+    × (IsThere is_integer new used known (c.Binary op left right) → ArePredicates new used known (differences_from (c.Binary op left right) (with_others pointer_relations op left right)))
+    × (IsThere is_scalar new used known left → IsThere is_scalar new used known right
+    → ArePredicates new used known (differences_from (c.Logical connector left right) (connector_mutants (c.Logical connector left right))))
+    × (IsThere is_integer new used known e → ArePredicates new used known (differences_from e (absolute_mutants model t e)))
+
+-- A parameter that is an integer, or a pointer, as its type says.
+abbrev pub DomainsGivePredicates : Type 0
+DomainsGivePredicates =
+    (new : ℕ → Bool) (used : List ℕ) (known : Known) (model : DataModel) (t : CType) (e : c.Expression)
+    → (is_integer t ≡ true → IsThere is_integer new used known e) → (is_pointer t ≡ true → IsThere is_pointer new used known e)
+    → ArePredicates new used known (domains model t e)
+
+-- the operands of an operator are integers where it stands
+abbrev pub TakesIntegers : Known → c.Expression → Type 0
+TakesIntegers known (c.Binary op left right) =
+    (x y : Typed) (k j : Known) → expression left as_value (record known { next = known.next + 1 }) ≡ Goes x k → expression right as_value k ≡ Goes y j
+    → is_integer (own_type x) && is_integer (own_type y) ≡ true
+TakesIntegers known e = Unit {0}
+
+-- Where a pure expression is typed, and nothing is found but facts, the objectives at it have predicates: as a decision or a clause, if it is a
+-- scalar; and with its mutants, if the types by which these are made say of it and its operands no more than that they are integers which are such.
+abbrev pub ObjectivesHavePredicates : Type 0
+ObjectivesHavePredicates =
+    (new : ℕ → Bool) (used : List ℕ) (known : Known) (e : c.Expression) (x : Typed) (next : ℕ) (facts : List Fact)
+    → is_pure e ≡ true → expression e as_value known ≡ Goes x (record known { next = next; facts = facts })
+    → (is_scalar (own_type x) ≡ true → (criterion : Criterion) (decision clause : Option ℕ) (k : ℕ) → ArePredicates new used known (map (λ it. it.predicate) (at_test criterion decision clause k e)))
+    × ((model : DataModel) (t : CType) → (is_signed_integer model t ≡ true → is_integer (own_type x) ≡ true) → ArePredicates new used known (differences_from e (absolute_mutants model t e)))
+    × ArePredicates new used known (differences_from e (connector_mutants e))
+    × ((t u : CType) → (is_integer t && is_integer u ≡ true → TakesIntegers known e)
+    → ArePredicates new used known (differences_from e (arithmetic_mutants t u e)) × ArePredicates new used known (differences_from e (relational_mutants t u e)))

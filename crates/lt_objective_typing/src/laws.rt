@@ -1,0 +1,23 @@
+//! Laws of the definitions; the functions do nothing.
+
+ghost use Rattle.lt_objective_typing.specs.Laws.{DecisionsGivePredicates, DomainsGivePredicates, MutantsGivePredicates, ObjectivesHavePredicates};
+
+/// What criteria make of a decision whose clauses are predicates is a predicate.
+pub fn decisions_give_predicates()
+    ensures { DecisionsGivePredicates }
+{}
+
+/// That an expression and its mutant differ is a predicate, where their operands are typed.
+pub fn mutants_give_predicates()
+    ensures { MutantsGivePredicates }
+{}
+
+/// The parts of the domain of a parameter are predicates.
+pub fn domains_give_predicates()
+    ensures { DomainsGivePredicates }
+{}
+
+/// The objectives at a pure expression that is typed where it stands have predicates.
+pub fn objectives_have_predicates()
+    ensures { ObjectivesHavePredicates }
+{}

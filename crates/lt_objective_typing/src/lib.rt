@@ -1,0 +1,9 @@
+// The predicates of objectives are typed where they stand: `specs/Laws.antt` says when.
+#![tactic(auto)]
+
+mod laws;
+
+pub use laws::{
+    decisions_give_predicates, domains_give_predicates, mutants_give_predicates,
+    objectives_have_predicates,
+};
