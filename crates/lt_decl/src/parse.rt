@@ -45,7 +45,7 @@ pub fn parse_unit(alloc: Global, tokens: &Tokens) -> Result<Parsed, ParseStop>
 
 /// The same, where the tokens are given up before the unit is read: the tokens of a large text take much memory.
 pub fn parse_into_unit(alloc: Global, tokens: Tokens) -> Result<Parsed, ParseStop>
-    ensures { IsUnitOf tokens result }
+    ensures { IsUnitOf tokens.entry result }
 {
     let symbols = symbols_of(alloc, tokens.list.as_slice())?;
     let length = tokens.length;
