@@ -118,7 +118,6 @@ pub(crate) fn labels(parser: &mut Parser, mut depth: usize) -> Result<Vec<Label>
     'more: loop {
         depth = deeper(depth)?;
         if !begins_label(parser) {
-            labels.shrink_to_fit();
             return Ok(labels);
         }
         let one = label(parser, depth)?;

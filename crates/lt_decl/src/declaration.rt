@@ -64,7 +64,6 @@ pub(crate) fn declarators(
         list.push(one)?;
         if !parser.sees(Terminal::Comma) {
             parser.expect(Terminal::Semicolon)?;
-            list.shrink_to_fit();
             return Ok(list);
         }
         parser.advance();

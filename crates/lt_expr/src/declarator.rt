@@ -85,7 +85,6 @@ impl<'a> Parser<'a> {
         'more: loop {
             depth = deeper(depth)?;
             if !self.begins_suffix() {
-                parts.shrink_to_fit();
                 return Ok(parts);
             }
             let part = self.suffix(depth)?;

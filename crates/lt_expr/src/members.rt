@@ -24,7 +24,6 @@ impl<'a> Parser<'a> {
             depth = deeper(depth)?;
             if self.sees(Terminal::CloseBrace) {
                 self.advance();
-                members.shrink_to_fit();
                 return Ok(members);
             }
             let member = self.member(depth)?;
@@ -71,7 +70,6 @@ impl<'a> Parser<'a> {
             declarators.push(MemberDeclarator { declarator, width })?;
             if !self.sees(Terminal::Comma) {
                 self.expect(Terminal::Semicolon)?;
-                declarators.shrink_to_fit();
                 return Ok(declarators);
             }
             self.advance();

@@ -127,7 +127,8 @@ pub cases-returns-then-sees : goal.cases-returns-then-sees
 cases-returns-then-sees t c = (
   stopped (λ xs. cases_before (cases_in xs)) reading.cases cases_in c.more.cases.items _ _ _ _ _ _ _
       (closed_rest c.advance.new.self c.close_list.new.self c.open_list-around.result c.close_list.ensures ∙ c.advance.ensures.rest) c.in_ok-depth.ensures
-      (cases_end c.more.cases.items _ _ _ (sym c.sees.ensures ∙ c.if-sees.true)) c.more.invariant.read,
+      (cases_end c.more.cases.items _ _ _ (sym c.sees.ensures ∙ c.if-sees.true)) c.more.invariant.read
+      ∙ ap (λ xs. Some (cases_in xs, rest_of c.close_list.new.self)) (sym c.shrink_to_fit.ensures.items),
   closed c.args.parser.now c.advance.new.self _ _ (within_on _ _ _ c.more.invariant.within c.advance.ensures.on) c.more.invariant.around c.close_list.ensures,
 )
 
@@ -161,7 +162,8 @@ pub items-returns-then-sees : goal.items-returns-then-sees
 items-returns-then-sees t c = (
   stopped (λ xs. items_before (items_in xs)) reading.items items_in c.more.items.items _ _ _ _ _ _ _
       (closed_rest c.advance.new.self c.close_list.new.self c.open_list-around.result c.close_list.ensures ∙ c.advance.ensures.rest) c.in_ok-depth.ensures
-      (items_end c.more.items.items _ _ _ (sym c.sees.ensures ∙ c.if-sees.true)) c.more.invariant.read,
+      (items_end c.more.items.items _ _ _ (sym c.sees.ensures ∙ c.if-sees.true)) c.more.invariant.read
+      ∙ ap (λ xs. Some (items_in xs, rest_of c.close_list.new.self)) (sym c.shrink_to_fit.ensures.items),
   closed c.args.parser.now c.advance.new.self _ _ (within_on _ _ _ c.more.invariant.within c.advance.ensures.on) c.more.invariant.around c.close_list.ensures,
 )
 
