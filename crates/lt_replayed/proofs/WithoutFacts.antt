@@ -27,7 +27,7 @@ pub in_range_without_facts : (at : List CType) (structs : List StructType) (obje
 in_range_without_facts at structs objects declared functions file types labels facts none is all =
     subst (λ them. ReferInRange at structs objects declared functions file types labels them) (sym is)
     (behind (IsThere (lists_at at structs objects declared labels)) (flat_map in_struct (structs_of at structs) ++ flat_map in_object (map (object_of at) objects) ++ flat_map in_declared (map (declared_of at) declared) ++ flat_map in_function (map (function_of at) functions) ++ in_frame (frame_of at file) ++ flat_map in_type (map (type_in at) types))
-     (flat_map in_fact (map (fact_of at) facts)) [] (λ facts_are. tt) all)
+    (flat_map in_fact (map (fact_of at) facts)) [] (λ facts_are. tt) all)
 
 pub rows_without_facts : (rows : ℕ) (structs : List StructType) (objects : List Object) (declared : List Declared) (functions : List Function) (file : Frame) (types : List TypeId) (facts none : List Fact) → none ≡ []
     → AreBelow rows (ids_among structs objects declared functions file types facts) → AreBelow rows (ids_among structs objects declared functions file types none)
