@@ -4,4 +4,4 @@ pub mod Reading
 pub mod Merging
 pub mod Stages
 mod Stopped
-mod Tasks
+mod Entries

@@ -5,7 +5,7 @@ use Rattle.lt_sources.specs.Views.{sources_of}
 use Rattle.ltest.proofs.Merging.{programmed, specified, suited}
 use Rattle.ltest.proofs.Reading.{names_differ}
 use Rattle.ltest.proofs.Stages.{at_specification, at_suite, at_old}
-use Rattle.ltest.proofs.Tasks.{bounded_entry}
+use Rattle.ltest.proofs.Entries.{bounded_entry}
 use Rattle.ltest.proofs.tasks.task_of.Goals as goal
 
 pub returns-in_err-specification : goal.returns-in_err-specification
