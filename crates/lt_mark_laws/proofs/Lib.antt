@@ -1,3 +1,4 @@
+mod Cells
 mod Alike
 mod Machine
 mod Values
@@ -5,6 +6,7 @@ mod Expressions
 mod Objects
 mod Statements
 pub mod Runs
+pub mod TypeLists
 pub mod Itself
 mod Truths
 mod Pure

@@ -11,5 +11,6 @@ mod Declared
 mod Initialisers
 mod Statements
 mod Units
+mod TypesOfObjects
 pub mod Predicates
 pub mod Quiet

@@ -124,7 +124,7 @@ module _ {new : ℕ → Bool} where
 
 -- ---- runs
 
-functions_length : (new : ℕ → Bool) (fs gs : List Function) → AddsFunctions new fs gs → length gs ≡ length fs
+pub functions_length : (new : ℕ → Bool) (fs gs : List Function) → AddsFunctions new fs gs → length gs ≡ length fs
 functions_length new [] [] h = refl
 functions_length new (f ∷ fs) (g ∷ gs) h = ap suc (functions_length new fs gs h.1)
 functions_length new [] (g ∷ gs) h = absurd h
@@ -133,7 +133,7 @@ functions_length new (f ∷ fs) [] h = absurd h
 some_is : {f g : Function} → Some f ≡ Some g → f ≡ g
 some_is e = cc
 
-function_at : (new : ℕ → Bool) (fs gs : List Function) → AddsFunctions new fs gs → (n : ℕ) (f g : Function) → slice_get fs n ≡ Some f → slice_get gs n ≡ Some g → AddsFunction new f g
+pub function_at : (new : ℕ → Bool) (fs gs : List Function) → AddsFunctions new fs gs → (n : ℕ) (f g : Function) → slice_get fs n ≡ Some f → slice_get gs n ≡ Some g → AddsFunction new f g
 function_at new (x ∷ fs) (y ∷ gs) h zero f g p q = subst (λ it. AddsFunction new it g) (some_is p) (subst (λ it. AddsFunction new x it) (some_is q) h.0)
 function_at new (x ∷ fs) (y ∷ gs) h (suc n) f g p q = function_at new fs gs h.1 n f g p q
 function_at new [] [] h n f g p q = absurd cc

@@ -1,5 +1,6 @@
 -- That what is marked is typed again.
-use Rattle.std.specs.Prelude.{◌≡◌, ℕ, Bool, true, List, [], length, slice_get, filter_map, Some}
+use Rattle.std.specs.Prelude.{◌≡◌, ℕ, Bool, true, List, [], ◌++◌, length, slice_get, filter_map, Some}
+use Rattle.std.specs.List.{flat_map}
 use Rattle.lt_model.specs.declared.scalar.DataModel.{DataModel}
 use Rattle.lt_model.specs.declared.operator.Op.{Op}
 use Rattle.lt_model.specs.declared.input.Input.{Input}
@@ -10,17 +11,18 @@ use Rattle.lt_tree.specs.Typing.Types.{CType, is_scalar, is_integer}
 use Rattle.lt_tree.specs.Purity.{is_pure}
 use Rattle.lt_tree.specs.Nodes.{in_expression}
 use Rattle.lt_tree.specs.Typing.Steps.{Goes}
-use Rattle.lt_tree.specs.Typing.Entities.{Known, Function, Fact, an_object, meaning_of, at_start}
+use Rattle.lt_tree.specs.Typing.Entities.{Known, Object, Function, Fact, an_object, meaning_of, at_start}
 use Rattle.lt_tree.specs.Typing.Expressions.{Typed, Use, as_value, own_type, as_it_is_read, faults_of_any}
 use Rattle.lt_tree.specs.Typing.Constants.{TypedConstant, constant_of}
 use Rattle.lt_tree.specs.Typing.Operations.{object_named}
 use Rattle.lt_tree.specs.Typing.ExpressionTyping.{expression}
 use Rattle.lt_tree.specs.Typing.StatementTyping.{Around, statement, items}
 use Rattle.lt_tree.specs.Typing.UnitTyping.{defined_in, IsProgramOf}
-use Rattle.lt_tree.specs.Typing.Programs.{Program}
+use Rattle.lt_tree.specs.Typing.Programs.{Program, made_of, with_new, types_of_struct}
 use Rattle.lt_meaning.specs.Runs.{run}
 use Rattle.lt_mark_laws.specs.Added.{AddsStatement, AddsItems, AddsProgram}
 use Rattle.lt_mark_laws.specs.Laws.{AreAlike}
+use Rattle.lt_mark_laws.specs.TypeLists.{AreBelow}
 use Rattle.lt_mark_typing.specs.Beside.{IsBeside, Position, use_of, AddsAt, Follows}
 use Rattle.lt_mark_typing.specs.Placed.{AreOld, IsThere, AddsTo}
 use Rattle.lt_mark_typing.specs.PlacedItems.{AddsToStatement, AddsToItems}
@@ -66,6 +68,21 @@ MarkedUnitsRunAlike =
     → (other : Program) × IsProgramOf model marked other × (length other.functions ≡ length program.functions)
     × ((n : ℕ) (f g : Function) (input : Input) (ticks : ℕ) → slice_get program.functions n ≡ Some f → slice_get other.functions n ≡ Some g
     → AreAlike new (run (record program { types = other.types }) f input ticks) (run other g input ticks))
+
+-- the types of which members and objects are made, each once: the list of types begins with them
+abbrev pub types_of_objects : Program → List CType
+types_of_objects program = with_new [] (flat_map types_of_struct program.structs ++ flat_map (λ (object : Object). made_of object.type) program.objects)
+
+-- And as that of the unit does, where the blocks of the input have cells of the types of objects: the numbers of these are the same in both programs, and
+-- accesses by others meet no cells.
+abbrev pub MarkedUnitsRunTheSame : Type 0
+MarkedUnitsRunTheSame =
+    (new : ℕ → Bool) (model : DataModel) (unit marked : c.Unit) (after : List ℕ) (program : Program)
+    → AddsToUnit new [] after (at_start model (filter_map defined_in unit)) unit marked → filter_map defined_in marked ≡ filter_map defined_in unit
+    → IsProgramOf model unit program
+    → (other : Program) × IsProgramOf model marked other × (length other.functions ≡ length program.functions)
+    × ((n : ℕ) (f g : Function) (input : Input) (ticks : ℕ) → slice_get program.functions n ≡ Some f → slice_get other.functions n ≡ Some g
+    → AreBelow (length (types_of_objects program)) input.blocks → AreAlike new (run program f input ticks) (run other g input ticks))
 
 -- What is made of predicates is one: negations and `&&` and `||` of scalars, and `-`, `?:` and other operators of integers. Constants are predicates, and
 -- so are names of objects that break no rule where they are read.

@@ -1,6 +1,6 @@
 //! Laws of the definitions; the functions do nothing.
 
-ghost use Rattle.lt_mark_typing.specs.Laws.{ExpressionsAreTypedAgain, MarkedUnitsRunAlike, OthersAreTypedAlike, PredicatesAreMade, PureExpressionsAreThere, StatementsAreTypedAgain, UnitsAreTypedAgain};
+ghost use Rattle.lt_mark_typing.specs.Laws.{ExpressionsAreTypedAgain, MarkedUnitsRunAlike, MarkedUnitsRunTheSame, OthersAreTypedAlike, PredicatesAreMade, PureExpressionsAreThere, StatementsAreTypedAgain, UnitsAreTypedAgain};
 
 /// An expression with marks added, each where it may stand, is typed as the typed expression with these marks added.
 pub fn expressions_are_typed_again()
@@ -22,9 +22,15 @@ pub fn units_are_typed_again()
     ensures { UnitsAreTypedAgain }
 {}
 
-/// A unit with marks added, each where it may stand, runs as the unit does, new marks aside.
+/// A unit with marks added, each where it may stand, runs as the unit does where types have the same numbers, new marks
+/// aside.
 pub fn marked_units_run_alike()
     ensures { MarkedUnitsRunAlike }
+{}
+
+/// It runs as the unit does, new marks aside, on inputs whose blocks have cells of the types of objects.
+pub fn marked_units_run_the_same()
+    ensures { MarkedUnitsRunTheSame }
 {}
 
 /// What negations, `&&`, `||`, `-`, `?:` and operators on integers make of predicates is one.
