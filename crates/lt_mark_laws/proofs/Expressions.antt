@@ -33,7 +33,7 @@ use Rattle.lt_mark_laws.specs.Added.{AreNew, can_be_marked, Adds, AddsAll, AddsP
 use Rattle.lt_mark_laws.proofs.Cells.{MeetAlike, alike, cells_met_alike}
 use Rattle.lt_mark_laws.proofs.Alike.{remarked, Comparison, AlikeAt, Alike, Same, same_at, alike_then, then_same, gives_same, over_same, defined_same, if_same, quietly_same, one_more_alike, a_new_alike}
 use Rattle.lt_mark_laws.proofs.Machine.{number_same, address_same, used_same, truth_same, apart_same, aimed_same, reads_same, loaded_like, aimed_like, stored_like, copied_same, moved_same, member_same, applied_same, counted_same, compared_same, place_same}
-use Rattle.lt_mark_laws.proofs.Values.{parts_behind, truth_of, same_type, fate_alone, late_alone, truth_then, new_mark_at, old_mark_at, decided_same, marked_new_at, behind_new}
+use Rattle.lt_mark_laws.proofs.Values.{parts_behind, truth_of, same_type, last_alone, fate_alone, late_alone, truth_then, new_mark_at, old_mark_at, decided_same, marked_new_at, behind_new}
 
 -- What differs between a program P and one with marks added: all but its model and its structs. Accesses meet alike by the types of both, and structs have the
 -- same cells.
@@ -183,6 +183,10 @@ module _ (seen : Comparison) (P : Program) (u : SourceUnit) (ds : List Declared)
     value_same k (a.Marked d1 d2) fate = record { alike = λ at ms h. same_at seen _ _ _ _ (value_same k d2 (of_last fate)) (marks_same k d1 at (remarked ms at) (refl, h)) }
     value_same k (a.Decide {v} {w} {when_true = p} {when_false = q} d) fate = truth_then seen (eval (here k) wanted v) (eval (there k) wanted w) (λ b f at. Gives (valued (of_truth b) f) (marks q (not b) [] (marks p b [] at))) (λ b f at. Gives (valued (of_truth b) f) (marks q (not b) [] (marks p b [] at))) (truth_part k d) (λ b f. record { alike = λ at ms h. (refl, old_mark_at seen _ _ q (not b) [] (old_mark_at seen at (remarked ms at) p b [] (refl, h))) })
     value_same k (a.After {t} {v} {w} {id} d) fate = then_same seen _ _ _ _ (value_same k d (of_last fate)) (λ x. record { alike = λ at ms h. (refl, old_mark_at seen at (remarked ms at) id true [] (refl, h)) })
+    value_same k (a.labels_after {ms = ms} {v} {w} {id} is_new d) fate =
+        then_same seen _ _ _ _ (subst (λ f. S (eval (here k) (of_last fate) v) (λ at. eval (there k) f w (marked_all (there k) ms at))) (sym (last_alone fate))
+        (behind_new seen (there k) ms (eval (here k) (of_last fate) v) (eval (there k) (of_last fate) w) is_new (value_same k d (of_last fate))))
+        (λ x. record { alike = λ at ns h. (refl, old_mark_at seen at (remarked ns at) id true [] (refl, h)) })
     value_same k (a.in_front {t} {ms} {v} {w} is_new free same d) fate = subst (λ s. S s (eval (there k) fate (e.Marked t ms w))) (fate_alone (here k) v fate free) (behind_new seen (there k) ms (eval (here k) (of_last fate) v) (eval (there k) (of_last fate) w) is_new (value_same k d (of_last fate)))
 
     pub lvalue_same : (k : Bool) {p q : Place} → AddsPlace new p q → S (place_of (here k) p) (place_of (there k) q)

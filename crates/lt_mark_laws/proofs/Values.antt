@@ -52,7 +52,7 @@ branch_alone dropped = refl
 branch_alone dropped_branch = refl
 branch_alone untaken = refl
 
-last_alone : (fate : Fate) → of_last (of_last fate) ≡ of_last fate
+pub last_alone : (fate : Fate) → of_last (of_last fate) ≡ of_last fate
 last_alone wanted = refl
 last_alone unconverted = refl
 last_alone dropped = refl

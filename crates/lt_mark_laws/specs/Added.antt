@@ -53,6 +53,8 @@ mutual
     Marked : {t : CType} {ms ns : Marks} {v w : Value} → AddsMarks new ms ns → Adds new v w → Adds new (e.Marked t ms v) (e.Marked t ns w)
     Decide : {t : CType} {v w : Value} {when_true when_false : ℕ} → AddsTruth new v w → Adds new (e.Decide t v when_true when_false) (e.Decide t w when_true when_false)
     After : {t : CType} {v w : Value} {id : ℕ} → Adds new v w → Adds new (e.After t v id) (e.After t w id)
+    -- labels in front of what stands in a `pc_after`, also of a call or a conversion: its value is taken and converted there
+    labels_after : {t u : CType} {ms : Marks} {v w : Value} {id : ℕ} → AreNew new ms → Adds new v w → Adds new (e.After t v id) (e.After t (e.Marked u ms w) id)
     -- labels in front of it
     in_front : {t : CType} {ms : Marks} {v w : Value} → AreNew new ms → can_be_marked v ≡ true → type_of v ≡ t → Adds new v w → Adds new v (e.Marked t ms w)
 

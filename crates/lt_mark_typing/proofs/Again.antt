@@ -15,8 +15,8 @@ use Rattle.lt_tree.specs.Typing.Rules.{Rule, unless, bad_mark, broken_if, floati
 use Rattle.lt_tree.specs.Typing.TypedTree as e
 use Rattle.lt_tree.specs.Typing.TypedTree.{Value, Marks, Mark, Bindings, type_of, before, after}
 use Rattle.lt_tree.specs.Typing.Entities.{Known}
-use Rattle.lt_tree.specs.Typing.Steps.{Outcome, Goes, Breaks, goes_on}
-use Rattle.lt_tree.specs.Typing.Expressions.{Form, a_value, Typed, Use, as_value, as_truth, as_place, as_callee, valued, own_type, value_in, Judged, used, fact_of, faults_of_any, has_floating, has_pointer_to_function, finish}
+use Rattle.lt_tree.specs.Typing.Steps.{Outcome, Goes, Breaks, goes_on, adds_label}
+use Rattle.lt_tree.specs.Typing.Expressions.{Form, a_value, Typed, Use, as_value, as_truth, as_place, as_callee, valued, own_type, value_in, as_it_is_read, Judged, used, fact_of, faults_of_any, has_floating, has_pointer_to_function, finish}
 use Rattle.lt_tree.specs.Typing.Operations.{judge_step, judge_member, judge_arrow, judge_index, judge_call, judge_cast}
 use Rattle.lt_tree.specs.Typing.BinaryOperations.{judge_binary, judge_logical, judge_conditional, judge_assignment, judge_comma}
 use Rattle.lt_tree.specs.Typing.MarkRules.{is_good_id, number_of_id, is_tag, is_good_decision, label_of, judge_decide, judge_marked, judge_after, inside_mark, is_lvalue_in_use}
@@ -211,6 +211,13 @@ module _ (new : ℕ → Bool) where
       by (inl t) = ap (is_good_type structs) t ∙ h
       by (inr t) = ap (is_good_type structs) t
 
+-- the second is the first with new labels in front of it
+abbrev IsUnder : (ℕ → Bool) → Typed → Typed → Type 0
+IsUnder new x z = (y : Typed) × (ms : Marks) × AreNew new ms × AddsTyped new x y × (z ≡ valued (e.Marked (own_type y) ms (value_in y)) varying y.erased)
+
+read_same : (x : Typed) (v : Value) → x.form ≡ a_value v → as_it_is_read x ≡ x
+read_same x v h = ap (λ f. as_it_is_read (record x { form = f })) h ∙ sym (ap (λ (f : Form). record x { form = f }) h)
+
 module _ {new : ℕ → Bool} where
   front_by : {used between last : List ℕ} {k l : Known} (labels : c.Marks) (other : c.Expression) {o : Outcome Typed} (position : Position) (role : Use)
       → k.is_unmarked ≡ false → ((x : Typed) (next : Known) → o ≡ Goes x next → IsNoNull position x × IsMarkable position x × (is_good_type next.structs (own_type x) ≡ true))
@@ -231,6 +238,41 @@ module _ {new : ℕ → Bool} where
         front_adds new x y found.0 position found.3 (f x m q).0 (f x m q).1 p,
         numbered_alone n.next (n.facts ++ fact_of l.next z ∷ []) b,
       )))
+
+  front_under : {used between last : List ℕ} {k l : Known} (labels : c.Marks) (other : c.Expression) {o : Outcome Typed} (role : Use)
+      → k.is_unmarked ≡ false → ((x : Typed) (next : Known) → o ≡ Goes x next → is_good_type next.structs (own_type x) ≡ true) → AreNewLabels new used between k labels
+      → ((j : Known) → IsBeside new between k j → Follows new last (AddsTyped new) o (expression other role j)) → IsBeside new used k l
+      → Follows new last (IsUnder new) o (goes_on (marks labels (record l { next = l.next + 1 })) (λ ts j. goes_on (expression other role j) (λ y j. finish l.next role (judge_marked ts y) j)))
+  unfolding judge_marked
+  front_under {used} {between} {last} {k} {l} labels other {o} role u f are h b =
+      let found = new_labels labels u are (numbered_alone (l.next + 1) l.facts b) in
+      subst (λ it. Follows new last (IsUnder new) o (goes_on it (λ ts j. goes_on (expression other role j) (λ y j. finish l.next role (judge_marked ts y) j)))) (sym found.2)
+      (then_alone (h found.1 found.4) (λ x y m n q p b.
+      let z : Typed = valued (e.Marked (own_type y) found.0 (value_in y)) varying y.erased in (
+        z,
+        record n { facts = n.facts ++ fact_of l.next z ∷ [] },
+        finished_alone n l.next role (judge_marked found.0 y) refl (any_good n.structs role (e.Marked (own_type y) found.0 (value_in y)) varying y.erased
+            (ap (λ structs. is_good_type structs (own_type y)) (structs_same b) ∙ front_good new x y m.structs (in_use role) p (f x m q)))
+            ∙ ap (λ it. Goes it (record n { facts = n.facts ++ fact_of l.next z ∷ [] })) (used_value role (e.Marked (own_type y) found.0 (value_in y)) varying y.erased),
+        (y, found.0, found.3, p, refl),
+        numbered_alone n.next (n.facts ++ fact_of l.next z ∷ []) b,
+      )))
+
+  labels_adds : {t u : CType} {ms : Marks} {v w : Value} (id : ℕ) → u ≡ t → AreNew new ms → Adds new v w → Adds new (e.After t v id) (e.After u (e.Marked u ms w) id)
+  labels_adds {t} {u} {ms} {v} {w} id h is_new f = subst (λ it. Adds new (e.After t v id) (e.After it (e.Marked u ms w) id)) (sym h) (a.labels_after is_new f)
+
+  after_under : (x y : Typed) (ms : Marks) (v : Value) (role : Use) (id tag : List ℕ) (known : Known) → ((it : Typed) → is_lvalue_in_use role it ≡ false) → AreNew new ms → AddsTyped new x y → x.form ≡ a_value v
+      → AddsJudged new (judge_after role x id tag known) (judge_after role (valued (e.Marked (own_type y) ms (value_in y)) varying y.erased) id tag known)
+  unfolding judge_after
+  after_under x y ms v role id tag known s is_new p h = record {
+    faults = λ g. ap (λ it. unless (not it && not known.is_unmarked && is_good_id known id && is_tag tag) bad_mark) (s (valued (e.Marked (own_type y) ms (value_in y)) varying y.erased) ∙ sym (s x)) ∙ g;
+    typed = record {
+      form = subst (λ (it : Typed). AddsForm new (a_value (e.After (own_type it) (value_in it) (number_of_id id))) (a_value (e.After (own_type y) (e.Marked (own_type y) ms (value_in y)) (number_of_id id)))) (sym (read_same x v h))
+          (values (labels_adds (number_of_id id) (type_same (made p)) is_new (value_adds (made p))));
+      register = λ r. r;
+      constancy = inl refl;
+    };
+  }
 
   front : (position : Position) {used between last : List ℕ} {k l : Known} (labels : c.Marks) (it other : c.Expression) → takes_labels position ≡ true
       → k.is_unmarked ≡ false → ((x : Typed) (next : Known) → expression it (use_of position) k ≡ Goes x next → IsNoNull position x × IsMarkable position x × (is_good_type next.structs (own_type x) ≡ true))
@@ -311,6 +353,22 @@ module _ {new : ℕ → Bool} where
       (there (decide_same b as_truth y when_true when_false tag h g) (decide_adds when_true when_false tag m p)) b)
       (λ x y m n p b. goes p (label_beside (label_of when_false tag []) g (label_beside (label_of when_true tag []) h b)))))
 
+  -- a `pc_after` with new labels in front of what stands in it
+  after_labels : {used' between last : List ℕ} (position : Position) (role : Use) (k : Known) (id tag : List ℕ) (labels : c.Marks) (it other : c.Expression) → new (number_of_id id) ≡ false → k.is_unmarked ≡ false
+      → ((x : Typed) (next : Known) → expression it role (record k { next = k.next + 1 }) ≡ Goes x next → ((v : Value) × (x.form ≡ a_value v)) × (is_good_type next.structs (own_type x) ≡ true))
+      → AreNewLabels new used' between (record k { next = k.next + 1 }) labels → ((x : Typed) → is_lvalue_in_use role x ≡ false)
+      → ((j : Known) → IsBeside new between (record k { next = k.next + 1 }) j → Follows new last (AddsTyped new) (expression it role (record k { next = k.next + 1 })) (expression other role j)) → (l : Known) → IsBeside new used' k l
+      → Follows new last (MadeAt new position)
+      (goes_on (expression it role (record k { next = k.next + 1 })) (λ x m. goes_on (finish k.next (use_of position) (judge_after role x id tag m) m) (λ result j. goes_on (adds_label (label_of id tag []) j) (λ u j. Goes result j))))
+      (goes_on (goes_on (marks labels (record l { next = l.next + 1 + 1 })) (λ ts j. goes_on (expression other role j) (λ y j. finish (l.next + 1) role (judge_marked ts y) j)))
+      (λ x n. goes_on (finish l.next (use_of position) (judge_after role x id tag n) n) (λ result j. goes_on (adds_label (label_of id tag []) j) (λ u j. Goes result j))))
+  after_labels position role k id tag labels it other h u f are s d l b =
+      bind_at (front_under labels other role u (λ x m q. (f x m q).1) are d (entered_beside b)) (λ x z m n q r b.
+      bind (end_at position k.next l.next (judge_after role x id tag m) (judge_after role z id tag n)
+      (there (after_same b role z id tag h)
+      (subst (λ (z : Typed). AddsJudged new (judge_after role x id tag m) (judge_after role z id tag m)) (sym r.4) (after_under x r.0 r.1 (f x m q).0.0 role id tag m s r.2 r.3 (f x m q).0.1))) b)
+      (λ x y m n r b. goes r (label_beside (label_of id tag []) h b)))
+
   mutual
     pub of_to : {position : Position} {used' last : List ℕ} {k : Known} {it other : c.Expression} → AddsTo new position used' last k it other → {l : Known} → IsBeside new used' k l
         → Follows new last (AddsAt new position) (expression it (use_of position) k) (expression other (use_of position) l)
@@ -362,6 +420,11 @@ module _ {new : ℕ → Bool} where
     of_parts (p.After {position} {known = k} {id} {tag} h d) {l} b = bind (of_to d (entered_beside b)) (λ x y m n r b.
         bind (end_at position k.next l.next (judge_after (use_of position) x id tag m) (judge_after (use_of position) y id tag n) (there (after_same b (use_of position) y id tag h) (after_judged (use_of position) id tag m r)) b)
         (λ x y m n r b. goes r (label_beside (label_of id tag []) h b)))
+    of_parts (p.AfterLabels {position = in_use as_value} {known = k} {id} {tag} {labels} {d = v} {e = w} h t u f are d) {l} b = after_labels (in_use as_value) as_value k id tag labels v w h u f are (λ it. refl) (λ j b. of_to d b) l b
+    of_parts (p.AfterLabels {position = in_use as_truth} {known = k} {id} {tag} {labels} {d = v} {e = w} h t u f are d) {l} b = after_labels (in_use as_truth) as_truth k id tag labels v w h u f are (λ it. refl) (λ j b. of_to d b) l b
+    of_parts (p.AfterLabels {position = in_test} {known = k} {id} {tag} {labels} {d = v} {e = w} h t u f are d) {l} b = after_labels in_test as_truth k id tag labels v w h u f are (λ it. refl) (λ j b. of_to d b) l b
+    of_parts (p.AfterLabels {position = in_use as_place} h t u f are d) b = absurd (false≢true t)
+    of_parts (p.AfterLabels {position = in_use as_callee} h t u f are d) b = absurd (false≢true t)
 
     pub of_all : {used' last : List ℕ} {k : Known} {them others : c.Expressions} → AddsToAll new used' last k them others → {l : Known} → IsBeside new used' k l
         → Follows new last (AddsEach new) (expressions them k) (expressions others l)

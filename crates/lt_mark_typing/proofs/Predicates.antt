@@ -56,7 +56,7 @@ truth_role (c.Conditional test left right) h known = refl
 truth_role (c.Assign op target value) h known = refl
 truth_role (c.Comma list) h known = refl
 
-both_true : (a b : Bool) → a ≡ true → b ≡ true → a && b ≡ true
+pub both_true : (a b : Bool) → a ≡ true → b ≡ true → a && b ≡ true
 both_true true b h g = g
 both_true false b h g = absurd (false≢true h)
 

@@ -37,11 +37,11 @@ data Keeps {A : Type 0} (ls : List Label) (fs : List Function) (os : List Object
   went : {a : A} {known : Known} → Kept ls fs os known.labels known.functions known.objects → Keeps ls fs os (Goes a known)
   broke : {rule : Rule} {node : ℕ} → Keeps ls fs os (Breaks rule node)
 
-and_first : (a b : Bool) → a && b ≡ true → a ≡ true
+pub and_first : (a b : Bool) → a && b ≡ true → a ≡ true
 and_first true b h = refl
 and_first false b h = absurd (false≢true h)
 
-and_second : (a b : Bool) → a && b ≡ true → b ≡ true
+pub and_second : (a b : Bool) → a && b ≡ true → b ≡ true
 and_second true b h = h
 and_second false b h = absurd (false≢true h)
 

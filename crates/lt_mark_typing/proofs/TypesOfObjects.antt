@@ -17,8 +17,9 @@ use Rattle.lt_tree.specs.Typing.UnitTyping.{externals, defined_in, answer, typin
 use Rattle.lt_tree.specs.Typing.Programs.{Program, Typing, typed, made_of, with_new, types_of_struct, types_in, program_of}
 use Rattle.lt_mark_laws.specs.Added.{AddsProgram, AreSameObjects}
 use Rattle.lt_mark_laws.specs.TypeLists.{AreAmong, BeginAlike}
-use Rattle.lt_mark_laws.proofs.TypeLists.{numbers_change_nothing}
+use Rattle.lt_mark_laws.proofs.TypeLists.{all_first, all_second, numbers_change_nothing}
 use Rattle.lt_mark_typing.specs.Laws.{types_of_objects, MarkedUnitsRunTheSame}
+use Rattle.lt_mark_typing.proofs.Predicates.{both_true}
 use Rattle.lt_mark_typing.proofs.Units.{units, functions_length, function_at}
 
 -- ---- a type is the same as itself
@@ -40,9 +41,6 @@ scalar_itself S.ULLong = refl
 or_not : (b : Bool) → b || not b ≡ true
 or_not true = refl
 or_not false = refl
-
-both_true : (a b : Bool) → a ≡ true → b ≡ true → a && b ≡ true
-both_true a b h g = ap (λ x. x && b) h ∙ g
 
 included : (q : Qualifiers) → include q q ≡ true
 included q = both_true (q.constant || not q.constant) (q.volatile || not q.volatile) (or_not q.constant) (or_not q.volatile)
@@ -111,14 +109,6 @@ all_among (t ∷ ts) found =
     )
 
 -- ---- the types of a program
-
-all_first : {A : Type 0} (P : A → Type 0) (xs ys : List A) → AllByRecursion P (xs ++ ys) → AllByRecursion P xs
-all_first P [] ys h = tt
-all_first P (x ∷ xs) ys h = (h.0, all_first P xs ys h.1)
-
-all_second : {A : Type 0} (P : A → Type 0) (xs ys : List A) → AllByRecursion P (xs ++ ys) → AllByRecursion P ys
-all_second P [] ys h = h
-all_second P (x ∷ xs) ys h = all_second P xs ys h.1
 
 of_each : {A : Type 0} (first : List CType) (f : A → List CType) (xs : List A) → AreAmong first (flat_map f xs) → AllByRecursion (λ x. AreAmong first (f x)) xs
 of_each first f [] h = tt

@@ -187,6 +187,13 @@ mutual
     After : {position : Position} {used after : List ℕ} {known : Known} {id tag : List ℕ} {d e : c.Expression}
         → new (number_of_id id) ≡ false
         → AddsTo new (in_use (inside_after (use_of position))) used after (entered known) d e → AddsToParts new position used after known (c.After d id tag) (c.After e id tag)
+    -- labels in front of what stands in a `pc_after`, whatever it is
+    AfterLabels : {position : Position} {used between after : List ℕ} {known : Known} {id tag : List ℕ} {labels : c.Marks} {d e : c.Expression}
+        → new (number_of_id id) ≡ false → takes_labels position ≡ true → known.is_unmarked ≡ false
+        → ((x : Typed) (next : Known) → expression d (use_of position) (entered known) ≡ Goes x next → ((v : Value) × (x.form ≡ a_value v)) × (is_good_type next.structs (own_type x) ≡ true))
+        → AreNewLabels new used between (entered known) labels
+        → AddsTo new (in_use (use_of position)) between after (entered known) d e
+        → AddsToParts new position used after known (c.After d id tag) (c.After (c.Marked labels e) id tag)
 
   pub data AddsToAll (new : ℕ → Bool) : List ℕ → List ℕ → Known → c.Expressions → c.Expressions → Type 0 where
     no_expressions : {used : List ℕ} {known : Known} → AddsToAll new used used known c.no_expressions c.no_expressions

@@ -14,34 +14,14 @@ use Rattle.lt_tree.specs.Purity.{is_pure}
 use Rattle.lt_tree.specs.Typing.Types.{is_integer, is_scalar}
 use Rattle.lt_tree.specs.Typing.Entities.{Known}
 use Rattle.lt_objectives.specs.Decisions.{Test, test_at, clauses_of, clause_list, clause_count, with_clause, determination, negation, conjunction, inequality, zero_constant, one, conjunctions_from, conjunctions, active_from, active_clauses}
+use Rattle.lt_mark_laws.proofs.TypeLists.{all_first, all_second, all_both}
 use Rattle.lt_mark_typing.specs.Placed.{IsThere}
+use Rattle.lt_mark_typing.proofs.Quiet.{and_first, and_second}
 use Rattle.lt_mark_typing.proofs.Predicates.{negated, connected, operated, integer_there}
 use Rattle.lt_objective_typing.specs.Laws.{ArePredicates, DecisionsGivePredicates}
 use Rattle.lt_objective_typing.proofs.Constants.{zero_there, one_there}
 
--- ---- lists
-
-pub all_first : {A : Type 0} (P : A → Type 0) (xs ys : List A) → AllByRecursion P (xs ++ ys) → AllByRecursion P xs
-all_first P [] ys h = tt
-all_first P (x ∷ xs) ys h = (h.0, all_first P xs ys h.1)
-
-pub all_second : {A : Type 0} (P : A → Type 0) (xs ys : List A) → AllByRecursion P (xs ++ ys) → AllByRecursion P ys
-all_second P [] ys h = h
-all_second P (x ∷ xs) ys h = all_second P xs ys h.1
-
-pub all_both : {A : Type 0} (P : A → Type 0) (xs ys : List A) → AllByRecursion P xs → AllByRecursion P ys → AllByRecursion P (xs ++ ys)
-all_both P [] ys h g = g
-all_both P (x ∷ xs) ys h g = (h.0, all_both P xs ys h.1 g)
-
 -- ---- the clauses of expressions without marks
-
-pub both_first : (a b : Bool) → a && b ≡ true → a ≡ true
-both_first true b h = refl
-both_first false b h = absurd (false≢true h)
-
-pub both_second : (a b : Bool) → a && b ≡ true → b ≡ true
-both_second true b h = h
-both_second false b h = absurd (false≢true h)
 
 abbrev pub expression_of : Test → c.Expression
 expression_of it = it.core.expression
@@ -74,7 +54,7 @@ clauses_in (c.SizeofExpr operand) h = alone (λ after k. refl) (λ n by. refl)
 clauses_in (c.SizeofType s d) h = alone (λ after k. refl) (λ n by. refl)
 clauses_in (c.Cast s d operand) h = alone (λ after k. refl) (λ n by. refl)
 clauses_in (c.Binary op left right) h = alone (λ after k. refl) (λ n by. refl)
-clauses_in (c.Logical op left right) h = two (clauses_in left (both_first (is_pure left) (is_pure right) h)) (clauses_in right (both_second (is_pure left) (is_pure right) h))
+clauses_in (c.Logical op left right) h = two (clauses_in left (and_first (is_pure left) (is_pure right) h)) (clauses_in right (and_second (is_pure left) (is_pure right) h))
 clauses_in (c.Conditional test left right) h = alone (λ after k. refl) (λ n by. refl)
 clauses_in (c.Assign op target value) h = absurd (false≢true h)
 clauses_in (c.Comma list) h = alone (λ after k. refl) (λ n by. refl)

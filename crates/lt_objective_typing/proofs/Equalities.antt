@@ -20,6 +20,7 @@ use Rattle.lt_tree.specs.Typing.BinaryOperations.{judge_binary, operand_faults, 
 use Rattle.lt_tree.specs.Typing.ExpressionTyping.{expression}
 use Rattle.lt_objectives.specs.Decisions.{zero_constant}
 use Rattle.lt_mark_typing.specs.Placed.{IsThere}
+use Rattle.lt_mark_typing.proofs.Predicates.{both_true}
 use Rattle.lt_mark_typing.proofs.Ends.{finished_alone}
 use Rattle.lt_mark_typing.proofs.NewMarks.{numbered_alone}
 use Rattle.lt_objective_typing.proofs.Constants.{zero_is}
@@ -27,10 +28,6 @@ use Rattle.lt_objective_typing.proofs.Constants.{zero_is}
 pub data Equality : Op → Type 0 where
   equal : Equality O.Eq
   unequal : Equality O.Ne
-
-both_true : (a b : Bool) → a ≡ true → b ≡ true → a && b ≡ true
-both_true true b h g = g
-both_true false b h g = absurd (false≢true h)
 
 third_true : (a b d : Bool) → d ≡ true → a || b || d ≡ true
 third_true true b d h = refl

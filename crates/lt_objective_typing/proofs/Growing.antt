@@ -16,6 +16,7 @@ use Rattle.lt_tree.specs.Typing.BinaryOperations.{judge_binary, judge_logical, j
 use Rattle.lt_tree.specs.Typing.Specifying.{Specified, is_register, Setting, elsewhere, is_alone, beside_words, struct_tagged}
 use Rattle.lt_tree.specs.Typing.Declarators.{Built, all_faults, setting_in_sizeof, is_written, type_name_faults, parameter_faults, binds_parameter}
 use Rattle.lt_tree.specs.Typing.NodeEnds.{judge_unary, text_object, operand_of, also, end_of_declarator, enter_if}
+use Rattle.lt_mark_typing.proofs.Quiet.{and_first, and_second}
 use Rattle.lt_tree.specs.Typing.ExpressionTyping.{expression, expressions, maybe, specifiers, type_specifiers, type_specifier, declarator, parts, parameters, parameter_list}
 
 -- ---- lists that have more behind them
@@ -69,14 +70,6 @@ then_grows {tags} {k} {j} {l} h g = record {
   structs = longer_then k.structs j.structs l.structs h.structs g.structs;
   frames = λ t e. let s = between k.structs j.structs l.structs h.structs g.structs e in g.frames t (e ∙ sym s) ∙ h.frames t s;
 }
-
-and_first : (a b : Bool) → a && b ≡ true → a ≡ true
-and_first true b h = refl
-and_first false b h = absurd (false≢true h)
-
-and_second : (a b : Bool) → a && b ≡ true → b ≡ true
-and_second true b h = h
-and_second false b h = absurd (false≢true h)
 
 module _ {tags : Bool} where
   still : (k : Known) → Grows tags k k

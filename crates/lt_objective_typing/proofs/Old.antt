@@ -6,14 +6,7 @@ use Rattle.lt_tree.specs.Tree as c
 use Rattle.lt_tree.specs.Purity.{is_pure, are_pure, is_pure_specifiers, are_pure_types, is_pure_type, is_pure_declarator, are_pure_parts, is_pure_maybe, are_pure_parameters, is_pure_parameter_list}
 use Rattle.lt_tree.specs.Nodes.{Node, if_written, in_expression, in_expressions, in_maybe, in_specifiers, in_types, in_type, in_declarator, in_parts, in_parameters, in_parameter_list}
 use Rattle.lt_mark_typing.specs.Placed.{AreOld}
-
-first : (a b : Bool) → a && b ≡ true → a ≡ true
-first true b h = refl
-first false b h = absurd (false≢true h)
-
-second : (a b : Bool) → a && b ≡ true → b ≡ true
-second true b h = h
-second false b h = absurd (false≢true h)
+use Rattle.lt_mark_typing.proofs.Quiet.{and_first, and_second}
 
 module _ (new : ℕ → Bool) where
   both : (xs ys : List Node) → AreOld new xs → AreOld new ys → AreOld new (xs ++ ys)
@@ -32,7 +25,7 @@ module _ (new : ℕ → Bool) where
     expression (c.Name w) p = (tt, tt)
     expression (c.Constant w) p = (tt, tt)
     expression (c.Text bytes) p = (tt, tt)
-    expression (c.Index whole index) p = (tt, both (in_expression whole) (in_expression index) (expression whole (first (is_pure whole) (is_pure index) p)) (expression index (second (is_pure whole) (is_pure index) p)))
+    expression (c.Index whole index) p = (tt, both (in_expression whole) (in_expression index) (expression whole (and_first (is_pure whole) (is_pure index) p)) (expression index (and_second (is_pure whole) (is_pure index) p)))
     expression (c.Call callee arguments) p = absurd (false≢true p)
     expression (c.Member whole w) p = (tt, expression whole p)
     expression (c.Arrow pointer w) p = (tt, expression pointer p)
@@ -42,22 +35,22 @@ module _ (new : ℕ → Bool) where
     expression (c.PreDec target) p = absurd (false≢true p)
     expression (c.Unary op operand) p = (tt, expression operand p)
     expression (c.SizeofExpr operand) p = (tt, expression operand p)
-    expression (c.SizeofType s d) p = (tt, both (in_specifiers s) (in_declarator d) (specifiers s (first (is_pure_specifiers s) (is_pure_declarator d) p)) (declarator d (second (is_pure_specifiers s) (is_pure_declarator d) p)))
+    expression (c.SizeofType s d) p = (tt, both (in_specifiers s) (in_declarator d) (specifiers s (and_first (is_pure_specifiers s) (is_pure_declarator d) p)) (declarator d (and_second (is_pure_specifiers s) (is_pure_declarator d) p)))
     expression (c.Cast s d operand) p =
-        let front = first (is_pure_specifiers s && is_pure_declarator d) (is_pure operand) p in (
+        let front = and_first (is_pure_specifiers s && is_pure_declarator d) (is_pure operand) p in (
           tt,
           both (in_specifiers s ++ in_declarator d) (in_expression operand)
-              (both (in_specifiers s) (in_declarator d) (specifiers s (first (is_pure_specifiers s) (is_pure_declarator d) front)) (declarator d (second (is_pure_specifiers s) (is_pure_declarator d) front)))
-              (expression operand (second (is_pure_specifiers s && is_pure_declarator d) (is_pure operand) p)),
+              (both (in_specifiers s) (in_declarator d) (specifiers s (and_first (is_pure_specifiers s) (is_pure_declarator d) front)) (declarator d (and_second (is_pure_specifiers s) (is_pure_declarator d) front)))
+              (expression operand (and_second (is_pure_specifiers s && is_pure_declarator d) (is_pure operand) p)),
         )
-    expression (c.Binary op left right) p = (tt, both (in_expression left) (in_expression right) (expression left (first (is_pure left) (is_pure right) p)) (expression right (second (is_pure left) (is_pure right) p)))
-    expression (c.Logical op left right) p = (tt, both (in_expression left) (in_expression right) (expression left (first (is_pure left) (is_pure right) p)) (expression right (second (is_pure left) (is_pure right) p)))
+    expression (c.Binary op left right) p = (tt, both (in_expression left) (in_expression right) (expression left (and_first (is_pure left) (is_pure right) p)) (expression right (and_second (is_pure left) (is_pure right) p)))
+    expression (c.Logical op left right) p = (tt, both (in_expression left) (in_expression right) (expression left (and_first (is_pure left) (is_pure right) p)) (expression right (and_second (is_pure left) (is_pure right) p)))
     expression (c.Conditional test left right) p =
-        let front = first (is_pure test && is_pure left) (is_pure right) p in (
+        let front = and_first (is_pure test && is_pure left) (is_pure right) p in (
           tt,
           both (in_expression test ++ in_expression left) (in_expression right)
-              (both (in_expression test) (in_expression left) (expression test (first (is_pure test) (is_pure left) front)) (expression left (second (is_pure test) (is_pure left) front)))
-              (expression right (second (is_pure test && is_pure left) (is_pure right) p)),
+              (both (in_expression test) (in_expression left) (expression test (and_first (is_pure test) (is_pure left) front)) (expression left (and_second (is_pure test) (is_pure left) front)))
+              (expression right (and_second (is_pure test && is_pure left) (is_pure right) p)),
         )
     expression (c.Assign op target value) p = absurd (false≢true p)
     expression (c.Comma list) p = (tt, expressions list p)
@@ -67,7 +60,7 @@ module _ (new : ℕ → Bool) where
 
     expressions : (them : c.Expressions) → are_pure them ≡ true → AreOld new (in_expressions them)
     expressions c.no_expressions p = tt
-    expressions (c.an_expression e es) p = both (in_expression e) (in_expressions es) (expression e (first (is_pure e) (are_pure es) p)) (expressions es (second (is_pure e) (are_pure es) p))
+    expressions (c.an_expression e es) p = both (in_expression e) (in_expressions es) (expression e (and_first (is_pure e) (are_pure es) p)) (expressions es (and_second (is_pure e) (are_pure es) p))
 
     maybe : (it : c.Maybe) → is_pure_maybe it ≡ true → AreOld new (in_maybe it)
     maybe c.absent p = tt
@@ -78,7 +71,7 @@ module _ (new : ℕ → Bool) where
 
     types_of : (them : c.TypeSpecifiers) → are_pure_types them ≡ true → AreOld new (in_types them)
     types_of c.no_types p = tt
-    types_of (c.a_type it rest) p = both (in_type it) (in_types rest) (type_of it (first (is_pure_type it) (are_pure_types rest) p)) (types_of rest (second (is_pure_type it) (are_pure_types rest) p))
+    types_of (c.a_type it rest) p = both (in_type it) (in_types rest) (type_of it (and_first (is_pure_type it) (are_pure_types rest) p)) (types_of rest (and_second (is_pure_type it) (are_pure_types rest) p))
 
     type_of : (it : c.TypeSpecifier) → is_pure_type it ≡ true → AreOld new (in_type it)
     type_of (c.Basic basic) p = tt
@@ -95,8 +88,8 @@ module _ (new : ℕ → Bool) where
     parts : (them : c.Parts) → are_pure_parts them ≡ true → AreOld new (in_parts them)
     parts c.no_parts p = tt
     parts (c.Pointer q rest) p = parts rest p
-    parts (c.Array length rest) p = both (in_maybe length) (in_parts rest) (maybe length (first (is_pure_maybe length) (are_pure_parts rest) p)) (parts rest (second (is_pure_maybe length) (are_pure_parts rest) p))
-    parts (c.Function them rest) p = both (in_parameters them) (in_parts rest) (parameters them (first (are_pure_parameters them) (are_pure_parts rest) p)) (parts rest (second (are_pure_parameters them) (are_pure_parts rest) p))
+    parts (c.Array length rest) p = both (in_maybe length) (in_parts rest) (maybe length (and_first (is_pure_maybe length) (are_pure_parts rest) p)) (parts rest (and_second (is_pure_maybe length) (are_pure_parts rest) p))
+    parts (c.Function them rest) p = both (in_parameters them) (in_parts rest) (parameters them (and_first (are_pure_parameters them) (are_pure_parts rest) p)) (parts rest (and_second (are_pure_parameters them) (are_pure_parts rest) p))
 
     parameters : (them : c.Parameters) → are_pure_parameters them ≡ true → AreOld new (in_parameters them)
     parameters c.Unstated p = tt
@@ -107,10 +100,10 @@ module _ (new : ℕ → Bool) where
     parameter_list : (them : c.ParameterList) → is_pure_parameter_list them ≡ true → AreOld new (in_parameter_list them)
     parameter_list c.no_parameters p = tt
     parameter_list (c.a_parameter s d rest) p =
-        let front = first (is_pure_specifiers s && is_pure_declarator d) (is_pure_parameter_list rest) p in
+        let front = and_first (is_pure_specifiers s && is_pure_declarator d) (is_pure_parameter_list rest) p in
         both (in_specifiers s ++ in_declarator d) (in_parameter_list rest)
-        (both (in_specifiers s) (in_declarator d) (specifiers s (first (is_pure_specifiers s) (is_pure_declarator d) front)) (declarator d (second (is_pure_specifiers s) (is_pure_declarator d) front)))
-        (parameter_list rest (second (is_pure_specifiers s && is_pure_declarator d) (is_pure_parameter_list rest) p))
+        (both (in_specifiers s) (in_declarator d) (specifiers s (and_first (is_pure_specifiers s) (is_pure_declarator d) front)) (declarator d (and_second (is_pure_specifiers s) (is_pure_declarator d) front)))
+        (parameter_list rest (and_second (is_pure_specifiers s && is_pure_declarator d) (is_pure_parameter_list rest) p))
 
   pub no_marks_in : (e : c.Expression) → is_pure e ≡ true → AreOld new (in_expression e)
   no_marks_in e p = expression e p

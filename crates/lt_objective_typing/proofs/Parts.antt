@@ -63,14 +63,6 @@ operand k rest z n facts (Goes x j) (went h) f e = by (rest x j) refl (f x j)
     by (Breaks rule node) q g = absurd (never (sym q ∙ e))
 operand k rest z n facts (Breaks rule node) h f e = absurd (never e)
 
-pub and_first : (a b : Bool) → a && b ≡ true → a ≡ true
-and_first true b h = refl
-and_first false b h = absurd (false≢true h)
-
-pub and_second : (a b : Bool) → a && b ≡ true → b ≡ true
-and_second true b h = h
-and_second false b h = absurd (false≢true h)
-
 module _ (new : ℕ → Bool) (used' : List ℕ) where
   beside_numbered : {k l : Known} (n : ℕ) (facts : List Fact) → IsBeside new used' k l → IsBeside new used' (record k { next = n; facts = facts }) l
   beside_numbered n facts b = record { same = b.same; objects = b.objects; functions = b.functions; labels = b.labels }

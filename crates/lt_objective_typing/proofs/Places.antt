@@ -25,11 +25,12 @@ use Rattle.lt_objectives.specs.declared.criteria.Criterion.TheVariants as C
 use Rattle.lt_objectives.specs.Decisions.{negation, clauses_of, clause_list, conjunctions, active_clauses, has_few_clauses}
 use Rattle.lt_objectives.specs.Mutants.{is_fitting, is_signed_integer, arithmetic_mutants, connector_mutants, relational_mutants}
 use Rattle.lt_objectives.specs.Objectives.{Form, in_front, around, Objective, objective, all_at, at_test}
+use Rattle.lt_mark_laws.proofs.TypeLists.{all_both}
 use Rattle.lt_mark_typing.specs.Placed.{AreOld, IsThere}
 use Rattle.lt_mark_typing.proofs.Unchanged.{old_first, old_second}
 use Rattle.lt_mark_typing.proofs.Predicates.{truth_role}
-use Rattle.lt_mark_typing.proofs.Quiet.{pure_there}
-use Rattle.lt_objective_typing.proofs.Clauses.{all_both, both_first, both_second, expression_of, Clauses, two, opposite, alone, clauses_in, clauses_same, clauses_of_two, of_decisions}
+use Rattle.lt_mark_typing.proofs.Quiet.{and_first, and_second, pure_there}
+use Rattle.lt_objective_typing.proofs.Clauses.{expression_of, Clauses, two, opposite, alone, clauses_in, clauses_same, clauses_of_two, of_decisions}
 use Rattle.lt_objective_typing.specs.Laws.{ArePredicates, differences_from, TakesIntegers, ObjectivesHavePredicates}
 use Rattle.lt_objective_typing.proofs.Equalities.{equality_is_integer}
 use Rattle.lt_objective_typing.proofs.Mutants.{arithmetic_if, relational_if, connectors, absolutes}
@@ -75,8 +76,8 @@ connected_parts : (op : LogicalOp) (left right : c.Expression) (k : Known) (z : 
     × GoesTo k (expression left as_value (inside k)) x m found × GoesTo k (expression right as_value (record k { next = m; facts = found })) y i others
     × (is_scalar (own_type x) ≡ true) × (is_scalar (own_type y) ≡ true)
 connected_parts op left right k z n facts p e =
-    let l = both_first (is_pure left) (is_pure right) p in
-    let r = both_second (is_pure left) (is_pure right) p in
+    let l = and_first (is_pure left) (is_pure right) p in
+    let r = and_second (is_pure left) (is_pure right) p in
     let it = both_operands k as_truth left right (λ x y j. finish k.next as_value (judge_logical op x y) j) z n facts l r (λ x y j. finished k.next as_value (judge_logical op x y) j) e in
     let later : Known = record k { next = it.4; facts = it.5 } in
     let scalars = truths_are_scalars op later k.next it.0 it.1 z (record k { next = n; facts = facts }) it.8 in (
@@ -88,8 +89,8 @@ connected_parts op left right k z n facts p e =
       it.5,
       sym (truth_role left l (inside k)) ∙ it.6,
       sym (truth_role right r (record k { next = it.2; facts = it.3 })) ∙ it.7,
-      both_first (is_scalar (own_type it.0)) (is_scalar (own_type it.1)) scalars,
-      both_second (is_scalar (own_type it.0)) (is_scalar (own_type it.1)) scalars,
+      and_first (is_scalar (own_type it.0)) (is_scalar (own_type it.1)) scalars,
+      and_second (is_scalar (own_type it.0)) (is_scalar (own_type it.1)) scalars,
     )
 
 negated_part : (e : c.Expression) (k : Known) (z : Typed) (n : ℕ) (facts : List Fact) → is_pure e ≡ true → GoesTo k (expression (c.Unary unary.Not e) as_value k) z n facts
@@ -108,7 +109,7 @@ binary_parts : (op : Op) (left right : c.Expression) (k : Known) (z : Typed) (n 
     × GoesTo k (expression left as_value (inside k)) x m found × GoesTo k (expression right as_value (record k { next = m; facts = found })) y i others
     × GoesTo k (finish k.next as_value (judge_binary op x y (record k { next = i; facts = others })) (record k { next = i; facts = others })) z n facts
 binary_parts op left right k z n facts p e =
-    both_operands k as_value left right (λ x y j. finish k.next as_value (judge_binary op x y j) j) z n facts (both_first (is_pure left) (is_pure right) p) (both_second (is_pure left) (is_pure right) p)
+    both_operands k as_value left right (λ x y j. finish k.next as_value (judge_binary op x y j) j) z n facts (and_first (is_pure left) (is_pure right) p) (and_second (is_pure left) (is_pure right) p)
     (λ x y j. finished k.next as_value (judge_binary op x y j) j) e
 
 module _ (new : ℕ → Bool) (used' : List ℕ) where
@@ -118,8 +119,8 @@ module _ (new : ℕ → Bool) (used' : List ℕ) where
       → AllByRecursion (IsThere is_scalar new used' k) (clause_list d)
   clauses_there (two {op} {left} {right} v w) k z n facts p h e t =
       let it = connected_parts op left right k z n facts p e in
-      let l = both_first (is_pure left) (is_pure right) p in
-      let r = both_second (is_pure left) (is_pure right) p in
+      let l = and_first (is_pure left) (is_pure right) p in
+      let r = and_second (is_pure left) (is_pure right) p in
       subst (AllByRecursion (IsThere is_scalar new used' k)) (sym (clauses_of_two op v w))
       (all_both (IsThere is_scalar new used' k) (clause_list left) (clause_list right)
       (all_numbered new used' is_scalar k (k.next + 1) k.facts (clause_list left) (clauses_there v (inside k) it.0 it.2 it.3 l (old_first new (in_expression left) (in_expression right) h.1) it.6 it.8))
@@ -137,10 +138,10 @@ module _ (new : ℕ → Bool) (used' : List ℕ) where
   integers_there op left right k z n facts p h e t =
       let it = binary_parts op left right k z n facts p e in
       let integers = t it.0 it.1 (record k { next = it.2; facts = it.3 }) (record k { next = it.4; facts = it.5 }) it.6 it.7 in (
-        typed_there new used' is_integer k (k.next + 1) k.facts left it.0 it.2 it.3 (both_first (is_pure left) (is_pure right) p) (old_first new (in_expression left) (in_expression right) h.1) it.6
-            (both_first (is_integer (own_type it.0)) (is_integer (own_type it.1)) integers),
-        typed_there new used' is_integer k it.2 it.3 right it.1 it.4 it.5 (both_second (is_pure left) (is_pure right) p) (old_second new (in_expression left) (in_expression right) h.1) it.7
-            (both_second (is_integer (own_type it.0)) (is_integer (own_type it.1)) integers),
+        typed_there new used' is_integer k (k.next + 1) k.facts left it.0 it.2 it.3 (and_first (is_pure left) (is_pure right) p) (old_first new (in_expression left) (in_expression right) h.1) it.6
+            (and_first (is_integer (own_type it.0)) (is_integer (own_type it.1)) integers),
+        typed_there new used' is_integer k it.2 it.3 right it.1 it.4 it.5 (and_second (is_pure left) (is_pure right) p) (old_second new (in_expression left) (in_expression right) h.1) it.7
+            (and_second (is_integer (own_type it.0)) (is_integer (own_type it.1)) integers),
       )
 
   equality_there : (op : Op) (left right : c.Expression) (k : Known) (z : Typed) (n : ℕ) (facts : List Fact) → is_pure (c.Binary op left right) ≡ true → AreOld new (in_expression (c.Binary op left right))
@@ -177,8 +178,8 @@ module _ (new : ℕ → Bool) (used' : List ℕ) where
       by (c.Logical op left right) connector p h q =
           let it = connected_parts op left right k z n facts p q in
           connectors new used' k op left right
-          (typed_there new used' is_scalar k (k.next + 1) k.facts left it.0 it.2 it.3 (both_first (is_pure left) (is_pure right) p) (old_first new (in_expression left) (in_expression right) h.1) it.6 it.8)
-          (typed_there new used' is_scalar k it.2 it.3 right it.1 it.4 it.5 (both_second (is_pure left) (is_pure right) p) (old_second new (in_expression left) (in_expression right) h.1) it.7 it.9)
+          (typed_there new used' is_scalar k (k.next + 1) k.facts left it.0 it.2 it.3 (and_first (is_pure left) (is_pure right) p) (old_first new (in_expression left) (in_expression right) h.1) it.6 it.8)
+          (typed_there new used' is_scalar k it.2 it.3 right it.1 it.4 it.5 (and_second (is_pure left) (is_pure right) p) (old_second new (in_expression left) (in_expression right) h.1) it.7 it.9)
       by e (other a r l) p h q = subst (λ list. ArePredicates new used' k (differences_from e list)) (sym l) tt
       by (c.Binary op left right) binary p h q = tt
 
@@ -227,7 +228,7 @@ of_objectives new used known e x next facts p q =
       λ s criterion decision clause place.
           let them = of_decisions new used known e p (clauses_there new used (clauses_in e p) known x next facts p h q s) in
           at_tests new used known criterion decision clause place e them.0 them.1 them.2,
-      λ model t f. absolutes new used known (is_fitting e && is_signed_integer model t) e (λ b. pure_there is_integer known e x next facts p h q (f (both_second (is_fitting e) (is_signed_integer model t) b))),
+      λ model t f. absolutes new used known (is_fitting e && is_signed_integer model t) e (λ b. pure_there is_integer known e x next facts p h q (f (and_second (is_fitting e) (is_signed_integer model t) b))),
       connector_there new used e known x next facts p h q,
       operator_mutants new used e known x next facts p h q,
     )
