@@ -7,3 +7,4 @@ mod Growing
 mod Parts
 mod Old
 mod Places
+mod Ids

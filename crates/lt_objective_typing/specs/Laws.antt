@@ -1,5 +1,5 @@
 -- That the predicates of objectives are typed where they stand, also where marks were put in front of them.
-use Rattle.std.specs.Prelude.{◌≡◌, ℕ, ◌+◌, ◌&&◌, Bool, true, List, [], ◌∷◌, map, Option}
+use Rattle.std.specs.Prelude.{◌≡◌, ◌≤◌, ◌<◌, ◌⊎◌, ℕ, suc, ◌+◌, ◌&&◌, Bool, true, false, List, [], ◌∷◌, length, map, Option}
 use Rattle.std.specs.List.{AllByRecursion}
 use Rattle.lt_model.specs.declared.scalar.DataModel.{DataModel}
 use Rattle.lt_model.specs.declared.operator.Op.{Op}
@@ -7,6 +7,7 @@ use Rattle.lt_tree.specs.declared.expression.LogicalOp.{LogicalOp}
 use Rattle.lt_tree.specs.Tree as c
 use Rattle.lt_tree.specs.Purity.{is_pure}
 use Rattle.lt_tree.specs.Typing.Types.{CType, is_integer, is_pointer, is_scalar}
+use Rattle.lt_tree.specs.Typing.MarkRules.{greatest_written_id}
 use Rattle.lt_tree.specs.Typing.Entities.{Known, Fact}
 use Rattle.lt_tree.specs.Typing.Steps.{Goes}
 use Rattle.lt_tree.specs.Typing.Expressions.{Typed, as_value, own_type}
@@ -14,8 +15,10 @@ use Rattle.lt_tree.specs.Typing.ExpressionTyping.{expression}
 use Rattle.lt_objectives.specs.declared.criteria.Criterion.{Criterion}
 use Rattle.lt_objectives.specs.Decisions.{negation, inequality, clause_list, conjunctions, active_clauses}
 use Rattle.lt_objectives.specs.Mutants.{is_signed_integer, pointer_relations, relations, with_others, absolute_mutants, arithmetic_mutants, connector_mutants, relational_mutants}
-use Rattle.lt_objectives.specs.Objectives.{domains, at_test}
-use Rattle.lt_mark_typing.specs.Placed.{IsThere}
+use Rattle.lt_objectives.specs.Objectives.{Form, all_at, domains, at_test}
+use Rattle.lt_objectives.specs.Marked.{ids_of, numbered, labels}
+use Rattle.lt_mark_typing.specs.Beside.{is_used}
+use Rattle.lt_mark_typing.specs.Placed.{AreNewLabels, IsThere}
 
 -- all of these are predicates where this is known
 abbrev pub ArePredicates : (ℕ → Bool) → List ℕ → Known → List c.Expression → Type 0
@@ -70,3 +73,16 @@ ObjectivesHavePredicates =
     × ArePredicates new used known (differences_from e (connector_mutants e))
     × ((t u : CType) → (is_integer t && is_integer u ≡ true → TakesIntegers known e)
     → ArePredicates new used known (differences_from e (arithmetic_mutants t u e)) × ArePredicates new used known (differences_from e (relational_mutants t u e)))
+
+-- ids that are used behind labels with so many ids from this one on: those before, and these
+abbrev pub AddsIds : (used after : List ℕ) → (id count : ℕ) → Type 0
+AddsIds used after id count = (n : ℕ) → is_used n after ≡ true → (is_used n used ≡ true) ⊎ ((id ≤ n) × (n < id + count))
+
+-- The labels of objectives at one place, numbered from an id that is new as the next ones are, are new labels there, if their predicates are predicates there
+-- whatever ids are used.
+abbrev pub LabelsOfObjectivesAreNew : Type 0
+LabelsOfObjectivesAreNew =
+    (new : ℕ → Bool) (used : List ℕ) (known : Known) (form : Form) (criterion : Criterion) (place id : ℕ) (predicates : List c.Expression)
+    → ids_of form ≡ 1 → ((used : List ℕ) → ArePredicates new used known predicates) → 1 ≤ id → id + length predicates ≤ suc greatest_written_id
+    → ((n : ℕ) → id ≤ n → n < id + length predicates → (new n ≡ true) × (is_used n used ≡ false))
+    → (after : List ℕ) × AreNewLabels new used after known (labels form (numbered id (all_at place form criterion predicates)) place) × AddsIds used after id (length predicates)

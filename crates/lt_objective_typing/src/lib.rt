@@ -4,6 +4,6 @@
 mod laws;
 
 pub use laws::{
-    decisions_give_predicates, domains_give_predicates, mutants_give_predicates,
-    objectives_have_predicates,
+    decisions_give_predicates, domains_give_predicates, labels_of_objectives_are_new,
+    mutants_give_predicates, objectives_have_predicates,
 };
