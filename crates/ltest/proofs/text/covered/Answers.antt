@@ -22,7 +22,7 @@ returns-in_err-task c =
     rw (p.1, p.2) c.in_err-task.ensures
 
 pub replay-requires-clause-entry : goal.replay-requires-clause-entry
-replay-requires-clause-entry c = subst (λ (p : Program). c.in_ok-task.task.specification.spec.entry < length p.functions) (sym c.stripped.ensures) c.in_ok-task.ensures.entry
+replay-requires-clause-entry c = subst (λ (p : Program). c.in_ok-task.task.specification.spec.entry < length p.functions) (sym c.stripped-program.ensures) c.in_ok-task.ensures.entry
 
 pub returns : goal.returns
 returns c =
@@ -33,5 +33,5 @@ returns c =
     let before = specified from (programmed from program is) (specification_of c.in_ok-program.program task.specification) c.in_ok-task.ensures.specified in
     let read = suited from before task.suite c.in_ok-task.ensures.said in
     let new = c.coverage_needs_no_unit.ensures program _ _ task.specification.spec task.suite c.args.from.now.steps c.in_ok-new.new
-    (subst (λ (p : Program). IsCoverage p task.specification.spec task.suite c.args.from.now.steps c.in_ok-new.new) c.stripped.ensures c.in_ok-new.ensures) in
+    (subst (λ (p : Program). IsCoverage p task.specification.spec task.suite c.args.from.now.steps c.in_ok-new.new) c.stripped-program.ensures c.in_ok-new.ensures) in
     merged_so from (covered_by from read task.old c.in_ok-new.new c.in_ok-task.ensures.old new) c.merged.result c.merged.ensures
