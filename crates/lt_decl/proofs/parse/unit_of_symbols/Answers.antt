@@ -15,7 +15,7 @@ returns-in-Ok c = λ tokens are long.
     let unit = map external_of c.in-Ok.externals.items in
     derived c.args.alloc (tokens_of tokens) (map shown c.args.symbols.now) unit c.new-parser.result c.whole.new.parser c.unit.new.walker _ c.into_spots.result.items
     (c.new-parser.ensures ∙ ap (begins c.args.alloc (map shown c.args.symbols.now) 0) c.new-names.ensures) are c.in-Ok.ensures c.into_ends.ensures
-    (c.in_ok-unit-in-Ok.ensures ∙ ap (λ xs. walk_unit (map external_of xs) c.new-walker.result) c.as_slice-in-Ok.ensures.value ∙ ap (walk_unit unit) c.new-walker.ensures) c.into_spots.ensures
+    (c.in_ok-unit-in-Ok.ensures ∙ ap (λ xs. walk_unit (map external_of xs) c.new-walker.result) c.as_slice.ensures.value ∙ ap (walk_unit unit) c.new-walker.ensures) c.into_spots.ensures
 
 pub returns-in-Err-NotOfForm : goal.returns-in-Err-NotOfForm
 returns-in-Err-NotOfForm c = λ tokens are long. (
