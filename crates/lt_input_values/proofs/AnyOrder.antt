@@ -17,13 +17,12 @@ use Rattle.lt_entry.specs.declared.test.Test.{Test}
 use Rattle.lt_entry.specs.Conditions.{same_place}
 use Rattle.lt_entry.specs.Meeting.{value_set, held, is_wanted, number_of, number_at, sum_of, is_related, needs_hold, sets_free_cell, keeps_range}
 use Rattle.lt_entry.specs.Inputs.{set_in, cells_in_order, is_for, stubs_in_order, built}
-use Rattle.lt_input_values.specs.Walks.{is_none_left, gives_well}
 use Rattle.lt_input_values.specs.Laws.{are_once, in_order_of_text, OrderIsNoMatter}
 use Rattle.lt_input_values.proofs.Truths.{both}
-use Rattle.lt_input_values.proofs.Along.{is_none_left-filter, not_first}
+use Rattle.lt_input_values.proofs.Left.{is_none_left, is_none_left-filter, not_first}
 use Rattle.lt_input_values.proofs.Each.{Each, each_weaker}
 use Rattle.lt_input_values.proofs.Sets.{set_value, all_same}
-use Rattle.lt_input_values.proofs.Values.{not_true, IsFound, IsKnown, all_known, all_of, judged_same}
+use Rattle.lt_input_values.proofs.Values.{gives_well, not_true, IsFound, IsKnown, all_known, all_of, judged_same}
 use Rattle.lt_input_values.proofs.Ordered.{sets_same, elsewhere_same, values_same, stubs_ordered}
 
 -- ---- cells

@@ -1,5 +1,5 @@
 pub mod Truths
-pub mod Along
+pub mod Left
 pub mod PlaceLaws
 pub mod Sets
 pub mod Bounded
@@ -12,3 +12,5 @@ pub mod MapLaws
 pub mod Orders
 pub mod Ordered
 pub mod AnyOrder
+pub mod Swaps
+pub mod Narrowing

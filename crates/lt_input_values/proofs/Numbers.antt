@@ -17,7 +17,7 @@ use Rattle.lt_entry.specs.Inputs.{has_ends_64, is_number_64}
 use Rattle.lt_input_values.specs.Bounds.{IsWithin, HaveNumbers64}
 use Rattle.lt_input_values.proofs.Truths.{both}
 
-told : (a b : ℤ) → int_le a b ≡ true → a ≤ℤ b
+pub told : (a b : ℤ) → int_le a b ≡ true → a ≤ℤ b
 told a b h = omega (arith, ints, sym h)
 
 between : (n : ℕ) (low high z : ℤ) → IsWithin n low → IsWithin n high → low ≤ℤ z → z ≤ℤ high → IsWithin n z

@@ -1,10 +1,10 @@
 -- What an input sets in free cells.
 use Rattle.std.proofs.Common.{◌≡◌, Bool, true, false, List, [], ◌∷◌, Option, Some, None, refl, sym, ap, ◌∙◌, reverse}
-use Rattle.std.specs.Prelude.{◌&&◌, not, if◌then◌else◌, option_map, option_and_then, unwrap_or}
+use Rattle.std.specs.Prelude.{if◌then◌else◌, option_map, option_and_then, unwrap_or}
 use Rattle.std.specs.Option.{option_or}
 use Rattle.std.proofs.lemmas.List.{reverse-append}
 use Rattle.std.proofs.lemmas.List.Folds.{find-append}
-use Rattle.std.specs.List.{list_all, list_any, filter, find}
+use Rattle.std.specs.List.{list_all, find}
 use Rattle.lt_model.specs.declared.input.CellSet.{CellSet}
 use Rattle.lt_model.specs.declared.input.CellSet.TheVariants as cellset
 use Rattle.lt_model.specs.declared.input.FreeCell.{FreeCell}
@@ -14,10 +14,9 @@ use Rattle.lt_model.specs.declared.input.Spec.{Spec}
 use Rattle.lt_model.specs.declared.input.StartValue.{StartValue}
 use Rattle.lt_model.specs.declared.input.StartValue.TheVariants as start
 use Rattle.lt_entry.specs.Conditions.{same_place}
-use Rattle.lt_entry.specs.Meeting.{place_set, value_set, last_set, held, is_wanted, sets_free_cell, number_of, number_at}
-use Rattle.lt_entry.specs.Inputs.{set_to, set_in, cells_in_order}
-use Rattle.lt_input_values.specs.Walks.{is_set_in, holds_well, is_none_left, cells_go_along}
-use Rattle.lt_input_values.proofs.Along.{Fits, goes_along-picked, is_none_left-filter}
+use Rattle.lt_entry.specs.Meeting.{place_set, value_set, last_set, held, is_wanted, number_of, number_at}
+use Rattle.lt_entry.specs.Inputs.{set_to, set_in}
+use Rattle.lt_input_values.specs.Finding.{holds_well}
 use Rattle.lt_input_values.proofs.PlaceLaws.{same_place-self}
 
 -- ---- the last of what is set at a place
@@ -66,22 +65,9 @@ no_other place (it ∷ its) h =
     no_other_or place it (last_set place its) (same_place (place_set it) place) (no_other place its)
     (sym (last_or place it its (last_set place its) (same_place (place_set it) place) refl refl) ∙ h)
 
-none_or : (place : Place) (it : CellSet) (o : Option StartValue) (p : Bool) → option_or o (if p then Some (value_set it) else None) ≡ None → (p ≡ false) × (o ≡ None)
-none_or place it (Some v) p h = absurd (cc)
-none_or place it None true h = absurd (cc)
-none_or place it None false h = (refl, refl)
-
--- Where nothing is the last that is set at a place, nothing is set there.
-none_set : (place : Place) (its : List CellSet) → last_set place its ≡ None → list_any (λ it. same_place (place_set it) place) its ≡ false
-none_set place [] h = refl
-none_set place (it ∷ its) h =
-    let hs : (same_place (place_set it) place ≡ false) × (last_set place its ≡ None) =
-    none_or place it (last_set place its) (same_place (place_set it) place) (sym (last_or place it its (last_set place its) (same_place (place_set it) place) refl refl) ∙ h) in
-    rw (hs.0, none_set place its hs.1) refl
-
 -- ---- what is set in a free cell
 
-fit_set : (cell : FreeCell) (o : Option StartValue) (it : CellSet) → option_and_then (set_to cell.at) o ≡ Some it → is_set_in cell it ≡ true
+fit_set : (cell : FreeCell) (o : Option StartValue) (it : CellSet) → option_and_then (set_to cell.at) o ≡ Some it → same_place (place_set it) cell.at ≡ true
 fit_set cell None it h = absurd (cc)
 fit_set cell (Some (start.Number z)) it h =
     let is : cellset.Number cell.at z ≡ it = cc in
@@ -91,42 +77,25 @@ fit_set cell (Some (start.Point target)) it h =
     rw (← is) (same_place-self cell.at)
 fit_set cell (Some start.Other) it h = absurd (cc)
 
-unset : (cell : FreeCell) (o : Option StartValue) → (o ≡ Some start.Other → ⊥) → option_and_then (set_to cell.at) o ≡ None → o ≡ None
-unset cell None other h = refl
-unset cell (Some (start.Number z)) other h = absurd (cc)
-unset cell (Some (start.Point target)) other h = absurd (cc)
-unset cell (Some start.Other) other h = absurd (other refl)
-
 value_back : (place : Place) (o : Option StartValue) → (o ≡ Some start.Other → ⊥) → option_map value_set (option_and_then (set_to place) o) ≡ o
 value_back place None other = refl
 value_back place (Some (start.Number z)) other = refl
 value_back place (Some (start.Point target)) other = refl
 value_back place (Some start.Other) other = absurd (other refl)
 
-pub sets_fit : (its : List CellSet) → Fits is_set_in (set_in its)
+pub sets_fit : (its : List CellSet) (cell : FreeCell) (it : CellSet) → set_in its cell ≡ Some it → same_place (place_set it) cell.at ≡ true
 sets_fit its cell it h = fit_set cell (last_set cell.at its) it h
-
-pub set_none : (its : List CellSet) (cell : FreeCell) → set_in its cell ≡ None → list_any (is_set_in cell) its ≡ false
-set_none its cell h = none_set cell.at its (unset cell (last_set cell.at its) (no_other cell.at its) h)
 
 pub set_value : (its : List CellSet) (cell : FreeCell) → option_map value_set (set_in its cell) ≡ last_set cell.at its
 set_value its cell = value_back cell.at (last_set cell.at its) (no_other cell.at its)
-
--- ---- cells in order
 
 pub all_same : {A : Type 0} (p q : A → Bool) → ((a : A) → p a ≡ q a) → (xs : List A) → list_all p xs ≡ list_all q xs
 all_same p q same [] = refl
 all_same p q same (x ∷ xs) = rw (same x, all_same p q same xs) refl
 
--- Gone along in their order, all cells hold what they may, and nothing is set elsewhere.
-pub cells_along : (spec : Spec) (input : Input) → input.cells ≡ cells_in_order spec input.cells → cells_go_along spec.cells input.cells ≡ (list_all (λ cell. is_wanted cell.want (held input cell)) spec.cells && list_all (sets_free_cell spec) input.cells)
-cells_along spec input ordered =
-    let judged : cells_go_along spec.cells input.cells ≡ (list_all (λ cell. holds_well cell (set_in input.cells cell)) spec.cells && is_none_left (filter (λ it. not (sets_free_cell spec it)) input.cells)) =
-    goes_along-picked is_set_in holds_well is_none_left (set_in input.cells) (filter (λ it. not (sets_free_cell spec it)) input.cells) (sets_fit input.cells) spec.cells input.cells (ordered, set_none input.cells) in
-    let same : list_all (λ cell. holds_well cell (set_in input.cells cell)) spec.cells ≡ list_all (λ cell. is_wanted cell.want (held input cell)) spec.cells =
-    all_same (λ cell. holds_well cell (set_in input.cells cell)) (λ cell. is_wanted cell.want (held input cell))
-    (λ cell. ap (λ o. is_wanted cell.want (unwrap_or o cell.start)) (set_value input.cells cell)) spec.cells in
-    judged ∙ rw (same, is_none_left-filter (sets_free_cell spec) input.cells) refl
+-- A cell holds what it may by what is found there last.
+pub held_well : (cell : FreeCell) (input : Input) (o : Option CellSet) → o ≡ find (λ it. same_place (place_set it) cell.at) (reverse input.cells) → holds_well cell o ≡ is_wanted cell.want (held input cell)
+held_well cell input o e = ap (λ v. is_wanted cell.want (unwrap_or v cell.start)) (ap (option_map value_set) e ∙ sym (last_set-found cell.at input.cells))
 
 -- ---- the number in a free cell
 

@@ -89,3 +89,12 @@ some_mapped f (Some a) = refl
 pub none_from_some : {A : Type 0} (o : Option A) → is_some o ≡ false → o ≡ None
 none_from_some None h = refl
 none_from_some (Some a) h = absurd (cc)
+
+-- Something is found where something fits.
+pub found_any : {A : Type 0} (p : A → Bool) (xs : List A) → is_some (find p xs) ≡ list_any p xs
+found_any p [] = refl
+found_any p (x ∷ xs) = found_first p x xs (p x) (found_any p xs)
+  where
+    found_first : {A : Type 0} (p : A → Bool) (x : A) (xs : List A) (t : Bool) → is_some (find p xs) ≡ list_any p xs → is_some (cond t (Some x) (find p xs)) ≡ (t || list_any p xs)
+    found_first p x xs true later = refl
+    found_first p x xs false later = later

@@ -1,18 +1,15 @@
--- Values for functions without a body, gone along in the order of the ranges.
+-- Values for functions without a body, and the ranges that they keep.
 use Rattle.std.proofs.Common.{◌≡◌, ℕ, Bool, true, false, cond, List, [], ◌∷◌, Option, Some, None, refl, sym, ap, ◌∙◌, subst}
-use Rattle.std.specs.Prelude.{◌&&◌, ◌||◌, not}
+use Rattle.std.specs.Prelude.{◌||◌, not}
 use Rattle.std.specs.List.{list_all, list_any, filter, filter_map, find, cons_option}
 use Rattle.std.specs.Str.{bytes_eq}
 use Rattle.std.proofs.lemmas.Slice.Eq.{bytes_eq-Decides}
-use Rattle.lt_model.specs.declared.input.Input.{Input}
 use Rattle.lt_model.specs.declared.input.Spec.{Spec}
 use Rattle.lt_model.specs.declared.input.StubRange.{StubRange}
 use Rattle.lt_model.specs.declared.input.StubSet.{StubSet}
 use Rattle.lt_entry.specs.Meeting.{keeps_range}
 use Rattle.lt_entry.specs.Inputs.{is_for, has_range, stubs_in_order}
-use Rattle.lt_input_values.specs.Walks.{gives_well, stubs_go_along}
 use Rattle.lt_input_values.proofs.Each.{Each, each_of_two, each_weaker, filter_fits, members}
-use Rattle.lt_input_values.proofs.Along.{Fits, goes_along-picked}
 use Rattle.lt_input_values.proofs.Truths.{both, join}
 
 -- ---- searches
@@ -82,6 +79,10 @@ all_of ranges = members is_for ranges
 
 -- ---- ranges that are kept
 
+abbrev pub gives_well : StubRange → Option StubSet → Bool
+gives_well range None = true
+gives_well range (Some it) = keeps_range range it
+
 keeps_one : (range : StubRange) (o : Option StubSet) (it : StubSet) (t : Bool) → is_for range it ≡ t → (is_for range it ≡ true → o ≡ Some it) → gives_well range o ≡ true → keeps_range range it ≡ true
 keeps_one range o it true e found h = subst (λ x. gives_well range x ≡ true) (found e) h
 keeps_one range o it false e found h = rw e refl
@@ -100,7 +101,7 @@ keeps_found range (it ∷ its) h =
     let hs = both (keeps_range range it) (list_all (keeps_range range) its) h in
     first_kept range it its (is_for range it) hs.0 (keeps_found range its hs.1)
 
-same_bools : (a b : Bool) → (a ≡ true → b ≡ true) → (b ≡ true → a ≡ true) → a ≡ b
+pub same_bools : (a b : Bool) → (a ≡ true → b ≡ true) → (b ≡ true → a ≡ true) → a ≡ b
 same_bools true b f g = sym (f refl)
 same_bools false true f g = g refl
 same_bools false false f g = refl
@@ -113,17 +114,3 @@ judged_same spec its known (range ∷ ranges) are =
     let one : gives_well range (find (is_for range) its) ≡ list_all (keeps_range range) its =
     same_bools (gives_well range (find (is_for range) its)) (list_all (keeps_range range) its) (keeps_all range (find (is_for range) its) its found) (keeps_found range its) in
     rw (one, judged_same spec its known ranges are.1) refl
-
-range_fits : (its : List StubSet) → Fits is_for (λ range. find (is_for range) its)
-range_fits its range it h = find_fits (is_for range) its it h
-
-and_true : (b : Bool) → (b && true) ≡ b
-and_true true = refl
-and_true false = refl
-
--- Gone along in their order, the values of each function are in its range.
-pub stubs_along : (spec : Spec) (input : Input) → input.stubs ≡ stubs_in_order spec input.stubs → stubs_go_along spec.stubs input.stubs ≡ list_all (λ range. list_all (keeps_range range) input.stubs) spec.stubs
-stubs_along spec input ordered =
-    goes_along-picked is_for gives_well (λ left. true) (λ range. find (is_for range) input.stubs) (filter (λ it. not (has_range spec it)) input.stubs) (range_fits input.stubs) spec.stubs input.stubs (ordered, λ range h. find_none (is_for range) input.stubs h)
-    ∙ and_true (list_all (λ range. gives_well range (find (is_for range) input.stubs)) spec.stubs)
-    ∙ judged_same spec input.stubs (all_known spec input.stubs ordered) spec.stubs (all_of spec.stubs)

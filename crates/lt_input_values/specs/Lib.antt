@@ -1,4 +1,4 @@
-pub mod Walks
+pub mod Finding
 pub mod Bounds
 pub mod Maps
 pub mod Laws

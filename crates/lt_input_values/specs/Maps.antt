@@ -36,6 +36,14 @@ last_at place its = find (λ it. same_place (place_set it) place) (reverse its)
 abbrev pub HasLast : {S : Type 0} → List CellSet → HashMap Key (Bor CellSet) S → Type 0
 HasLast its map = (place : Place) → set_at map place ≡ last_at place its
 
+-- the free cell that a map has for a place
+abbrev pub free_at : {S : Type 0} → HashMap Key (Bor FreeCell) S → Place → Option FreeCell
+free_at map place = option_map (λ cell. cell.now) (get_by (is_key_of place) map)
+
+-- The map has for each place the first free cell there.
+abbrev pub HasFirstCells : {S : Type 0} → List FreeCell → HashMap Key (Bor FreeCell) S → Type 0
+HasFirstCells cells map = (place : Place) → free_at map place ≡ find (λ cell. same_place cell.at place) cells
+
 -- The places are those of the cells for which the map has something.
 abbrev pub HasPlacesSet : {R S : Type 0} → HashMap Key (Bor CellSet) R → List FreeCell → HashSet Key S → Type 0
 HasPlacesSet map cells places =

@@ -2,28 +2,14 @@
 
 ghost use Rattle.std.specs.Prelude.{◌≡◌, ◌++◌, is_some, IfOk, filter_map};
 ghost use Rattle.lt_entry.specs.Inputs.{cells_in_order};
-ghost use Rattle.lt_input_values.specs.Maps.{set_at, has_place, HasLast, HasPlacesSet, elsewhere};
+ghost use Rattle.lt_input_values.specs.Maps.{set_at, has_place, HasPlacesSet, elsewhere};
 
+use crate::cell_maps::last_sets;
 use crate::copies::set_of;
 use crate::places::place_set;
 use lt_model::{CellSet, FreeCell, Place, Spec};
 use std::alloc::{AllocError, Global};
 use std::collections::{HashMap, HashSet};
-
-// What is set last at each place.
-fn last_sets<'a>(
-    alloc: Global,
-    sets: &'a [CellSet],
-) -> Result<HashMap<(&'a [u8], u64), &'a CellSet>, AllocError>
-    ensures { IfOk result (HasLast sets.now) }
-{
-    let mut last = HashMap::new(alloc);
-    for it in sets {
-        let place = place_set(it);
-        last.insert((place.root.as_slice(), place.offset), it)?;
-    }
-    Ok(last)
-}
 
 // What is set last in each free cell, in the order of the cells.
 fn sets_in_cells(

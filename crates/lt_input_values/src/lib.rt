@@ -1,10 +1,13 @@
 // The inputs of an entry: those that tests build, and which of them meet a specification. Both are defined in `lt_entry`;
-// `specs/Walks.antt` says how an input is gone along, and `specs/Maps.antt` what is looked up while one is built.
+// `specs/Finding.antt` says how things are found, and `specs/Maps.antt` what maps have.
 #![tactic(auto)]
 
 mod blocks;
+mod bounds;
+mod cell_maps;
 mod cell_order;
 mod copies;
+mod finder;
 mod input;
 mod laws;
 mod meeting;
@@ -16,4 +19,4 @@ mod wanted;
 
 pub use input::build;
 pub use laws::order_is_no_matter;
-pub use meeting::meets;
+pub use meeting::{meets, meets_by_maps};

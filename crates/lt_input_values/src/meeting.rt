@@ -1,61 +1,99 @@
 //! Which inputs meet a specification.
 
-ghost use Rattle.std.specs.Prelude.{◌≡◌, ◌↔◌, IsTrue, option_map};
-ghost use Rattle.lt_entry.specs.Meeting.{Meets};
-ghost use Rattle.lt_entry.specs.Inputs.{IsInOrder, IsBounded};
-ghost use Rattle.lt_input_values.specs.Walks.{next, is_set_in, cells_go_along};
+ghost use Rattle.std.specs.Prelude.{◌≡◌, ◌↔◌, IsTrue, IfOk};
+ghost use Rattle.std.specs.List.{list_all};
+ghost use Rattle.lt_entry.specs.Meeting.{Meets, held, is_wanted, sets_free_cell};
+ghost use Rattle.lt_entry.specs.Inputs.{IsBounded};
+ghost use Rattle.lt_input_values.specs.Finding.{IsFinder};
 
 use crate::blocks::same_blocks;
+use crate::finder::Finder;
 use crate::needs::needs_hold;
-use crate::places::{place_set, same_place};
-use crate::stubs::stubs_go_along;
+use crate::places::place_set;
+use crate::stubs::stubs_keep_ranges;
 use crate::wanted::holds_well;
 use lt_model::{CellSet, FreeCell, Input, Spec};
+use std::alloc::{AllocError, Global};
 
-// What is set in this cell, if it comes next.
-fn next_set<'a>(cell: &FreeCell, sets: &'a [CellSet]) -> Option<&'a CellSet>
-    ensures { option_map (λ set. set.now) result ≡ next is_set_in cell.now sets.now }
+fn cell_holds_well(finder: &Finder<'_>, cell: &FreeCell) -> bool
+    requires finder { IsFinder finder.now }
+    ensures { result ≡ is_wanted cell.now.want (held finder.now.input.now cell.now) }
 {
-    let (first, _) = sets.split_first()?;
-    if same_place(place_set(first), &cell.at) {
-        Some(first)
-    } else {
-        None
-    }
+    holds_well(cell, finder.last_set(&cell.at))
 }
 
-// Whether each cell holds what it may and nothing is set elsewhere, where what is set comes in the order of the cells.
-fn cells_go_along(cells: &[FreeCell], sets: &[CellSet]) -> bool
-    ensures { result ≡ cells_go_along cells.now sets.now }
+// Whether each free cell holds what it may.
+fn cells_hold_well(finder: &Finder<'_>) -> bool
+    requires finder { IsFinder finder.now }
+    ensures { result ≡ list_all (λ cell. is_wanted cell.want (held finder.now.input.now cell)) finder.now.spec.now.cells }
 {
-    let mut read = 0;
-    for cell in cells {
-        let set = next_set(cell, sets.split_at(read).1);
-        if !holds_well(cell, set) {
+    for cell in finder.spec.cells.as_slice() {
+        if !cell_holds_well(finder, cell) {
             return false;
         }
-        if set.is_some() {
-            read += 1;
-        }
     }
-    read == sets.len()
+    true
 }
 
-/// Whether an input meets a specification. What it sets comes in the order of the specification, as `build` puts it; the specification
-/// keeps the bounds of its lines, by which sums fit 128 bits. It takes no memory.
+fn sets_free_cell(finder: &Finder<'_>, it: &CellSet) -> bool
+    requires finder { IsFinder finder.now }
+    ensures { result ≡ sets_free_cell finder.now.spec.now it.now }
+{
+    finder.cell_at(place_set(it)).is_some()
+}
+
+// Whether free cells alone are set.
+fn sets_free_cells(finder: &Finder<'_>) -> bool
+    requires finder { IsFinder finder.now }
+    ensures { result ≡ list_all (sets_free_cell finder.now.spec.now) finder.now.input.now.cells }
+{
+    for it in finder.input.cells.as_slice() {
+        if !sets_free_cell(finder, it) {
+            return false;
+        }
+    }
+    true
+}
+
+// Whether the input of a finder meets its specification.
+fn is_met(finder: &Finder<'_>) -> bool
+    requires finder { IsFinder finder.now }
+    requires bounded { IsBounded finder.now.spec.now }
+    ensures { IsTrue result ↔ Meets finder.now.spec.now finder.now.input.now }
+{
+    if !same_blocks(
+        finder.input.blocks.as_slice(),
+        finder.spec.blocks.as_slice(),
+    ) {
+        return false;
+    }
+    if !sets_free_cells(finder) {
+        return false;
+    }
+    if !cells_hold_well(finder) {
+        return false;
+    }
+    if !stubs_keep_ranges(finder) {
+        return false;
+    }
+    needs_hold(finder)
+}
+
+/// Whether an input meets a specification, which keeps the bounds of its lines, by which sums fit 128 bits. It takes no memory, and
+/// searches for each cell.
 pub fn meets(spec: &Spec, input: &Input) -> bool
-    requires ordered { IsInOrder spec.now input.now }
     requires bounded { IsBounded spec.now }
     ensures { IsTrue result ↔ Meets spec.now input.now }
 {
-    if !same_blocks(input.blocks.as_slice(), spec.blocks.as_slice()) {
-        return false;
-    }
-    if !cells_go_along(spec.cells.as_slice(), input.cells.as_slice()) {
-        return false;
-    }
-    if !stubs_go_along(spec.stubs.as_slice(), input.stubs.as_slice()) {
-        return false;
-    }
-    needs_hold(spec, input)
+    let finder = Finder::searching(spec, input);
+    is_met(&finder)
+}
+
+/// The same as `meets`, with maps by which cells are found in one step each.
+pub fn meets_by_maps(alloc: Global, spec: &Spec, input: &Input) -> Result<bool, AllocError>
+    requires bounded { IsBounded spec.now }
+    ensures { IfOk result (λ met. IsTrue met ↔ Meets spec.now input.now) }
+{
+    let finder = Finder::mapped(alloc, spec, input)?;
+    Ok(is_met(&finder))
 }

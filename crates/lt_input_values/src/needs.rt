@@ -1,31 +1,14 @@
 //! Requirements.
 
 ghost use Rattle.std.specs.Prelude.{◌≡◌, ◌≤◌, ◌^◌, ◌*ℤ◌, option_map, IfSome, length, true};
-ghost use Rattle.std.specs.List.{find, list_all};
-ghost use Rattle.lt_entry.specs.Conditions.{same_place};
+ghost use Rattle.std.specs.List.{list_all};
 ghost use Rattle.lt_entry.specs.Meeting.{value_set, number_of, number_at, sum_of, is_related, needs_hold};
 ghost use Rattle.lt_entry.specs.Inputs.{is_short, has_small_factor};
 ghost use Rattle.lt_input_values.specs.Bounds.{IsWithin, HaveNumbers64};
-ghost use Rattle.lt_input_values.specs.Maps.{last_at};
+ghost use Rattle.lt_input_values.specs.Finding.{IsFinder};
 
-use crate::places::{place_set, same_place};
-use lt_model::{CellSet, FreeCell, Input, Need, NeedTerm, Op, Place, Spec, StartValue};
-
-// The free cell at a place.
-fn cell_at<'a>(cells: &'a [FreeCell], place: &Place) -> Option<&'a FreeCell>
-    ensures { option_map (λ cell. cell.now) result ≡ find (λ cell. same_place cell.at place.now) cells.now }
-{
-    cells.iter().find(|cell| same_place(&cell.at, place))
-}
-
-// What is set last at a place.
-fn last_set<'a>(sets: &'a [CellSet], place: &Place) -> Option<&'a CellSet>
-    ensures { option_map (λ set. set.now) result ≡ last_at place.now sets.now }
-{
-    sets.iter()
-        .rev()
-        .find(|it| same_place(place_set(it), place))
-}
+use crate::finder::Finder;
+use lt_model::{CellSet, Need, NeedTerm, Op, Place, StartValue};
 
 fn number_set(it: &CellSet) -> Option<i128>
     ensures { result ≡ number_of (value_set it.now) }
@@ -46,36 +29,39 @@ fn number_started(start: &StartValue) -> Option<i128>
 }
 
 // The number in the free cell at a place.
-fn number_at(spec: &Spec, input: &Input, place: &Place) -> Option<i128>
-    ensures { result ≡ number_at spec.now input.now place.now }
+fn number_at(finder: &Finder<'_>, place: &Place) -> Option<i128>
+    requires finder { IsFinder finder.now }
+    ensures { result ≡ number_at finder.now.spec.now finder.now.input.now place.now }
 {
-    let cell = cell_at(spec.cells.as_slice(), place)?;
-    match last_set(input.cells.as_slice(), &cell.at) {
+    let cell = finder.cell_at(place)?;
+    match finder.last_set(&cell.at) {
         Some(it) => number_set(it),
         None => number_started(&cell.start),
     }
 }
 
 // A factor times the number at its place.
-fn product_of(spec: &Spec, input: &Input, term: &NeedTerm) -> Option<i128>
-    requires numbers { HaveNumbers64 spec.now input.now }
+fn product_of(finder: &Finder<'_>, term: &NeedTerm) -> Option<i128>
+    requires finder { IsFinder finder.now }
+    requires numbers { HaveNumbers64 finder.now.spec.now finder.now.input.now }
     requires factor { has_small_factor term.now ≡ true }
-    ensures product { result ≡ option_map (λ z. term.now.factor *ℤ z) (number_at spec.now input.now term.now.at) }
+    ensures product { result ≡ option_map (λ z. term.now.factor *ℤ z) (number_at finder.now.spec.now finder.now.input.now term.now.at) }
     ensures small { IfSome result (IsWithin (2 ^ 95)) }
 {
-    Some(term.factor * number_at(spec, input, &term.at)?)
+    Some(term.factor * number_at(finder, &term.at)?)
 }
 
 // The sum of the terms, where each cell has a number.
-fn sum_of(spec: &Spec, input: &Input, terms: &[NeedTerm]) -> Option<i128>
-    requires numbers { HaveNumbers64 spec.now input.now }
+fn sum_of(finder: &Finder<'_>, terms: &[NeedTerm]) -> Option<i128>
+    requires finder { IsFinder finder.now }
+    requires numbers { HaveNumbers64 finder.now.spec.now finder.now.input.now }
     requires factors { list_all has_small_factor terms.now ≡ true }
     requires few { length terms.now ≤ 16 }
-    ensures { result ≡ sum_of spec.now input.now terms.now }
+    ensures { result ≡ sum_of finder.now.spec.now finder.now.input.now terms.now }
 {
     let mut sum = 0;
     for term in terms {
-        sum += product_of(spec, input, term)?;
+        sum += product_of(finder, term)?;
     }
     Some(sum)
 }
@@ -91,25 +77,27 @@ fn is_related(relation: Op, sum: i128, constant: i128) -> bool
     }
 }
 
-fn need_holds(spec: &Spec, input: &Input, need: &Need) -> bool
-    requires numbers { HaveNumbers64 spec.now input.now }
+fn need_holds(finder: &Finder<'_>, need: &Need) -> bool
+    requires finder { IsFinder finder.now }
+    requires numbers { HaveNumbers64 finder.now.spec.now finder.now.input.now }
     requires short { is_short need.now ≡ true }
-    ensures { result ≡ needs_hold spec.now input.now need.now }
+    ensures { result ≡ needs_hold finder.now.spec.now finder.now.input.now need.now }
 {
-    match sum_of(spec, input, need.terms.as_slice()) {
+    match sum_of(finder, need.terms.as_slice()) {
         Some(sum) => is_related(need.rel, sum, need.constant),
         None => false,
     }
 }
 
 /// Whether all requirements hold.
-pub fn needs_hold(spec: &Spec, input: &Input) -> bool
-    requires numbers { HaveNumbers64 spec.now input.now }
-    requires short { list_all is_short spec.now.needs ≡ true }
-    ensures { result ≡ list_all (needs_hold spec.now input.now) spec.now.needs }
+pub fn needs_hold(finder: &Finder<'_>) -> bool
+    requires finder { IsFinder finder.now }
+    requires numbers { HaveNumbers64 finder.now.spec.now finder.now.input.now }
+    requires short { list_all is_short finder.now.spec.now.needs ≡ true }
+    ensures { result ≡ list_all (needs_hold finder.now.spec.now finder.now.input.now) finder.now.spec.now.needs }
 {
-    for need in spec.needs.as_slice() {
-        if !need_holds(spec, input, need) {
+    for need in finder.spec.needs.as_slice() {
+        if !need_holds(finder, need) {
             return false;
         }
     }

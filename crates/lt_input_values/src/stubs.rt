@@ -1,59 +1,40 @@
 //! The values for functions without a body.
 
-ghost use Rattle.std.specs.Prelude.{◌≡◌, ◌&&◌, int_le, option_map};
+ghost use Rattle.std.specs.Prelude.{◌≡◌};
 ghost use Rattle.std.specs.List.{list_all};
-ghost use Rattle.lt_entry.specs.Inputs.{is_for};
-ghost use Rattle.lt_input_values.specs.Walks.{next, gives_well, stubs_go_along};
+ghost use Rattle.lt_entry.specs.Meeting.{keeps_range};
+ghost use Rattle.lt_input_values.specs.Finding.{IsFinder, is_within};
 
-use lt_model::{StubRange, StubSet};
+use crate::bounds::Bounds;
+use crate::finder::Finder;
+use lt_model::StubSet;
 
-/// Whether the values are for the function that has this range.
-pub fn is_for(range: &StubRange, it: &StubSet) -> bool
-    ensures { result ≡ is_for range.now it.now }
+fn are_within(bounds: Option<Bounds>, values: &[i128]) -> bool
+    ensures { result ≡ list_all (is_within bounds) values.now }
 {
-    it.name.as_slice() == range.name.as_slice()
-}
-
-// What comes next, if it is for this function.
-fn next_values<'a>(range: &StubRange, sets: &'a [StubSet]) -> Option<&'a StubSet>
-    ensures { option_map (λ set. set.now) result ≡ next is_for range.now sets.now }
-{
-    let (first, _) = sets.split_first()?;
-    if is_for(range, first) {
-        Some(first)
-    } else {
-        None
-    }
-}
-
-fn are_within(low: i128, high: i128, values: &[i128]) -> bool
-    ensures { result ≡ list_all (λ z. int_le low z && int_le z high) values.now }
-{
-    values.iter().all(|z| low <= *z && *z <= high)
-}
-
-// Whether these are values for another function, or are in the range.
-fn gives_well(range: &StubRange, it: Option<&StubSet>) -> bool
-    ensures { result ≡ gives_well range.now (option_map (λ set. set.now) it.entry) }
-{
-    match it {
-        Some(set) => !is_for(range, set) || are_within(range.lo, range.hi, set.values.as_slice()),
+    match bounds {
+        Some((low, high)) => values.iter().all(|z| low <= *z && *z <= high),
         None => true,
     }
 }
 
-/// Whether the values for each function are in its range, where they come in the order of the ranges.
-pub fn stubs_go_along(ranges: &[StubRange], sets: &[StubSet]) -> bool
-    ensures { result ≡ stubs_go_along ranges.now sets.now }
+// Whether values are in each range of their function.
+fn are_in_ranges(finder: &Finder<'_>, it: &StubSet) -> bool
+    requires finder { IsFinder finder.now }
+    ensures { result ≡ list_all (λ range. keeps_range range it.now) finder.now.spec.now.stubs }
 {
-    let mut read = 0;
-    for range in ranges {
-        let values = next_values(range, sets.split_at(read).1);
-        if !gives_well(range, values) {
+    let bounds = finder.bounds(it.name.as_slice());
+    are_within(bounds, it.values.as_slice())
+}
+
+/// Whether the values for each function are in each of its ranges.
+pub fn stubs_keep_ranges(finder: &Finder<'_>) -> bool
+    requires finder { IsFinder finder.now }
+    ensures { result ≡ list_all (λ it. list_all (λ range. keeps_range range it) finder.now.spec.now.stubs) finder.now.input.now.stubs }
+{
+    for it in finder.input.stubs.as_slice() {
+        if !are_in_ranges(finder, it) {
             return false;
-        }
-        if values.is_some() {
-            read += 1;
         }
     }
     true

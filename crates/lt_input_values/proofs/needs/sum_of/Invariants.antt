@@ -7,5 +7,5 @@ use Rattle.lt_input_values.proofs.needs.sum_of.Given as goal
 abbrev pub invariant-loop-term : goal.invariant-loop-term
 invariant-loop-term l = record {
   within : IsWithin (l.term-index * 2 ^ 95) l.sum;
-  rest : sum_of l.spec l.input l.terms ≡ option_map (λ sum. l.sum +ℤ sum) (sum_of l.spec l.input (drop l.term-index l.terms));
+  rest : sum_of l.finder.spec.now l.finder.input.now l.terms ≡ option_map (λ sum. l.sum +ℤ sum) (sum_of l.finder.spec.now l.finder.input.now (drop l.term-index l.terms));
 }

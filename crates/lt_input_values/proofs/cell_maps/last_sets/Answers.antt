@@ -4,7 +4,7 @@ use Rattle.lt_entry.specs.Conditions.{same_place}
 use Rattle.lt_entry.specs.Meeting.{place_set}
 use Rattle.lt_input_values.proofs.Steps.{last_more}
 use Rattle.lt_input_values.proofs.MapLaws.{set_at_more}
-use Rattle.lt_input_values.proofs.cell_order.last_sets.Goals as goal
+use Rattle.lt_input_values.proofs.cell_maps.last_sets.Goals as goal
 
 pub loop-it-preserved : goal.loop-it-preserved
 loop-it-preserved c = λ place.
