@@ -8,7 +8,7 @@ ghost use Rattle.lt_replay.specs.Seen.{IsSeenRun, IsSeen};
 use crate::marks::TrueMarks;
 use lt_cover::TestEnd;
 use lt_entry::Test;
-use lt_input_values::{build, meets};
+use lt_input_values::{build, meets_by_maps};
 use lt_ir::Graph;
 use lt_mach::{Brief, run_into};
 use lt_model::{End, Input, Spec};
@@ -69,7 +69,7 @@ pub fn see_test(
     ensures { IfOk result (IsSeen graph.now spec.now test.now steps) }
 {
     let input = build(alloc, test, spec)?;
-    if meets(spec, &input) {
+    if meets_by_maps(alloc, spec, &input)? {
         see_run(alloc, graph, spec.entry, &input, steps)
     } else {
         Ok(Seen {
