@@ -6,7 +6,6 @@ pub mod Tables
 pub mod Texts
 pub mod Bare
 pub mod Written
-pub mod Merges
 pub mod Loops
 pub mod Lines
 pub mod Rests
@@ -16,11 +15,5 @@ pub mod Coverings
 pub mod Drafts
 pub mod Follows
 pub mod Fronts
-pub mod Mixed
-pub mod KeyLists
-pub mod Walks
-pub mod NameWalks
-pub mod TestWalks
-pub mod Merging
 pub mod Headers
 pub mod WordLists

@@ -7,4 +7,3 @@ pub mod Rows
 pub mod Draft
 pub mod Reading
 pub mod Merge
-pub mod Keys

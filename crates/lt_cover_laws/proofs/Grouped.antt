@@ -9,10 +9,10 @@ use Rattle.lt_cover.specs.declared.rows.TestRow.{TestRow}
 use Rattle.lt_cover.specs.declared.rows.LabelRow.{LabelRow}
 use Rattle.lt_cover.specs.declared.rows.HyperRow.{HyperRow}
 use Rattle.lt_cover.specs.Coverage.Table.{Table, IsOrdered, NamesRise, names_of}
-use Rattle.lt_cover.specs.Coverage.Keys.{IsRisingLabel, IsSameLabel, IsSameHyper}
+use Rattle.lt_merge.specs.Keys.{IsRisingLabel, IsSameLabel, IsSameHyper}
 use Rattle.lt_cover.specs.Coverage.Merge.{EachMerged, IsMerge, IsMergedHyper, IsMergedLabel, greater}
-use Rattle.lt_cover.proofs.Merges.{associative}
-use Rattle.lt_cover.proofs.Merging.{labels_rise, merged_of}
+use Rattle.lt_merge.proofs.Merges.{associative}
+use Rattle.lt_merge.proofs.Merging.{labels_rise, merged_of}
 use Rattle.lt_cover_laws.specs.Laws.{MergesAreThereHoweverGrouped}
 use Rattle.lt_cover_laws.proofs.Members.{first_of, behind_of, first_or_behind, mapped, kept, from_kept, passes, is_of, is_of_either, is_of_some, is_of_others, names_kept}
 use Rattle.lt_cover_laws.proofs.OneMerge.{test_is_one}

@@ -3,7 +3,8 @@
 use crate::pairs::pair;
 use crate::stop::Stop;
 use crate::words::Words;
-use lt_cover::{Coverage, MergeStop, merge, read_cover, write_cover};
+use lt_cover::{Coverage, MergeStop, read_cover, write_cover};
+use lt_merge::merge;
 use std::alloc::Global;
 
 /// What is written of the table that a text stands for.

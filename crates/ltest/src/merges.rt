@@ -4,7 +4,8 @@ ghost use Rattle.ltest.specs.Stages.{GivesMerge};
 
 use crate::stops::TextStop;
 use lt_answers::Refusal;
-use lt_cover::{Coverage, MergeStop, merge};
+use lt_cover::{Coverage, MergeStop};
+use lt_merge::merge;
 use std::alloc::Global;
 
 /// The new coverage, merged with the old one where there is one, or the first on which they don't agree.

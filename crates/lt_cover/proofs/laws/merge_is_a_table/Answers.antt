@@ -1,5 +1,0 @@
-use Rattle.lt_cover.proofs.Merging.{merge_table}
-use Rattle.lt_cover.proofs.laws.merge_is_a_table.Goals as goal
-
-pub returns : goal.returns
-returns c = merge_table
