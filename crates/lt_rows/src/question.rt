@@ -1,7 +1,9 @@
 //! What is asked of the texts of rows.
 
 use crate::stop::Stop;
-use crate::{covers, expressions, known, numbers, printed, replays, rules, table, tokens, units};
+use crate::{
+    answers, covers, expressions, known, numbers, printed, replays, rules, table, tokens, units,
+};
 use lt_model::DataModel;
 use std::alloc::Global;
 
@@ -31,6 +33,8 @@ pub enum Question<'a> {
     Constant(DataModel),
     CoverageFile,
     CoverageMerge,
+    /// The line that tells how a command ends.
+    Answer,
     /// In this model, with so many ticks a run.
     Replay(DataModel, u64),
     Operator(DataModel),
@@ -94,6 +98,7 @@ impl<'a> Question<'a> {
             "purity" => Some(Question::Purity),
             "coverage file" => Some(Question::CoverageFile),
             "coverage merge" => Some(Question::CoverageMerge),
+            "answer" => Some(Question::Answer),
             "sum" => Some(Question::Sum),
             "product" => Some(Question::Product),
             "join" => Some(Question::Join),
@@ -150,6 +155,7 @@ impl<'a> Question<'a> {
             Question::Constant(model) => table::constant(alloc, text, model),
             Question::CoverageFile => covers::rewritten(alloc, text),
             Question::CoverageMerge => covers::merged(alloc, text),
+            Question::Answer => answers::answered(alloc, text),
             Question::Replay(model, steps) => replays::replayed(alloc, text, model, steps),
             Question::Operator(model) => numbers::operator(alloc, text, model),
             Question::Conversion(model) => numbers::conversion(alloc, text, model),
