@@ -9,8 +9,6 @@ mod specifications;
 mod stops;
 mod suites;
 mod tasks;
-#[cfg(test)]
-mod tests;
 mod text;
 mod top;
 mod units;
