@@ -1,0 +1,8 @@
+// The nodes of a unit in one list, each with the number of the nodes of its part; `specs/Sites.antt` says what they are.
+#![tactic(auto)]
+
+mod list;
+mod site;
+
+pub use list::list_sites;
+pub use site::{NodeRef, Site};
