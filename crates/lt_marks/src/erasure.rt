@@ -6,4 +6,5 @@ mod specifier;
 mod statement;
 mod unit;
 
+pub use expression::expression as erase_expression;
 pub use unit::erase;
