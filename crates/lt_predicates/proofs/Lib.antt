@@ -1,0 +1,2 @@
+mod ClauseLaws
+mod Stack

@@ -1,0 +1,7 @@
+//! The predicates of test objectives, as trees that lie in memory: `lt_objectives`'s `specs/Decisions.antt`, `specs/Mutants.antt` and
+//! `specs/Objectives.antt` say what they are, and `specs/` what this crate adds.
+#![tactic(auto)]
+
+mod clauses;
+
+pub use clauses::{clause_list, has_few_clauses};
