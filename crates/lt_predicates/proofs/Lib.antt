@@ -1,2 +1,3 @@
 mod ClauseLaws
 mod Stack
+mod Conjoined

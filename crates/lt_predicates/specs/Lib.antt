@@ -1,1 +1,5 @@
 pub mod Clauses
+pub mod Expressions
+pub mod Conjunctions
+pub mod Domains
+pub mod Laws

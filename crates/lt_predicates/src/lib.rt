@@ -3,5 +3,12 @@
 #![tactic(auto)]
 
 mod clauses;
+mod combinations;
+mod copies;
+mod domain;
+mod laws;
 
 pub use clauses::{clause_list, has_few_clauses};
+pub use combinations::{both_truths, conjunctions};
+pub use domain::{Domain, domains};
+pub use laws::domains_are_of_types;

@@ -1,0 +1,63 @@
+// The conjunctions of a decision's clauses.
+
+ghost use Rattle.std.specs.Prelude.{◌≡◌, [], ◌∷◌, true, IfOk, map};
+ghost use Rattle.std.specs.List.{flat_map};
+ghost use Rattle.lt_tree.specs.View.{expression_of};
+ghost use Rattle.lt_tree.specs.Erasure.{erased};
+ghost use Rattle.lt_tree.specs.Purity.{is_pure};
+ghost use Rattle.lt_objectives.specs.Decisions as decision;
+ghost use Rattle.lt_predicates.specs.Expressions.{expressions, pointed, IsErased};
+ghost use Rattle.lt_predicates.specs.Conjunctions.{extensions, AreErased};
+
+use crate::clauses::clause_list;
+use crate::copies::{conjunction, negation};
+use lt_marks::erase_expression;
+use lt_tree::Expr;
+use std::alloc::{AllocError, Global};
+
+/// That an expression without marks is true, and that it isn't.
+pub fn both_truths(alloc: Global, d: &Expr) -> Result<Vec<Expr>, AllocError>
+    requires { IsErased (expression_of d.now) }
+    ensures { IfOk result (λ list. expressions list ≡ expression_of d.now ∷ decision.negation (expression_of d.now) ∷ []) }
+{
+    let truth = erase_expression(alloc, d)?;
+    let falsity = negation(alloc, d)?;
+    Ok(vec![in alloc; truth, falsity]?)
+}
+
+/// Each clause of a decision or its negation, joined from left to right, all true first, the last changing fastest.
+pub fn conjunctions(alloc: Global, d: &Expr) -> Result<Vec<Expr>, AllocError>
+    requires pure { is_pure (expression_of d.now) ≡ true }
+    requires unmarked { erased (expression_of d.now) ≡ expression_of d.now }
+    requires few { decision.has_few_clauses (expression_of d.now) ≡ true }
+    ensures { IfOk result (λ list. expressions list ≡ decision.conjunctions (decision.clause_list (expression_of d.now))) }
+{
+    let clauses = clause_list(alloc, d)?;
+    conjoined(alloc, clauses.as_slice())
+}
+
+fn conjoined(alloc: Global, clauses: &[&Expr]) -> Result<Vec<Expr>, AllocError>
+    requires { AreErased (pointed clauses.now) }
+    ensures { IfOk result (λ list. expressions list ≡ decision.conjunctions (pointed clauses.now)) }
+{
+    let Some((first, rest)) = clauses.split_first() else {
+        return Ok(Vec::new(alloc));
+    };
+    let mut made = both_truths(alloc, first)?;
+    for clause in rest {
+        made = extended(alloc, made.as_slice(), clause)?;
+    }
+    Ok(made)
+}
+
+fn extended(alloc: Global, made: &[Expr], clause: &Expr) -> Result<Vec<Expr>, AllocError>
+    ensures { IfOk result (λ list. expressions list ≡ flat_map (λ e. extensions (erased (expression_of e)) (erased (expression_of clause.now))) made.now) }
+{
+    let mut list = Vec::new(alloc);
+    for e in made {
+        let truth = erase_expression(alloc, clause)?;
+        list.push(conjunction(alloc, e, truth)?)?;
+        list.push(conjunction(alloc, e, negation(alloc, clause)?)?)?;
+    }
+    Ok(list)
+}
