@@ -1,3 +1,5 @@
 pub mod Parts
 pub mod SiteRuns
 mod Wrappings
+mod ValuePositions
+mod Opens
