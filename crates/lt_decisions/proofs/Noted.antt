@@ -1,5 +1,5 @@
 -- What is found when all tests are noted.
-use Rattle.std.proofs.Common.{◌≡◌, ◌≢◌, refl, sym, ap, ◌∙◌, subst, ℕ, zero, suc, ◌+◌, ◌<◌, Bool, true, false, cond, eqb, List, [], ◌∷◌, ◌++◌, length, get_or, set, replicate, map, Option, Some, None, unwrap_or, length-set, get_or-set_same, get_or-set_other, arith}
+use Rattle.std.proofs.Common.{◌≡◌, ◌≢◌, refl, sym, ap, ◌∙◌, ℕ, zero, suc, ◌+◌, ◌<◌, Bool, true, false, cond, eqb, List, [], ◌∷◌, ◌++◌, length, get_or, replicate, map, Option, Some, None, unwrap_or, length-set, get_or-set_same, get_or-set_other, arith}
 use Rattle.std.proofs.lemmas.List.{length-map, length-replicate, get_or-replicate, ext_get_or}
 use Rattle.std.proofs.lemmas.Bool.{eqb-true, eq-eqb, false≢true}
 use Rattle.lt_tree.specs.Nodes.{Node}
@@ -62,10 +62,10 @@ noted_is tests list =
     ext_get_or None (noted_all nothing tests) (map (λ site. decided_at tests site.number) (sites_from 0 list))
     (all ∙ sym (length-map (sites_from 0 list) (λ site. decided_at tests site.number) ∙ length-sites_from 0 list))
     (λ i inside.
-        let here : i < length list = omega arith in
-        let zero_is : 0 + i ≡ i = omega arith in
-        read nothing tests i (omega arith) ∙ ap (λ x. or_else x (decided_at tests i)) (get_or-replicate (length list) i None None here)
-        ∙ sym (at_number tests 0 i list here ∙ ap (decided_at tests) zero_is))
+    let here : i < length list = omega arith in
+    let zero_is : 0 + i ≡ i = omega arith in
+    read nothing tests i (omega arith) ∙ ap (λ x. or_else x (decided_at tests i)) (get_or-replicate (length list) i None None here)
+    ∙ sym (at_number tests 0 i list here ∙ ap (decided_at tests) zero_is))
 
 pub noted_both : (found : List (Option ℕ)) (xs ys : List Test) → noted_all found (xs ++ ys) ≡ noted_all (noted_all found xs) ys
 noted_both found [] ys = refl

@@ -1,7 +1,6 @@
 -- Where nodes stand in the list of a unit.
-use Rattle.std.proofs.Common.{◌≡◌, refl, sym, ap, ◌∙◌, ℕ, zero, suc, ◌+◌, ◌-◌, ◌<◌, ◌≤◌, List, [], ◌∷◌, ◌++◌, length, get_or, drop, Some, append_assoc, length-append, length-drop, map, arith}
-use Rattle.std.specs.Prelude.{slice_get}
-use Rattle.std.specs.Prelude.{option_map}
+use Rattle.std.proofs.Common.{◌≡◌, refl, sym, ap, ◌∙◌, ℕ, suc, ◌+◌, ◌-◌, ◌<◌, ◌≤◌, List, [], ◌∷◌, ◌++◌, length, get_or, drop, Some, append_assoc, length-append, length-drop, map, arith}
+use Rattle.std.specs.Prelude.{slice_get, option_map}
 use Rattle.std.proofs.lemmas.List.{length-map, map-append, drop-map, drop-drop, get_or-drop}
 use Rattle.std.proofs.Math.ListN.{get_or-map}
 use Rattle.std.proofs.lemmas.Option.{slice_get-map, get_or_from_slice_get}
@@ -27,14 +26,14 @@ pub entry_at : (list : List Site) (unit : c.Unit) (k : ℕ) (node : Node) (d : S
     entry_of (get_or list k d) ≡ part_of node
 entry_at list unit k node d are e =
     let found : slice_get (map entry_of list) k ≡ Some (part_of node) =
-        ap (λ zs. slice_get zs k) are ∙ slice_get-map part_of (nodes unit) k ∙ ap (option_map part_of) e in
+    ap (λ zs. slice_get zs k) are ∙ slice_get-map part_of (nodes unit) k ∙ ap (option_map part_of) e in
     sym (get_or-map entry_of list k d) ∙ get_or_from_slice_get (map entry_of list) k (part_of node) (entry_of d) found
 
 pub front : {list : List Site} {k : ℕ} (xs ys : List Node) → Stand list k (xs ++ ys) → Stand list k xs
 front xs ys s = record {
-    behind = map part_of ys ++ s.behind;
-    is_there = s.is_there ∙ ap (λ zs. zs ++ s.behind) (map-append part_of xs ys) ∙ append_assoc (map part_of xs) (map part_of ys) s.behind;
-  }
+  behind = map part_of ys ++ s.behind;
+  is_there = s.is_there ∙ ap (λ zs. zs ++ s.behind) (map-append part_of xs ys) ∙ append_assoc (map part_of xs) (map part_of ys) s.behind;
+}
 
 past : (xs : List Node) (zs : List Sized) → drop (length xs) (map part_of xs ++ zs) ≡ zs
 past [] zs = refl
@@ -42,11 +41,11 @@ past (x ∷ xs) zs = past xs zs
 
 pub back : {list : List Site} {k : ℕ} (xs ys : List Node) → Stand list k (xs ++ ys) → Stand list (k + length xs) ys
 back {list} {k} xs ys s = record {
-    behind = s.behind;
-    is_there =
-        sym (drop-drop (length xs) k (map entry_of list)) ∙ ap (drop (length xs)) (s.is_there ∙ ap (λ zs. zs ++ s.behind) (map-append part_of xs ys) ∙ append_assoc (map part_of xs) (map part_of ys) s.behind)
-        ∙ past xs (map part_of ys ++ s.behind);
-  }
+  behind = s.behind;
+  is_there =
+      sym (drop-drop (length xs) k (map entry_of list)) ∙ ap (drop (length xs)) (s.is_there ∙ ap (λ zs. zs ++ s.behind) (map-append part_of xs ys) ∙ append_assoc (map part_of xs) (map part_of ys) s.behind)
+      ∙ past xs (map part_of ys ++ s.behind);
+}
 
 rest_of : {list : List Site} {k : ℕ} (xs : List Node) (s : Stand list k xs) → length list - k ≡ length xs + length s.behind
 rest_of {list} {k} xs s =
@@ -66,9 +65,9 @@ head {list} {k} {x} {xs} d s =
 
 pub tail : {list : List Site} {k : ℕ} {x : Node} {xs : List Node} → Stand list k (x ∷ xs) → Stand list (k + 1) xs
 tail {list} {k} {x} {xs} s = record {
-    behind = s.behind;
-    is_there = sym (drop-drop 1 k (map entry_of list)) ∙ ap (drop 1) s.is_there;
-  }
+  behind = s.behind;
+  is_there = sym (drop-drop 1 k (map entry_of list)) ∙ ap (drop 1) s.is_there;
+}
 
 pub fits : {list : List Site} {k : ℕ} (xs : List Node) → Stand list k xs → k ≤ length list → k + length xs ≤ length list
 fits {list} {k} xs s h =

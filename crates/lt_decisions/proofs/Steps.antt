@@ -1,5 +1,5 @@
 -- What is ahead of a walk after each of its steps.
-use Rattle.std.proofs.Common.{◌≡◌, refl, sym, ap, ◌∙◌, subst, ℕ, suc, ◌+◌, ◌<◌, ◌≤◌, min, max, List, [], ◌∷◌, ◌++◌, length, get_or, drop, Option, Some, None, unwrap_or, append_assoc, length-append, arith}
+use Rattle.std.proofs.Common.{◌≡◌, refl, sym, ap, ◌∙◌, subst, ℕ, suc, ◌+◌, ◌<◌, ◌≤◌, min, max, List, [], ◌∷◌, ◌++◌, length, get_or, drop, Option, None, unwrap_or, append_assoc, length-append, arith}
 use Rattle.std.specs.List.{flat_map}
 use Rattle.std.proofs.lemmas.List.{append-nil}
 use Rattle.lt_tree.specs.declared.expression.UnaryOp.TheVariants as unary
@@ -109,7 +109,7 @@ operands list k after behind last found whole op left right es stand ends behind
     before list tests.Clauses (k + 1) None last found whole c.no_marks left (right ∷ es) tests_left (k + 1 + length firsts) (subst S join (tail stand))
     (omega (arith, ap length join)) (ap (λ n. tests_of tests.Clauses None n left) none) (omega arith)
     (ap (λ n. noted_all found (tests_left ++ (tests_right ++ tests_from tests.Clauses None n es))) far
-        ∙ sym (ap (noted_all found) (append_assoc tests_left tests_right (tests_from tests.Clauses None behind es))) ∙ leads)
+    ∙ sym (ap (noted_all found) (append_assoc tests_left tests_right (tests_from tests.Clauses None behind es))) ∙ leads)
 
 by_expression : (list : List Site) (what : Tests) (e : c.Expression) (k : ℕ) (after : Option ℕ) (behind last : ℕ) (found whole : List (Option ℕ)) (es : List c.Expression) →
     Stand list k (in_expression e ++ flat_map in_expression es) → k + length (in_expression e ++ flat_map in_expression es) ≡ last → behind ≡ k + length (in_expression e) →
@@ -182,8 +182,8 @@ by_ahead list what k after behind last found whole site c.no_marks (e ∷ es) is
     let none : k ≡ k + 0 = omega arith in
     let far : behind ≡ k + 0 + length (in_expression e) = omega (arith, here.1) in
     subst G (sym here.0) (by_expression list what e k after behind last found whole es stand ends here.1
-        (ap (λ n. noted_all found (tests_of what after n e ++ tests_from what None behind es)) none
-            ∙ ap (λ n. noted_all found (tests_of what after (k + 0) e ++ tests_from what None n es)) far ∙ leads))
+    (ap (λ n. noted_all found (tests_of what after n e ++ tests_from what None behind es)) none
+    ∙ ap (λ n. noted_all found (tests_of what after (k + 0) e ++ tests_from what None n es)) far ∙ leads))
 
 -- what is ahead behind the step that a walk makes
 pub goes : (list : List Site) (what : Tests) (at : Cursor) (behind last : ℕ) (found whole : List (Option ℕ)) (site : Site) → site ≡ get_or list at.number site →

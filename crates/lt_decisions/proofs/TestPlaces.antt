@@ -1,5 +1,5 @@
 -- Where the controlling expression of a node stands.
-use Rattle.std.proofs.Common.{◌≡◌, refl, sym, ap, ◌∙◌, subst, ℕ, suc, ◌+◌, ◌^◌, ◌<◌, List, [], ◌∷◌, ◌++◌, length, get_or, drop, Option, Some, None, append_assoc, arith}
+use Rattle.std.proofs.Common.{◌≡◌, refl, sym, ap, ◌∙◌, subst, ℕ, ◌+◌, ◌^◌, ◌<◌, List, [], ◌∷◌, ◌++◌, length, get_or, drop, Option, Some, None, arith}
 use Rattle.std.specs.Prelude.{slice_get, SomeIff, MatchOption}
 use Rattle.lt_tree.specs.Tree as c
 use Rattle.lt_tree.specs.Nodes.{Node, a_statement, an_expression, in_expression, in_statement, in_start, in_optional, nodes}
@@ -31,7 +31,7 @@ in_do list k x test site stand =
     let begun : Stand list (k + 1) (a_statement x ∷ (drop 1 (in_statement x) ++ in_expression test)) = subst S (begins x) body in
     let I : ℕ → Type 0 = λ n. IsTest list k (a_statement (c.Do x test)) (k + 1 + n) in
     let found : (it : Site) → it ≡ get_or list (k + 1) it → IsTest list k (a_statement (c.Do x test)) (k + 1 + it.size) =
-        λ it is. subst I (ap (λ entry. entry.size) (sym (ap entry_of is ∙ head it begun))) (record { test = test; controls = refl; stands = back (in_statement x) (in_expression test) body }) in
+    λ it is. subst I (ap (λ entry. entry.size) (sym (ap entry_of is ∙ head it begun))) (record { test = test; controls = refl; stands = back (in_statement x) (in_expression test) body }) in
     (within begun, found)
 
 in_for : (list : List Site) (k : ℕ) (start : c.ForStart) (test : c.Expression) (step : Option c.Expression) (x : c.Statement) (site : Site) → length (in_start start) ≡ site.head →

@@ -13,7 +13,10 @@ use lt_sites::Site;
 use std::alloc::{AllocError, Global};
 
 /// By number: what a new `pc_decide` stands around, where the core of a decision stands.
-pub fn decisions_by_core(alloc: Global, sites: &[Site<'_>]) -> Result<Vec<Option<usize>>, AllocError>
+pub fn decisions_by_core(
+    alloc: Global,
+    sites: &[Site<'_>],
+) -> Result<Vec<Option<usize>>, AllocError>
     ensures { (unit : c.Unit) → AreSitesOf sites.now unit → IfOk result (λ v. v.items ≡ map (λ site. decided_at (decisions unit) site.number) (sites_of unit)) }
 {
     by_core(alloc, sites, Tests::Decisions)
@@ -26,7 +29,11 @@ pub fn clauses_by_core(alloc: Global, sites: &[Site<'_>]) -> Result<Vec<Option<u
     by_core(alloc, sites, Tests::Clauses)
 }
 
-fn by_core(alloc: Global, sites: &[Site<'_>], tests: Tests) -> Result<Vec<Option<usize>>, AllocError>
+fn by_core(
+    alloc: Global,
+    sites: &[Site<'_>],
+    tests: Tests,
+) -> Result<Vec<Option<usize>>, AllocError>
     ensures { (unit : c.Unit) → AreSitesOf sites.now unit → IfOk result (λ v. v.items ≡ map (λ site. decided_at (tests_in tests unit) site.number) (sites_of unit)) }
 {
     let mut found = vec![in alloc; None; sites.len()]?;

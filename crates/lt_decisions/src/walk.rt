@@ -15,20 +15,22 @@ pub struct Cursor {
     pub after: Option<usize>,
 }
 
-/// The number behind the part of a site at this number. Whatever the sizes say, it is further on and no more than the count of all sites.
-fn behind(number: usize, size: usize, count: usize) -> usize
-    ensures { result ≡ min (number + max 1 size) count }
+/// Notes the tests of the controlling expression that begins at this number.
+pub fn note_tests(sites: &[Site<'_>], tests: Tests, first: usize, found: &mut [Option<usize>])
+    requires { length found.old ≡ length sites.now }
+    ensures { (e : c.Expression) → Stand sites.now first (in_expression e) → found.new ≡ noted_all found.old (tests_of tests None first e) }
 {
-    number.saturating_add(size.max(1)).min(count)
-}
-
-/// Notes a test at its core; what was noted there first stays.
-fn note(found: &mut [Option<usize>], at: Cursor)
-    requires { at.number < length found.old }
-    ensures { found.new ≡ noted found.old at.number (unwrap_or at.after at.number) }
-{
-    let decided = at.after.unwrap_or(at.number);
-    found[at.number] = Some(found[at.number].unwrap_or(decided));
+    let Some(site) = sites.get(first) else {
+        return;
+    };
+    let last = behind(first, site.size, sites.len());
+    let mut at = Cursor {
+        number: first,
+        after: None,
+    };
+    'walk: while at.number < last {
+        at = step(sites, tests, at, found);
+    }
 }
 
 /// Goes on to a node inside, or notes a test and goes behind it.
@@ -41,29 +43,31 @@ fn step(sites: &[Site<'_>], tests: Tests, at: Cursor, found: &mut [Option<usize>
     let number = at.number;
     let site = &sites[number];
     let behind = behind(number, site.size, sites.len());
-    match turn_at(tests, site.node) {
-        Turn::Skip => Cursor { number: behind, after: at.after },
-        Turn::Inside => Cursor { number: number + 1, after: at.after },
-        Turn::After => Cursor { number: number + 1, after: Some(at.after.unwrap_or(number)) },
-        Turn::Operands => Cursor { number: number + 1, after: None },
+    let (number, after) = match turn_at(tests, site.node) {
+        Turn::Skip => (behind, at.after),
+        Turn::Inside => (number + 1, at.after),
+        Turn::After => (number + 1, Some(at.after.unwrap_or(number))),
+        Turn::Operands => (number + 1, None),
         Turn::Test => {
             note(found, at);
-            Cursor { number: behind, after: None }
+            (behind, None)
         }
-    }
+    };
+    Cursor { number, after }
 }
 
-/// Notes the tests of the controlling expression that begins at this number.
-pub fn note_tests(sites: &[Site<'_>], tests: Tests, first: usize, found: &mut [Option<usize>])
-    requires { length found.old ≡ length sites.now }
-    ensures { (e : c.Expression) → Stand sites.now first (in_expression e) → found.new ≡ noted_all found.old (tests_of tests None first e) }
+/// Notes a test at its core; what was noted there first stays.
+fn note(found: &mut [Option<usize>], at: Cursor)
+    requires { at.number < length found.old }
+    ensures { found.new ≡ noted found.old at.number (unwrap_or at.after at.number) }
 {
-    let Some(site) = sites.get(first) else {
-        return;
-    };
-    let last = behind(first, site.size, sites.len());
-    let mut at = Cursor { number: first, after: None };
-    'walk: while at.number < last {
-        at = step(sites, tests, at, found);
-    }
+    let decided = at.after.unwrap_or(at.number);
+    found[at.number] = Some(found[at.number].unwrap_or(decided));
+}
+
+/// The number behind the part of a site at this number. Whatever the sizes say, it is further on and no more than the count of all sites.
+fn behind(number: usize, size: usize, count: usize) -> usize
+    ensures { result ≡ min (number + max 1 size) count }
+{
+    number.saturating_add(size.max(1)).min(count)
 }

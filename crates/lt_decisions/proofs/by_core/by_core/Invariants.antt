@@ -1,4 +1,4 @@
-use Rattle.std.proofs.Common.{◌≡◌, length, replicate, None, vec_len}
+use Rattle.std.proofs.Common.{◌≡◌, length, replicate, None}
 use Rattle.lt_tree.specs.Tree as c
 use Rattle.lt_sites.specs.Sites.{AreSitesOf}
 use Rattle.lt_decisions.specs.Walk.{tests_in, noted_all}

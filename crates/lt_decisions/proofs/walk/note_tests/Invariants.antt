@@ -1,4 +1,4 @@
-use Rattle.std.proofs.Common.{◌≡◌, ◌-◌, ◌≤◌, length, None}
+use Rattle.std.proofs.Common.{◌-◌, ◌≤◌, length, None}
 use Rattle.lt_tree.specs.Tree as c
 use Rattle.lt_tree.specs.Nodes.{in_expression}
 use Rattle.lt_decisions.specs.Walk.{Stand, Leads, tests_of, noted_all}

@@ -19,7 +19,7 @@ returns-in-After-clause-leads c last whole more leads =
     let L : ℕ → Type 0 = λ n. Leads c.args.sites.now c.args.tests (cursor (c.args.at.number + 1) (Some n)) last c.args.found.now whole in
     subst L (sym c.unwrap_or.ensures)
     (goes c.args.sites.now c.args.tests c.args.at c.behind-behind.result last c.args.found.now whole c.index-sites-number.result c.index-sites-number.is c.behind-behind.ensures more leads
-        turn.After (sym c.in-After.is ∙ c.turn_at.ensures))
+    turn.After (sym c.in-After.is ∙ c.turn_at.ensures))
 
 pub returns-in-Operands-clause-leads : goal.returns-in-Operands-clause-leads
 returns-in-Operands-clause-leads c last whole more leads =
@@ -31,4 +31,4 @@ returns-in-Test-clause-leads c last whole more leads =
     let L : List (Option ℕ) → Type 0 = λ found. Leads c.args.sites.now c.args.tests (cursor c.behind-behind.result None) last found whole in
     subst L (sym c.note.ensures)
     (goes c.args.sites.now c.args.tests c.args.at c.behind-behind.result last c.args.found.now whole c.index-sites-number.result c.index-sites-number.is c.behind-behind.ensures more leads
-        turn.Test (sym c.in-Test.is ∙ c.turn_at.ensures))
+    turn.Test (sym c.in-Test.is ∙ c.turn_at.ensures))
