@@ -1,0 +1,2 @@
+pub mod OutsideMarks
+pub mod OwnNumbers
