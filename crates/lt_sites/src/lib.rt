@@ -2,6 +2,7 @@
 #![tactic(auto)]
 
 mod list;
+mod lister;
 mod site;
 
 pub use list::list_sites;
