@@ -1,2 +1,9 @@
+pub mod Maps
 pub mod OutsideMarks
 pub mod OwnNumbers
+pub mod TypeFamilies
+pub mod RowQualifiers
+pub mod FirstPlaces
+pub mod FactIndices
+pub mod Domains
+pub mod KnownObjects

@@ -95,10 +95,10 @@ first_outside : (marks : List Span) (k marked : ℕ) (node : Node) (ns : List No
 first_outside marks k marked node ns are =
     let size = mark_size (part_of node) in
     let covered : list_any (covers k) marks ≡ not (max size marked == 0) =
-        covers_first marks k marked node ns are k (omega arith)
-        ∙ ap (λ b. (nat_lt k (k + marked) || nat_lt k (k + size)) || b) (covers_later k (k + 1) ns (omega arith))
-        ∙ or_false (nat_lt k (k + marked) || nat_lt k (k + size))
-        ∙ covered_now k size marked in
+    covers_first marks k marked node ns are k (omega arith)
+    ∙ ap (λ b. (nat_lt k (k + marked) || nat_lt k (k + size)) || b) (covers_later k (k + 1) ns (omega arith))
+    ∙ or_false (nat_lt k (k + marked) || nat_lt k (k + size))
+    ∙ covered_now k size marked in
     twice_not (max size marked == 0) (stays_without_marks node) ∙ ap (λ b. stays_without_marks node && not b) (sym covered)
   where
     twice_not : (a b : Bool) → a && b ≡ (b && not (not a))

@@ -1,0 +1,10 @@
+use Rattle.std.proofs.Common.{◌≡◌, ◌++◌, map, drop}
+use Rattle.lt_tree.specs.Typing.ProgramView.{program_of}
+use Rattle.lt_facts.specs.Indices.{at_place}
+use Rattle.lt_facts.specs.Facts.{is_constant_fact}
+use Rattle.lt_facts.proofs.facts.constants.Given as goal
+
+abbrev pub invariant-loop-index : goal.invariant-loop-index
+invariant-loop-index l =
+    l.constants.items ++ map (λ index. is_constant_fact (at_place (program_of l.program).facts index)) (drop l.index-index l.fact_indices)
+    ≡ map (λ index. is_constant_fact (at_place (program_of l.program).facts index)) l.fact_indices
