@@ -1,10 +1,10 @@
 -- The domains of objects by what is known of them.
-use Rattle.std.proofs.Common.{◌≡◌, ℕ, Bool, true, false, cond, List, [], ◌∷◌, ◌++◌, Option, Some, None, slice_get, refl, sym, ap, ◌∙◌}
+use Rattle.std.proofs.Common.{◌≡◌, Bool, true, false, cond, List, [], ◌∷◌, ◌++◌, Option, Some, None, slice_get, refl, sym, ap, ◌∙◌}
 use Rattle.std.specs.List.{flat_map}
 use Rattle.std.proofs.lemmas.List.Concat.{flat_map-append}
 use Rattle.lt_model.specs.declared.operator.Op.TheVariants as O
 use Rattle.lt_tree.specs.Tree as c
-use Rattle.lt_tree.specs.Typing.Types.{CType, is_integer, is_pointer}
+use Rattle.lt_tree.specs.Typing.Types.{CType, is_pointer}
 use Rattle.lt_tree.specs.Typing.Entities.{Object}
 use Rattle.lt_tree.specs.Typing.Programs.{Program}
 use Rattle.lt_objectives.specs.Decisions.{zero_constant}

@@ -10,7 +10,6 @@ use Rattle.lt_tree.specs.Typing.Entities.{Fact, Function}
 use Rattle.lt_tree.specs.Typing.Programs.{Program}
 use Rattle.lt_objectives.specs.Places.{sites, corresponding_node, fact_among, fact_at, type_at, is_constant}
 use Rattle.lt_objectives.specs.Objectives.{parameters_at, parameters_among}
-use Rattle.lt_facts.specs.declared.types.Family.{Family}
 use Rattle.lt_facts.specs.Numbers.{own_numbers}
 use Rattle.lt_facts.specs.Indices.{first_place, place_among, at_place}
 use Rattle.lt_facts.specs.Families.{family}

@@ -1,12 +1,12 @@
 -- The walk over nodes with their sizes finds the nodes outside marks.
-use Rattle.std.proofs.Common.{◌≡◌, ℕ, ◌+◌, ◌-◌, ◌<◌, ◌≤◌, ◌==◌, ◌&&◌, ◌||◌, not, max, nat_lt, nat_le, cond, Bool, true, false, List, [], ◌∷◌, ◌++◌, map, length, refl, sym, ap, ◌∙◌, arith}
+use Rattle.std.proofs.Common.{◌≡◌, ℕ, ◌+◌, ◌-◌, ◌<◌, ◌≤◌, ◌==◌, ◌&&◌, ◌||◌, not, max, nat_lt, nat_le, cond, Bool, true, false, List, [], ◌∷◌, map, refl, sym, ap, ◌∙◌, arith}
 use Rattle.std.specs.List.{flat_map, list_any}
 use Rattle.std.proofs.lemmas.Bool.Decides.{nat_tests}
 use Rattle.std.proofs.lemmas.List.Folds.{list_any-append}
 use Rattle.lt_tree.specs.Tree as c
 use Rattle.lt_tree.specs.Nodes.{Node, an_external, a_declarator, an_initialiser, a_member, an_enumerator, a_label, a_declared_item, a_stated_item, a_marked_item, a_statement, an_expression, a_mark, nodes}
-use Rattle.lt_objectives.specs.Places.{Site, Span, span, covers, mark_in, sites, sites_from, stays_without_marks, numbers_outside, unmarked_numbers}
-use Rattle.lt_sites.specs.Sites.{Sized, part_of}
+use Rattle.lt_objectives.specs.Places.{Site, Span, covers, mark_in, sites, sites_from, stays_without_marks, numbers_outside, unmarked_numbers}
+use Rattle.lt_sites.specs.Sites.{part_of}
 use Rattle.lt_facts.specs.Outside.{mark_size, outside_from, places_from}
 
 abbrev pub is_outside : List Span → Site → Bool

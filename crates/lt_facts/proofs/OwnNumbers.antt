@@ -1,5 +1,5 @@
 -- Both walks side by side give the numbers of the same nodes.
-use Rattle.std.proofs.Common.{◌≡◌, ℕ, ◌+◌, ◌<◌, ◌≤◌, ◌==◌, cond, eqb, Bool, true, false, List, [], ◌∷◌, map, Option, Some, None, refl, sym, ap, ◌∙◌, arith}
+use Rattle.std.proofs.Common.{◌≡◌, ℕ, ◌+◌, ◌<◌, ◌≤◌, cond, eqb, Bool, true, false, List, [], ◌∷◌, map, Option, Some, None, refl, sym, ap, ◌∙◌, arith}
 use Rattle.std.specs.List.{flat_map}
 use Rattle.std.proofs.lemmas.Bool.Decides.{nat_tests}
 use Rattle.lt_tree.specs.Tree as c
@@ -7,7 +7,7 @@ use Rattle.lt_tree.specs.Nodes.{Node, nodes}
 use Rattle.lt_tree.specs.Typing.Programs as s
 use Rattle.lt_objectives.specs.Places.{Span, mark_in, sites, sites_from, numbers_outside, unmarked_numbers, corresponding}
 use Rattle.lt_sites.specs.declared.site.Site.{Site}
-use Rattle.lt_sites.specs.Sites.{part_of, entry_of, AreSitesOf}
+use Rattle.lt_sites.specs.Sites.{entry_of, AreSitesOf}
 use Rattle.lt_facts.specs.Numbers.{own_numbers}
 use Rattle.lt_facts.specs.Outside.{outside_from, places_from, side_by_side}
 use Rattle.lt_facts.proofs.OutsideMarks.{is_outside, outside_unit, places_unit}

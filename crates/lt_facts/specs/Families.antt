@@ -1,5 +1,5 @@
 -- Families of types: integers of signed and of unsigned types, and pointers.
-use Rattle.std.specs.Prelude.{◌≡◌, ℕ, Bool, true, false, if◌then◌else◌, List, [], ◌∷◌, ◌++◌, slice_index_or, map}
+use Rattle.std.specs.Prelude.{◌≡◌, Bool, true, false, if◌then◌else◌, List, [], ◌∷◌, ◌++◌, slice_index_or, map}
 use Rattle.lt_model.specs.declared.scalar.DataModel.{DataModel}
 use Rattle.lt_model.specs.Scalar.{is_signed}
 use Rattle.lt_tree.specs.declared.typed.types.TypeRow.{TypeRow}

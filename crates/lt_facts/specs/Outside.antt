@@ -1,5 +1,5 @@
 -- The nodes that are there without the marks too, in one walk over nodes with their sizes.
-use Rattle.std.specs.Prelude.{ℕ, ◌+◌, ◌-◌, ◌==◌, max, Bool, true, false, ◌&&◌, List, [], ◌∷◌, slice_get, Option, Some, None}
+use Rattle.std.specs.Prelude.{ℕ, ◌+◌, ◌-◌, ◌==◌, max, Bool, true, false, ◌&&◌, List, [], ◌∷◌, Option, Some, None}
 use Rattle.lt_tree.specs.Nodes.{a_mark}
 use Rattle.lt_objectives.specs.Places.{stays_without_marks}
 use Rattle.lt_sites.specs.Sites.{Sized}

@@ -1,5 +1,5 @@
 -- What is known of the parameters of a function.
-use Rattle.std.specs.Prelude.{◌≡◌, ℕ, Bool, true, false, if◌then◌else◌, List, [], ◌∷◌, Option, Some, None, slice_get}
+use Rattle.std.specs.Prelude.{◌≡◌, ℕ, Bool, false, if◌then◌else◌, List, [], ◌∷◌, Some, None, slice_get}
 use Rattle.std.specs.List.{flat_map}
 use Rattle.lt_model.specs.declared.operator.Op.TheVariants as O
 use Rattle.lt_tree.specs.declared.typed.types.TypeRow.{TypeRow}

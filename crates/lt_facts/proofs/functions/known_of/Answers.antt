@@ -1,4 +1,4 @@
-use Rattle.std.proofs.Common.{◌∙◌, sym, ap, slice_index_or}
+use Rattle.std.proofs.Common.{◌∙◌, ap, slice_index_or}
 use Rattle.lt_tree.specs.Typing.Types.{Void}
 use Rattle.lt_tree.specs.Typing.TypeRows.{type_in, types_of_rows}
 use Rattle.lt_facts.specs.declared.types.Family.TheVariants as F

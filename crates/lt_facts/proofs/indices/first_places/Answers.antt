@@ -1,6 +1,5 @@
-use Rattle.std.proofs.Common.{◌+◌, sym, ap, ◌∙◌, cond, eqb, get_or, take, Some, None, arith}
+use Rattle.std.proofs.Common.{sym, ap, ◌∙◌, cond, eqb, get_or, Some, None, arith}
 use Rattle.lt_tree.specs.Typing.Entities.{or_else}
-use Rattle.lt_facts.specs.Indices.{first_place}
 use Rattle.lt_facts.proofs.FirstPlaces.{place_more}
 use Rattle.lt_facts.proofs.indices.first_places.Goals as goal
 

@@ -1,6 +1,6 @@
 use Rattle.std.proofs.Common.{◌∙◌, ap}
 use Rattle.std.proofs.lemmas.Result.{IfOk-weaker}
-use Rattle.lt_facts.specs.Outside.{outside_from, places_from, side_by_side}
+use Rattle.lt_facts.specs.Outside.{places_from, side_by_side}
 use Rattle.lt_facts.proofs.OwnNumbers.{own_numbers_are}
 use Rattle.lt_facts.proofs.numbers.own_numbers.Goals as goal
 
