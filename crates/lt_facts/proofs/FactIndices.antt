@@ -1,6 +1,7 @@
 -- Facts and functions by the places of their nodes.
-use Rattle.std.proofs.Common.{◌≡◌, ℕ, suc, Bool, true, false, cond, eqb, List, [], ◌∷◌, map, Option, Some, None, refl, sym, ap, ◌∙◌}
+use Rattle.std.proofs.Common.{◌≡◌, ℕ, length, subst, suc, Bool, true, false, cond, eqb, List, [], ◌∷◌, map, Option, Some, None, refl, sym, ap, ◌∙◌}
 use Rattle.std.specs.Prelude.{option_map}
+use Rattle.std.proofs.lemmas.List.{length-map}
 use Rattle.std.proofs.lemmas.Simd.{map-map}
 use Rattle.lt_model.specs.declared.scalar.DataModel.{DataModel}
 use Rattle.lt_tree.specs.Tree as c
@@ -11,10 +12,11 @@ use Rattle.lt_tree.specs.Typing.Programs.{Program}
 use Rattle.lt_objectives.specs.Places.{sites, corresponding_node, fact_among, fact_at, type_at, is_constant}
 use Rattle.lt_objectives.specs.Objectives.{parameters_at, parameters_among}
 use Rattle.lt_facts.specs.Numbers.{own_numbers}
-use Rattle.lt_facts.specs.Indices.{first_place, place_among, at_place}
+use Rattle.lt_facts.specs.Indices.{first_place, place_among, at_place, AreIndicesBelow}
 use Rattle.lt_facts.specs.Families.{family}
 use Rattle.lt_facts.specs.Facts.{AreFactIndices, AreFunctionIndices, parameters_of, constants, families, is_constant_fact, type_of_fact}
 use Rattle.lt_facts.proofs.Maps.{same_maps}
+use Rattle.lt_facts.proofs.FirstPlaces.{places_below}
 
 -- ---- the first with a node
 
@@ -71,6 +73,11 @@ function_indices_are unit program nodes numbers indices node index number =
     ∙ map-map (λ number. found (place_among (map (λ f. f.node) program.functions) number)) (λ site. corresponding_node unit program site.number) (sites unit)
     ∙ same_maps (λ site. found (place_among (map (λ f. f.node) program.functions) (corresponding_node unit program site.number))) (λ site. parameters_at unit program site.number)
     (λ site. function_of_number program.functions (corresponding_node unit program site.number)) (sites unit)
+
+pub indices_below : {A : Type 0} (list : List A) (of : A → ℕ) (nodes : List ℕ) (numbers indices : List (Option ℕ)) → nodes ≡ map of list → indices ≡ map (place_among nodes) numbers
+    → AreIndicesBelow (length list) indices
+indices_below list of nodes numbers indices node index =
+    subst (AreIndicesBelow (length list)) (sym index) (subst (λ count. AreIndicesBelow count (map (place_among nodes) numbers)) (ap length node ∙ length-map list of) (places_below nodes numbers))
 
 -- ---- what facts say
 

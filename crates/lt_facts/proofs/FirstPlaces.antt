@@ -1,11 +1,12 @@
 -- Where numbers stand first, in maps and in lists.
-use Rattle.std.proofs.Common.{◌≡◌, ℕ, ◌+◌, ◌<◌, suc, Bool, true, false, cond, eqb, List, [], ◌∷◌, ◌++◌, length, take, get_or, Option, Some, None, refl, sym, ap, ◌∙◌, arith}
-use Rattle.std.specs.Prelude.{is_some, nat_eq, option_map, option_and_then}
+use Rattle.std.proofs.Common.{◌≡◌, ℕ, ◌+◌, ◌<◌, suc, Bool, true, false, cond, eqb, List, [], ◌∷◌, ◌++◌, length, map, take, get_or, Option, Some, None, refl, sym, ap, ◌∙◌, arith}
+use Rattle.std.specs.Prelude.{IfSome, is_some, nat_eq, option_map, option_and_then}
 use Rattle.std.specs.HashMap.{HashMap, get}
 use Rattle.std.proofs.lemmas.Bool.Decides.{nat_tests}
 use Rattle.std.proofs.lemmas.List.{take_more, length-take-le}
+use Rattle.std.proofs.lemmas.List.Elements.{All-map}
 use Rattle.lt_tree.specs.Typing.Entities.{or_else}
-use Rattle.lt_facts.specs.Indices.{first_place, place_among}
+use Rattle.lt_facts.specs.Indices.{first_place, place_among, AreIndicesBelow}
 
 -- ---- in a map
 
@@ -61,3 +62,21 @@ pub place_found : {S : Type 0} (places : HashMap ℕ ℕ S) (others : List ℕ) 
     → option_and_then (get nat_eq places) number ≡ place_among others number
 place_found places others None is = refl
 place_found places others (Some n) is = is n
+
+-- ---- within the list
+
+first_within : (b : Bool) (o : Option ℕ) (count : ℕ) → IfSome o (λ i. i < count) → IfSome (cond b (Some 0) (option_map suc o)) (λ i. i < suc count)
+first_within true o count is = omega arith
+first_within false None count is = tt
+first_within false (Some i) count is = omega (arith, is)
+
+first_below : (n : ℕ) (xs : List ℕ) → IfSome (first_place n xs) (λ i. i < length xs)
+first_below n [] = tt
+first_below n (x ∷ xs) = first_within (eqb x n) (first_place n xs) (length xs) (first_below n xs)
+
+place_below : (others : List ℕ) (number : Option ℕ) → IfSome (place_among others number) (λ i. i < length others)
+place_below others None = tt
+place_below others (Some n) = first_below n others
+
+pub places_below : (others : List ℕ) (numbers : List (Option ℕ)) → AreIndicesBelow (length others) (map (place_among others) numbers)
+places_below others numbers = All-map (λ index. IfSome index (λ i. i < length others)) (place_among others) numbers (λ k d within. place_below others (get_or numbers k d))

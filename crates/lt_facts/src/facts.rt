@@ -1,10 +1,10 @@
 //! What a program knows of the nodes of a unit.
 
-ghost use Rattle.std.specs.Prelude.{◌≡◌, map, IfOk};
+ghost use Rattle.std.specs.Prelude.{◌≡◌, map, length, IfOk};
 ghost use Rattle.lt_tree.specs.Tree as c;
 ghost use Rattle.lt_tree.specs.Typing.ProgramView.{program_of};
 ghost use Rattle.lt_facts.specs.Numbers.{own_numbers};
-ghost use Rattle.lt_facts.specs.Indices.{at_place};
+ghost use Rattle.lt_facts.specs.Indices.{at_place, AreIndicesBelow};
 ghost use Rattle.lt_facts.specs.Families.{family, type_families};
 ghost use Rattle.lt_facts.specs.Facts.{AreFactIndices, AreFunctionIndices, constants, families, is_constant_fact, type_of_fact};
 
@@ -19,7 +19,8 @@ pub fn fact_indices(
     numbers: &[Option<usize>],
     program: &Program<'_>,
 ) -> Result<Vec<Option<usize>>, AllocError>
-    ensures { (unit : c.Unit) → numbers.now ≡ own_numbers unit (program_of program.now) → IfOk result (λ v. AreFactIndices unit (program_of program.now) v.items) }
+    ensures facts { (unit : c.Unit) → numbers.now ≡ own_numbers unit (program_of program.now) → IfOk result (λ v. AreFactIndices unit (program_of program.now) v.items) }
+    ensures within { IfOk result (λ v. AreIndicesBelow (length program.now.facts.items) v.items) }
 {
     let nodes = fact_nodes(alloc, &program.facts)?;
     places_among(alloc, numbers, &nodes)
@@ -31,7 +32,8 @@ pub fn function_indices(
     numbers: &[Option<usize>],
     program: &Program<'_>,
 ) -> Result<Vec<Option<usize>>, AllocError>
-    ensures { (unit : c.Unit) → numbers.now ≡ own_numbers unit (program_of program.now) → IfOk result (λ v. AreFunctionIndices unit (program_of program.now) v.items) }
+    ensures functions { (unit : c.Unit) → numbers.now ≡ own_numbers unit (program_of program.now) → IfOk result (λ v. AreFunctionIndices unit (program_of program.now) v.items) }
+    ensures within { IfOk result (λ v. AreIndicesBelow (length program.now.functions.items) v.items) }
 {
     let nodes = function_nodes(alloc, &program.functions)?;
     places_among(alloc, numbers, &nodes)
