@@ -1,5 +1,5 @@
 -- Sites that begin with the nodes of a part.
-use Rattle.std.proofs.Common.{◌≡◌, refl, sym, ap, subst, ◌∙◌, ℕ, zero, suc, ◌+◌, List, [], ◌∷◌, ◌++◌, length, map, drop, Option, Some, None, arith}
+use Rattle.std.proofs.Common.{◌≡◌, refl, sym, ap, subst, ◌∙◌, ℕ, ◌+◌, List, [], ◌∷◌, ◌++◌, length, map, drop, Some}
 use Rattle.std.specs.List.{slice_get}
 use Rattle.std.proofs.lemmas.List.{append_assoc, drop-map, drop_at, length-map, length-append}
 use Rattle.lt_tree.specs.Tree as c
@@ -26,7 +26,7 @@ pub begin_behind : (sites : List Site) (a b : List Node) → BeginWith sites (a 
 begin_behind sites a b h = record {
   behind = h.behind;
   are = sym (drop-map entry_of (length a) sites) ∙ ap (drop (length a)) h.are ∙ drop-map part_of (length a) ((a ++ b) ++ h.behind) ∙
-      ap (λ xs. map part_of (drop (length a) xs)) (append_assoc a b h.behind) ∙ ap (map part_of) (drop_at a (b ++ h.behind) (length a) refl)
+      ap (λ xs. map part_of (drop (length a) xs)) (append_assoc a b h.behind) ∙ ap (map part_of) (drop_at a (b ++ h.behind) (length a) refl);
 }
 
 pub begin_first : (site : Site) (sites : List Site) (x : Node) (run : List Node) → BeginWith (site ∷ sites) (x ∷ run) → entry_of site ≡ part_of x

@@ -1,5 +1,5 @@
 -- Places of operands, node by node.
-use Rattle.std.proofs.Common.{◌≡◌, refl, sym, ap, subst, ◌∙◌, ℕ, zero, suc, ◌+◌, ◌-◌, ◌<◌, ◌≤◌, ◌≢◌, Bool, true, false, not, ◌||◌, ◌==◌, List, [], ◌∷◌, ◌++◌, length, get_or, set, map, take, drop, Option, Some, None, ◌⊎◌, inl, inr, zero-add, add-one, arith, rules, tests}
+use Rattle.std.proofs.Common.{◌≡◌, refl, sym, ap, ◌∙◌, ℕ, zero, suc, ◌+◌, ◌<◌, ◌≤◌, Bool, true, false, not, ◌||◌, ◌==◌, List, [], ◌∷◌, ◌++◌, length, get_or, set, map, take, drop, Some, ◌⊎◌, inl, inr, zero-add, add-one, arith, rules, tests}
 use Rattle.std.specs.List.{slice_get, list_any}
 use Rattle.std.proofs.lemmas.List.{append-nil, ext_get_or, get_or-set_same, get_or-set_other, get_or-map, take_all, length-set, length-map}
 use Rattle.std.proofs.lemmas.Option.{slice_get_within}
@@ -110,7 +110,7 @@ long unit sites are = sym (length-map sites entry_of) ∙ ap length are ∙ leng
 site_of : (unit : c.Unit) (k : ℕ) (x : Node) (d : places.Site) → slice_get (nodes unit) k ≡ Some x → get_or (sites unit) k d ≡ placed k x
 site_of unit k x d is = site_at 0 k (nodes unit) d x is ∙ ap (λ n. placed n x) (zero-add k)
 
-or_false : (b : Bool) → (b || false) ≡ b
+pub or_false : (b : Bool) → (b || false) ≡ b
 or_false true = refl
 or_false false = refl
 
@@ -134,7 +134,7 @@ no_operand_more unit sites k site values are within at none so_far =
     let gives = no_operand k at'.0 (ap has_place_operand (sym same) ∙ none) in
     record {
       long = so_far.long;
-      are = λ j short. so_far.are j short ∙ ap not (sym (among_more unit k at'.0 j at'.1 ∙ ap (λ list. is_among j (take k (places.sites unit)) || list_any (is_at j) list) gives ∙ or_false (is_among j (take k (places.sites unit)))))
+      are = λ j short. so_far.are j short ∙ ap not (sym (among_more unit k at'.0 j at'.1 ∙ ap (λ list. is_among j (take k (places.sites unit)) || list_any (is_at j) list) gives ∙ or_false (is_among j (take k (places.sites unit)))));
     }
 
 -- a table in which one more entry is false
@@ -163,7 +163,7 @@ operand_more unit sites k site values place are within at some stands so_far =
       are = λ j short.
           one_cleared (is_among j (take k (places.sites unit))) values place j (omega (arith, length-set values place false)) (so_far.are j (omega (arith, length-set values place false)))
           ∙ ap not (ap (λ n. is_among j (take k (places.sites unit)) || ((n == j) || false)) here
-          ∙ sym (among_more unit k at'.0 j at'.1 ∙ ap (λ list. is_among j (take k (places.sites unit)) || list_any (is_at j) list) it.is))
+          ∙ sym (among_more unit k at'.0 j at'.1 ∙ ap (λ list. is_among j (take k (places.sites unit)) || list_any (is_at j) list) it.is));
     }
 
 pub past_end : (place n : ℕ) (xs : List Bool) → n ≡ length xs → (place < n → false ≡ true) → length xs ≤ place
@@ -179,8 +179,8 @@ all_values unit sites k values are past so_far =
     ext_get_or true values (map (λ site. is_value_position unit site.number) (places.sites unit))
     (so_far.long ∙ sym (length-sites 0 (nodes unit)) ∙ sym (length-map (places.sites unit) (λ site. is_value_position unit site.number)))
     (λ j short.
-        let at' = node_at (nodes unit) j (omega (arith, so_far.long)) in
-        let d = placed j at'.0 in
-        so_far.are j short ∙ ap (λ list. not (is_among j list)) (take_all k (places.sites unit) (omega (arith, length-sites 0 (nodes unit), long unit sites are)))
-        ∙ sym (get_or-map (λ site. is_value_position unit site.number) (places.sites unit) j (placed j at'.0) true (omega (arith, length-sites 0 (nodes unit), so_far.long))
-        ∙ ap (λ (site : places.Site). is_value_position unit site.number) (site_of unit j at'.0 (placed j at'.0) at'.1)))
+    let at' = node_at (nodes unit) j (omega (arith, so_far.long)) in
+    let d = placed j at'.0 in
+    so_far.are j short ∙ ap (λ list. not (is_among j list)) (take_all k (places.sites unit) (omega (arith, length-sites 0 (nodes unit), long unit sites are)))
+    ∙ sym (get_or-map (λ site. is_value_position unit site.number) (places.sites unit) j (placed j at'.0) true (omega (arith, length-sites 0 (nodes unit), so_far.long))
+    ∙ ap (λ (site : places.Site). is_value_position unit site.number) (site_of unit j at'.0 (placed j at'.0) at'.1)))

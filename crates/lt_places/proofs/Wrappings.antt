@@ -12,7 +12,7 @@ use Rattle.lt_tree.specs.View.{expression_of}
 use Rattle.lt_tree.specs.Records.{expressions_in, marks_in}
 use Rattle.lt_tree.specs.Nodes.{Node, an_expression, a_mark, in_expression, in_expressions, in_marks, in_mark, nodes}
 use Rattle.lt_tree.proofs.Rows.{comma_is, marked_is}
-use Rattle.lt_objectives.specs.Places.{Part, core, value_part, last_value_part}
+use Rattle.lt_objectives.specs.Places.{Part, value_part, last_value_part}
 use Rattle.lt_sites.specs.declared.site.Site.{Site}
 use Rattle.lt_sites.specs.Sites.{Sized, AreSitesOf, node_of}
 use Rattle.lt_places.specs.declared.walk.Wrapping.{Wrapping}
@@ -35,7 +35,7 @@ pub before_marked : (what : Wrapping) (node : Node) (e : Expr) (marks : Vec Mark
     node ≡ an_expression (expression_of e) → e ≡ variant.Marked marks value → count ≡ length marks.items → Some count ≡ before what node
 before_marked what node e marks value count is marked counted =
     let f : before what node ≡ before what (an_expression (c.Marked (marks_in marks.items) (expression_of value.value))) =
-        ap (before what) is ∙ ap (λ x. before what (an_expression (expression_of x))) marked ∙ ap (λ x. before what (an_expression x)) (marked_is marks value) in
+    ap (before what) is ∙ ap (λ x. before what (an_expression (expression_of x))) marked ∙ ap (λ x. before what (an_expression x)) (marked_is marks value) in
     ap Some (counted ∙ sym (marks_counted marks.items)) ∙ sym (f ∙ before_marks what (marks_in marks.items) (expression_of value.value))
   where
     before_marks : (what : Wrapping) (ms : c.Marks) (x : c.Expression) → before what (an_expression (c.Marked ms x)) ≡ Some (count_marks ms)
@@ -47,7 +47,7 @@ pub before_comma : (node : Node) (e : Expr) (parts : Vec Expr) (n : ℕ) (count 
     n ≡ length parts.items → SomeIff count (1 ≤ n) (n - 1) → count ≡ before wrapping.MarksAndCommas node
 before_comma node e parts n count is comma long counted =
     let f : before wrapping.MarksAndCommas node ≡ before_last (expressions_in parts.items) =
-        ap (before wrapping.MarksAndCommas) is ∙ ap (λ x. before wrapping.MarksAndCommas (an_expression (expression_of x))) comma ∙ ap (λ x. before wrapping.MarksAndCommas (an_expression x)) (comma_is parts) in
+    ap (before wrapping.MarksAndCommas) is ∙ ap (λ x. before wrapping.MarksAndCommas (an_expression (expression_of x))) comma ∙ ap (λ x. before wrapping.MarksAndCommas (an_expression x)) (comma_is parts) in
     all_but_one parts.items count (subst (λ m. SomeIff count (1 ≤ m) (m - 1)) long counted) ∙ sym f
   where
     all_but_one : (parts : List Expr) (count : Option ℕ) → SomeIff count (1 ≤ length parts) (length parts - 1) → count ≡ before_last (expressions_in parts)
@@ -101,7 +101,7 @@ last_part k j e (c.an_expression next rest) sites h =
           expression = others.expression;
           begin = subst (λ inside. BeginWith inside (in_expression others.expression)) skipped others.begin;
           stands = omega (arith, ap length skipped, others.stands, fits.1, length-append (in_expression e) (in_expressions (c.an_expression next rest)), length-drop (length (in_expression e)) (site ∷ sites));
-          same = others.same
+          same = others.same;
         }
 
 -- the sites begin with an expression in which the one stands that is looked for
@@ -119,7 +119,7 @@ in_marked what k j marks e sites inside h is stands same =
     record {
       expression = e;
       begin = subst (λ xs. BeginWith xs (in_expression e)) (sym f) (begin_behind sites (in_marks marks) (in_expression e) h);
-      same = ap (λ n. reached what n e) at ∙ sym same
+      same = ap (λ n. reached what n e) at ∙ sym same;
     }
 
 in_one : (what : Wrapping) (k j : ℕ) (x e : c.Expression) (sites inside : List Site) → BeginWith sites (in_expression e) → inside ≡ sites → j + length inside ≡ k + 1 + length sites →
@@ -138,7 +138,7 @@ in_comma k j (c.an_expression e es) sites inside h is stands =
     record {
       expression = last.expression;
       begin = subst (λ xs. BeginWith xs (in_expression last.expression)) (sym f) last.begin;
-      same = ap (λ n. value_part n last.expression) at ∙ last.same
+      same = ap (λ n. value_part n last.expression) at ∙ last.same;
     }
 
 -- into the wrapping that is the first of the sites

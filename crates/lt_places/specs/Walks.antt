@@ -1,5 +1,5 @@
 -- How the numbers of inner expressions are found: by the sizes of the parts before them.
-use Rattle.std.specs.Prelude.{ℕ, zero, suc, ◌+◌, ◌-◌, List, [], ◌∷◌, drop, Option, Some, None, option_map}
+use Rattle.std.specs.Prelude.{ℕ, zero, suc, List, [], ◌∷◌, drop, Option, Some, None, option_map}
 use Rattle.lt_tree.specs.Tree as c
 use Rattle.lt_tree.specs.Nodes.{Node, an_expression}
 use Rattle.lt_sites.specs.declared.site.Site.{Site}
@@ -27,7 +27,7 @@ abbrev pub before_last : c.Expressions → Option ℕ
 before_last c.no_expressions = None
 before_last (c.an_expression e es) = Some (count_parts es)
 
--- how many parts stand in a node before the expression that it stands around, if it is what is looked behind
+-- how many parts stand in a node before the expression that it stands around, if it is such a wrapping
 abbrev pub before : Wrapping → Node → Option ℕ
 before what (an_expression (c.Marked marks e)) = Some (count_marks marks)
 before what (an_expression (c.Decide e when_true when_false tag)) = Some 0

@@ -12,15 +12,23 @@ use lt_tree::{Expr, External, ForStart, Stmt, Storage};
 use std::alloc::{AllocError, Global};
 
 /// Whether a label may stand at each node. `constants` says of each node whether it is an integer constant expression.
-pub fn open_places(alloc: Global, sites: &[Site<'_>], constants: &[bool]) -> Result<Vec<bool>, AllocError>
+pub fn open_places(
+    alloc: Global,
+    sites: &[Site<'_>],
+    constants: &[bool],
+) -> Result<Vec<bool>, AllocError>
     requires { length constants.now ≡ length sites.now }
     ensures { (unit : c.Unit) (program : Program) → AreSitesOf sites.now unit → constants.now ≡ map (λ site. is_constant unit program site.number) (places.sites unit) → IfOk result (λ answers. answers.items ≡ map (λ site. is_open unit program site.number) (places.sites unit)) }
 {
     let mut open = Vec::new(alloc);
-    // how many nodes are closed from here on because of those before
+    // how many nodes, from this one on, are closed by what stands before
     let mut closed: usize = 0;
     'sites: for (site, is_constant) in sites.iter().zip(constants) {
-        let itself = if is_closed(site, *is_constant) { site.size } else { 0 };
+        let itself = if is_closed(site, *is_constant) {
+            site.size
+        } else {
+            0
+        };
         let here = closed.max(itself);
         open.push(here == 0)?;
         closed = here.saturating_sub(1).max(static_behind(site));
@@ -47,7 +55,11 @@ fn static_behind(site: &Site<'_>) -> usize
     match site.node {
         NodeRef::DeclaredItem(declaration) => {
             let is_static = makes_static(declaration.specifiers.storage.as_slice());
-            if is_static { site.size.saturating_sub(1) } else { 0 }
+            if is_static {
+                site.size.saturating_sub(1)
+            } else {
+                0
+            }
         }
         NodeRef::Statement(Stmt::For(ForStart::Declaration(declaration), _, _, _)) => {
             let is_static = makes_static_in_for(declaration.specifiers.storage.as_slice());
@@ -60,7 +72,9 @@ fn static_behind(site: &Site<'_>) -> usize
 fn makes_static(storage: &[Storage]) -> bool
     ensures { result ≡ list_any makes_static storage.now }
 {
-    storage.iter().any(|word| matches!(word, Storage::Static | Storage::Extern))
+    storage
+        .iter()
+        .any(|word| matches!(word, Storage::Static | Storage::Extern))
 }
 
 fn makes_static_in_for(storage: &[Storage]) -> bool

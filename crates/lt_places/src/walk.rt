@@ -8,29 +8,29 @@ ghost use Rattle.lt_places.specs.Walks.{behind_parts, before, inner, reached};
 use lt_sites::{NodeRef, Site};
 use lt_tree::Expr;
 
-/// What an expression is looked for behind.
+/// What may stand around the expression that is looked for.
 #[derive(Clone, Copy)]
-pub enum Wrapping {
+enum Wrapping {
     Marks,
-    /// Marks, and all but the last part of a comma expression.
+    /// Marks, and comma expressions, of which the last part is gone into.
     MarksAndCommas,
 }
 
-/// The number of the expression that begins at this number, without the marks around it.
+/// The number of an expression without the marks around it, of the number at which it begins.
 pub fn core_number(sites: &[Site<'_>], k: usize) -> usize
     ensures { (unit : c.Unit) (e : c.Expression) → AreSitesOf sites.now unit → slice_get (nodes unit) k ≡ Some (an_expression e) → result ≡ (core k e).number }
 {
     innermost(Wrapping::Marks, sites, k)
 }
 
-/// The number of the part whose value is that of the expression that begins at this number.
+/// The number of the part of an expression whose value is that of the whole, of the number at which the expression begins.
 pub fn value_part_number(sites: &[Site<'_>], k: usize) -> usize
     ensures { (unit : c.Unit) (e : c.Expression) → AreSitesOf sites.now unit → slice_get (nodes unit) k ≡ Some (an_expression e) → result ≡ (value_part k e).number }
 {
     innermost(Wrapping::MarksAndCommas, sites, k)
 }
 
-/// The number of the expression that is no wrapping itself, inside of those that begin at this number.
+/// The number of the first expression that is no wrapping, from the one on that begins at this number.
 fn innermost(wrapping: Wrapping, sites: &[Site<'_>], k: usize) -> usize
     ensures { (unit : c.Unit) (e : c.Expression) → AreSitesOf sites.now unit → slice_get (nodes unit) k ≡ Some (an_expression e) → result ≡ (reached wrapping k e).number }
 {

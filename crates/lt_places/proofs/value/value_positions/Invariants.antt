@@ -1,4 +1,3 @@
-use Rattle.std.proofs.Common.{◌≡◌}
 use Rattle.lt_tree.specs.Tree as c
 use Rattle.lt_sites.specs.Sites.{AreSitesOf}
 use Rattle.lt_places.proofs.ValuePositions.{AreValues}

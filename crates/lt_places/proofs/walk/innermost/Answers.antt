@@ -1,5 +1,4 @@
-use Rattle.std.proofs.Common.{◌≡◌, Some, None, length, drop}
-use Rattle.lt_places.specs.Walks.{reached, inner}
+use Rattle.lt_places.specs.Walks.{reached}
 use Rattle.lt_places.proofs.Wrappings.{led_off, led_on, led_there}
 use Rattle.lt_places.proofs.walk.innermost.Goals as goal
 
