@@ -10,7 +10,7 @@ use Rattle.lt_objectives.specs.Places.{Span, span, covers, closed_by_form, close
 use Rattle.lt_sites.specs.Sites.{part_of, entry_of, AreSitesOf}
 use Rattle.lt_sites.specs.declared.site.Site.{Site}
 use Rattle.lt_places.specs.Closed.{is_closed, static_behind, opens}
-use Rattle.lt_places.proofs.ValuePositions.{placed, or_false}
+use Rattle.lt_places.proofs.Numbered.{placed, or_false}
 
 -- ---- what a node closes
 

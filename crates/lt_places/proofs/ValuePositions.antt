@@ -1,5 +1,5 @@
 -- Places of operands, node by node.
-use Rattle.std.proofs.Common.{◌≡◌, refl, sym, ap, ◌∙◌, ℕ, zero, suc, ◌+◌, ◌<◌, ◌≤◌, Bool, true, false, not, ◌||◌, ◌==◌, List, [], ◌∷◌, ◌++◌, length, get_or, set, map, take, drop, Some, ◌⊎◌, inl, inr, zero-add, add-one, arith, rules, tests}
+use Rattle.std.proofs.Common.{◌≡◌, refl, sym, ap, ◌∙◌, ℕ, zero, suc, ◌+◌, ◌<◌, ◌≤◌, Bool, true, false, not, ◌||◌, ◌==◌, List, [], ◌∷◌, ◌++◌, length, get_or, set, map, take, drop, Some, ◌⊎◌, inl, inr, add-one, arith, rules, tests}
 use Rattle.std.specs.List.{slice_get, list_any}
 use Rattle.std.proofs.lemmas.List.{append-nil, ext_get_or, get_or-set_same, get_or-set_other, get_or-map, take_all, length-set, length-map}
 use Rattle.std.proofs.lemmas.Option.{slice_get_within}
@@ -11,33 +11,15 @@ use Rattle.lt_tree.specs.Nodes.{Node, an_expression, in_expression, nodes}
 use Rattle.lt_objectives.specs.Places as places
 use Rattle.lt_objectives.specs.Places.{Part, part, core, is_at, place_operands, is_value_position, sites_from, sites}
 use Rattle.lt_sites.specs.declared.site.Site.{Site}
-use Rattle.lt_sites.specs.Sites.{Sized, AreSitesOf, node_of, entry_of, part_of, in_node}
+use Rattle.lt_sites.specs.Sites.{AreSitesOf, node_of, in_node}
 use Rattle.lt_places.specs.Operands.{has_place_operand}
 use Rattle.lt_places.proofs.Parts.{unit_whole, part_at}
 use Rattle.lt_places.proofs.SiteRuns.{expression_headed}
-
-abbrev pub placed : ℕ → Node → places.Site
-placed k node = record { number = k; node = node }
+use Rattle.lt_places.proofs.Numbered.{placed, length-sites, node_at, site_of, node_of_site, long, or_false}
 
 -- whether an operand of these nodes stands at this number
 abbrev pub is_among : ℕ → List places.Site → Bool
 is_among j list = list_any (λ site. list_any (is_at j) (place_operands site)) list
-
--- ---- nodes with their numbers
-
-pub length-sites : (k : ℕ) (list : List Node) → length (sites_from k list) ≡ length list
-length-sites k [] = refl
-length-sites k (x ∷ xs) = ap suc (length-sites (k + 1) xs)
-
-pub site_at : (k i : ℕ) (list : List Node) (d : places.Site) (x : Node) → slice_get list i ≡ Some x → get_or (sites_from k list) i d ≡ placed (k + i) x
-site_at k i [] d x is = absurd cc
-site_at k zero (y ∷ ys) d x is = let e : y ≡ x = cc in let f : k ≡ k + 0 = omega arith in ap (λ n. placed n y) f ∙ ap (placed (k + 0)) e
-site_at k (suc i) (y ∷ ys) d x is = let f : k + 1 + i ≡ k + suc i = omega arith in site_at (k + 1) i ys d x is ∙ ap (λ n. placed n x) f
-
-node_at : {X : Type 0} (list : List X) (i : ℕ) → i < length list → (x : X) × (slice_get list i ≡ Some x)
-node_at [] i within = absurd (omega arith)
-node_at (x ∷ xs) zero within = (x, refl)
-node_at (x ∷ xs) (suc i) within = node_at xs i (omega arith)
 
 -- ---- operands that are places
 
@@ -93,27 +75,6 @@ pub record AreValues (unit : c.Unit) (k : ℕ) (values : List Bool) : Type 0 whe
   pub long : length values ≡ length (nodes unit)
   pub are : (j : ℕ) → j < length values → get_or values j true ≡ not (is_among j (take k (sites unit)))
 
--- the node at an index
-node_of_site : (sites : List Site) (list : List Node) (k : ℕ) (site : Site) (x : Node) → map entry_of sites ≡ map part_of list → k < length sites → site ≡ get_or sites k site → slice_get list k ≡ Some x → node_of site.node ≡ x
-node_of_site [] list k site x are within is at = absurd (omega arith)
-node_of_site (s ∷ sites) [] k site x are within is at = absurd cc
-node_of_site (s ∷ sites) (y ∷ ys) zero site x are within is at =
-    let e : entry_of s ≡ part_of y = cc in
-    let f : y ≡ x = cc in
-    ap (λ (z : Site). node_of z.node) is ∙ ap (λ (z : Sized). z.node) e ∙ f
-node_of_site (s ∷ sites) (y ∷ ys) (suc k) site x are within is at =
-    let e : map entry_of sites ≡ map part_of ys = cc in node_of_site sites ys k site x e (omega arith) is at
-
-long : (unit : c.Unit) (sites : List Site) → AreSitesOf sites unit → length sites ≡ length (nodes unit)
-long unit sites are = sym (length-map sites entry_of) ∙ ap length are ∙ length-map (nodes unit) part_of
-
-site_of : (unit : c.Unit) (k : ℕ) (x : Node) (d : places.Site) → slice_get (nodes unit) k ≡ Some x → get_or (sites unit) k d ≡ placed k x
-site_of unit k x d is = site_at 0 k (nodes unit) d x is ∙ ap (λ n. placed n x) (zero-add k)
-
-pub or_false : (b : Bool) → (b || false) ≡ b
-or_false true = refl
-or_false false = refl
-
 or_true : (b : Bool) → (b || true) ≡ true
 or_true true = refl
 or_true false = refl
@@ -121,7 +82,6 @@ or_true false = refl
 -- one node more
 among_more : (unit : c.Unit) (k : ℕ) (x : Node) (j : ℕ) → slice_get (nodes unit) k ≡ Some x → is_among j (take (k + 1) (sites unit)) ≡ (is_among j (take k (sites unit)) || list_any (is_at j) (place_operands (placed k x)))
 among_more unit k x j is =
-    let d = placed k x in
     let within : k < length (sites unit) = omega (arith, slice_get_within (nodes unit) k x is, length-sites 0 (nodes unit)) in
     list_any_more (λ site. list_any (is_at j) (place_operands site)) (sites unit) k (placed k x) within
     ∙ ap (λ site. is_among j (take k (sites unit)) || list_any (is_at j) (place_operands site)) (site_of unit k x (placed k x) is)
