@@ -1,3 +1,5 @@
 mod ClauseLaws
 mod Stack
 mod Conjoined
+mod ActiveLaws
+mod Others

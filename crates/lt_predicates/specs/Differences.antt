@@ -1,0 +1,14 @@
+-- That an expression and others have different values.
+use Rattle.std.specs.Prelude.{List, [], map}
+use Rattle.lt_model.specs.declared.operator.Op.{Op}
+use Rattle.lt_tree.specs.Tree as t
+use Rattle.lt_objectives.specs.Decisions.{inequality}
+use Rattle.lt_objectives.specs.Mutants.{with_others}
+
+abbrev pub differences : t.Expression → List t.Expression → List t.Expression
+differences e mutants = map (inequality e) mutants
+
+-- an expression with each other of these operators, if its operator is one of them
+abbrev pub other_operators : List Op → t.Expression → List t.Expression
+other_operators ops (t.Binary op left right) = with_others ops op left right
+other_operators ops e = []

@@ -1,0 +1,156 @@
+// That an expression and its mutants have different values.
+
+ghost use Rattle.std.specs.Prelude.{◌≡◌, ◌&&◌, [], ◌∷◌, not, IfOk, map, filter};
+ghost use Rattle.lt_model.specs.declared.scalar.DataModel.{DataModel};
+ghost use Rattle.lt_tree.specs.Tree as t;
+ghost use Rattle.lt_tree.specs.View.{expression_of};
+ghost use Rattle.lt_tree.specs.Erasure.{erased};
+ghost use Rattle.lt_tree.specs.Typing.Types.{CType, is_integer};
+ghost use Rattle.lt_objectives.specs.Decisions as decision;
+ghost use Rattle.lt_objectives.specs.Mutants as mutant;
+ghost use Rattle.lt_predicates.specs.Expressions.{expressions, IsErased};
+ghost use Rattle.lt_predicates.specs.Differences.{differences, other_operators};
+
+use crate::copies::{inequality, zero};
+use lt_marks::erase_expression;
+use lt_model::Op;
+use lt_tree::makes::expression::{binary, conditional, logical, unary};
+use lt_tree::{Expr, LogicalOp, UnaryOp};
+use std::alloc::{AllocError, Global};
+
+const ARITHMETIC: [Op; 5] = [Op::Add, Op::Sub, Op::Mul, Op::Div, Op::Rem];
+const RELATIONS: [Op; 6] = [Op::Lt, Op::Le, Op::Gt, Op::Ge, Op::Eq, Op::Ne];
+const POINTER_RELATIONS: [Op; 2] = [Op::Eq, Op::Ne];
+
+/// From its absolute value, and from that with a minus; for an expression of a signed integer type or of another.
+pub fn differences_by_absolute(alloc: Global, e: &Expr, is_signed: bool) -> Result<Vec<Expr>, AllocError>
+    requires { IsErased (expression_of e.now) }
+    ensures { (m : DataModel) (type : CType) → mutant.is_signed_integer m type ≡ is_signed
+        → IfOk result (λ list. expressions list ≡ differences (expression_of e.now) (mutant.absolute_mutants m type (expression_of e.now))) }
+{
+    if !(is_signed && is_fitting(e)) {
+        return Ok(Vec::new(alloc));
+    }
+    let from_absolute = inequality(alloc, e, absolute(alloc, e)?)?;
+    let negated = unary(alloc, UnaryOp::Minus, absolute(alloc, e)?)?;
+    Ok(vec![in alloc; from_absolute, inequality(alloc, e, negated)?]?)
+}
+
+// Whether absolute values of an expression are asked for.
+fn is_fitting(e: &Expr) -> bool
+    ensures { result ≡ mutant.is_fitting (expression_of e.now) }
+{
+    match e {
+        Expr::Name(_) | Expr::Index(..) | Expr::Member(..) | Expr::Arrow(..) => true,
+        Expr::Unary(op, _) => *op == UnaryOp::Dereference,
+        Expr::Binary(op, _, _) => is_one_of(*op, &ARITHMETIC),
+        _ => false,
+    }
+}
+
+fn is_one_of(op: Op, ops: &[Op]) -> bool
+    ensures { result ≡ mutant.is_one_of op ops.now }
+{
+    ops.iter().any(|other| op == *other)
+}
+
+// `e < 0 ? -e : e`
+fn absolute(alloc: Global, e: &Expr) -> Result<Expr, AllocError>
+    ensures { IfOk result (λ it. expression_of it ≡ mutant.absolute (erased (expression_of e.now))) }
+{
+    let operand = erase_expression(alloc, e)?;
+    let is_negative = binary(alloc, Op::Lt, operand, zero(alloc)?)?;
+    let operand = erase_expression(alloc, e)?;
+    let negated = unary(alloc, UnaryOp::Minus, operand)?;
+    conditional(alloc, is_negative, negated, erase_expression(alloc, e)?)
+}
+
+/// From what each other operator of arithmetic makes of its operands, if both are of integer types.
+pub fn differences_by_arithmetic(alloc: Global, e: &Expr, are_integers: bool) -> Result<Vec<Expr>, AllocError>
+    requires { IsErased (expression_of e.now) }
+    ensures { (left right : CType) → (is_integer left && is_integer right) ≡ are_integers
+        → IfOk result (λ list. expressions list ≡ differences (expression_of e.now) (mutant.arithmetic_mutants left right (expression_of e.now))) }
+{
+    if are_integers {
+        differences_by_others(alloc, e, &ARITHMETIC)
+    } else {
+        Ok(Vec::new(alloc))
+    }
+}
+
+/// From what the other of `&&` and `||` makes of its operands.
+pub fn differences_by_connector(alloc: Global, e: &Expr) -> Result<Vec<Expr>, AllocError>
+    requires { IsErased (expression_of e.now) }
+    ensures { IfOk result (λ list. expressions list ≡ differences (expression_of e.now) (mutant.connector_mutants (expression_of e.now))) }
+{
+    match e {
+        Expr::Logical(op, left, right) => {
+            let left = erase_expression(alloc, left)?;
+            let right = erase_expression(alloc, right)?;
+            let mutant = logical(alloc, other_connector(*op), left, right)?;
+            Ok(vec![in alloc; inequality(alloc, e, mutant)?]?)
+        }
+        _ => Ok(Vec::new(alloc)),
+    }
+}
+
+fn other_connector(op: LogicalOp) -> LogicalOp
+    ensures { result ≡ mutant.other_connector op }
+{
+    match op {
+        LogicalOp::And => LogicalOp::Or,
+        LogicalOp::Or => LogicalOp::And,
+    }
+}
+
+/// From what each other relation makes of its operands; if they aren't both of integer types, of `==` and `!=` the other alone.
+pub fn differences_by_relation(alloc: Global, e: &Expr, are_integers: bool) -> Result<Vec<Expr>, AllocError>
+    requires { IsErased (expression_of e.now) }
+    ensures { (left right : CType) → (is_integer left && is_integer right) ≡ are_integers
+        → IfOk result (λ list. expressions list ≡ differences (expression_of e.now) (mutant.relational_mutants left right (expression_of e.now))) }
+{
+    if are_integers {
+        differences_by_others(alloc, e, &RELATIONS)
+    } else {
+        differences_by_others(alloc, e, &POINTER_RELATIONS)
+    }
+}
+
+// From the same operands with each other of these operators, if its operator is one of them.
+fn differences_by_others(alloc: Global, e: &Expr, ops: &[Op]) -> Result<Vec<Expr>, AllocError>
+    requires { IsErased (expression_of e.now) }
+    ensures { IfOk result (λ list. expressions list ≡ differences (expression_of e.now) (other_operators ops.now (expression_of e.now))) }
+{
+    match e {
+        Expr::Binary(op, left, right) => {
+            if is_one_of(*op, ops) {
+                differences_but(alloc, e, ops, *op, left, right)
+            } else {
+                Ok(Vec::new(alloc))
+            }
+        }
+        _ => Ok(Vec::new(alloc)),
+    }
+}
+
+fn differences_but(
+    alloc: Global,
+    e: &Expr,
+    ops: &[Op],
+    op: Op,
+    left: &Expr,
+    right: &Expr,
+) -> Result<Vec<Expr>, AllocError>
+    ensures { IfOk result (λ list. expressions list ≡ map (λ other. decision.inequality (erased (expression_of e.now)) (t.Binary other (erased (expression_of left.now)) (erased (expression_of right.now)))) (filter (λ other. not (mutant.same_op op other)) ops.now)) }
+{
+    let mut list = Vec::new(alloc);
+    for other in ops {
+        if op != *other {
+            let left = erase_expression(alloc, left)?;
+            let right = erase_expression(alloc, right)?;
+            let mutant = binary(alloc, *other, left, right)?;
+            list.push(inequality(alloc, e, mutant)?)?;
+        }
+    }
+    Ok(list)
+}
