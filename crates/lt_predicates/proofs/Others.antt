@@ -6,15 +6,11 @@ use Rattle.lt_tree.specs.Tree as t
 use Rattle.lt_tree.specs.Erasure.{erased}
 use Rattle.lt_objectives.specs.Decisions.{inequality}
 use Rattle.lt_objectives.specs.Mutants.{same_op, is_one_of}
-use Rattle.lt_predicates.specs.Differences.{differences, other_operators}
+use Rattle.lt_predicates.specs.Differences.{differences, other_operators, copied_others}
 
 map-map : {A B C : Type 0} (f : B → C) (g : A → B) (xs : List A) → map f (map g xs) ≡ map (λ x. f (g x)) xs
 map-map f g [] = refl
 map-map f g (x ∷ xs) = ap (λ l. f (g x) ∷ l) (map-map f g xs)
-
--- the others of these, of copies of both operands
-abbrev pub copied_others : List Op → Op → (e left right : t.Expression) → List t.Expression
-copied_others ops op e left right = map (λ other. inequality (erased e) (t.Binary other (erased left) (erased right))) (filter (λ other. not (same_op op other)) ops)
 
 of_binary : (ops : List Op) (op : Op) (left right : t.Expression) → erased (t.Binary op left right) ≡ t.Binary op left right → is_one_of op ops ≡ true →
     copied_others ops op (t.Binary op left right) left right ≡ differences (t.Binary op left right) (other_operators ops (t.Binary op left right))

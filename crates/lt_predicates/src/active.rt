@@ -6,7 +6,7 @@ ghost use Rattle.lt_tree.specs.View.{expression_of};
 ghost use Rattle.lt_tree.specs.Erasure.{erased};
 ghost use Rattle.lt_tree.specs.Purity.{is_pure};
 ghost use Rattle.lt_objectives.specs.Decisions as decision;
-ghost use Rattle.lt_predicates.specs.Expressions.{expressions, pointed, IsErased};
+ghost use Rattle.lt_predicates.specs.Expressions.{Makes, IsErased};
 
 use crate::clauses::clause_list;
 use crate::copies::{conjunction, negation};
@@ -21,7 +21,7 @@ pub fn active_clauses(alloc: Global, d: &Expr) -> Result<Vec<Expr>, AllocError>
     requires pure { is_pure (expression_of d.now) ≡ true }
     requires unmarked { erased (expression_of d.now) ≡ expression_of d.now }
     requires few { decision.has_few_clauses (expression_of d.now) ≡ true }
-    ensures { IfOk result (λ list. expressions list ≡ decision.active_clauses (expression_of d.now)) }
+    ensures { Makes result (decision.active_clauses (expression_of d.now)) }
 {
     let clauses = clause_list(alloc, d)?;
     let mut list = Vec::new(alloc);
@@ -57,7 +57,12 @@ fn with_clause(alloc: Global, number: usize, digit: &[u8], d: &Expr) -> Result<E
                 logical(alloc, *op, left, erase_expression(alloc, right)?)
             } else {
                 let left = erase_expression(alloc, left)?;
-                logical(alloc, *op, left, with_clause(alloc, number - count, digit, right)?)
+                logical(
+                    alloc,
+                    *op,
+                    left,
+                    with_clause(alloc, number - count, digit, right)?,
+                )
             }
         }
         Expr::Unary(UnaryOp::Not, inner) => {

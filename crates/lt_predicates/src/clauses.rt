@@ -1,6 +1,6 @@
 // The clauses of a decision.
 
-ghost use Rattle.std.specs.Prelude.{◌≡◌, ◌++◌, ◌<◌, IfOk, OnOk, map};
+ghost use Rattle.std.specs.Prelude.{◌≡◌, IfOk, map};
 ghost use Rattle.lt_tree.specs.Tree as t;
 ghost use Rattle.lt_tree.specs.View.{expression_of};
 ghost use Rattle.lt_objectives.specs.Decisions as decision;
@@ -8,6 +8,9 @@ ghost use Rattle.lt_predicates.specs.Clauses.{insides, insides_of};
 
 use lt_tree::{Expr, UnaryOp};
 use std::alloc::{AllocError, Global};
+
+/// The most clauses of a decision whose combinations are objectives.
+const MOST_CLAUSES: usize = 8;
 
 /// Where the clauses of an expression are.
 enum Inner<'t> {
@@ -55,5 +58,5 @@ pub fn clause_list<'t>(alloc: Global, d: &'t Expr) -> Result<Vec<&'t Expr>, Allo
 pub fn has_few_clauses(clauses: &[&Expr]) -> bool
     ensures { (d : t.Expression) → map (λ e. expression_of e.now) clauses.now ≡ decision.clause_list d → result ≡ decision.has_few_clauses d }
 {
-    clauses.len() <= 8
+    clauses.len() <= MOST_CLAUSES
 }

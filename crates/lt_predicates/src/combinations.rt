@@ -1,13 +1,12 @@
 // The conjunctions of a decision's clauses.
 
-ghost use Rattle.std.specs.Prelude.{◌≡◌, [], ◌∷◌, true, IfOk, map};
-ghost use Rattle.std.specs.List.{flat_map};
+ghost use Rattle.std.specs.Prelude.{◌≡◌, [], ◌∷◌, true};
 ghost use Rattle.lt_tree.specs.View.{expression_of};
 ghost use Rattle.lt_tree.specs.Erasure.{erased};
 ghost use Rattle.lt_tree.specs.Purity.{is_pure};
 ghost use Rattle.lt_objectives.specs.Decisions as decision;
-ghost use Rattle.lt_predicates.specs.Expressions.{expressions, pointed, IsErased};
-ghost use Rattle.lt_predicates.specs.Conjunctions.{extensions, AreErased};
+ghost use Rattle.lt_predicates.specs.Expressions.{Makes, pointed, IsErased};
+ghost use Rattle.lt_predicates.specs.Conjunctions.{copied_extensions, AreErased};
 
 use crate::clauses::clause_list;
 use crate::copies::{conjunction, negation};
@@ -18,7 +17,7 @@ use std::alloc::{AllocError, Global};
 /// That an expression without marks is true, and that it isn't.
 pub fn both_truths(alloc: Global, d: &Expr) -> Result<Vec<Expr>, AllocError>
     requires { IsErased (expression_of d.now) }
-    ensures { IfOk result (λ list. expressions list ≡ expression_of d.now ∷ decision.negation (expression_of d.now) ∷ []) }
+    ensures { Makes result (expression_of d.now ∷ decision.negation (expression_of d.now) ∷ []) }
 {
     let truth = erase_expression(alloc, d)?;
     let falsity = negation(alloc, d)?;
@@ -30,15 +29,16 @@ pub fn conjunctions(alloc: Global, d: &Expr) -> Result<Vec<Expr>, AllocError>
     requires pure { is_pure (expression_of d.now) ≡ true }
     requires unmarked { erased (expression_of d.now) ≡ expression_of d.now }
     requires few { decision.has_few_clauses (expression_of d.now) ≡ true }
-    ensures { IfOk result (λ list. expressions list ≡ decision.conjunctions (decision.clause_list (expression_of d.now))) }
+    ensures { Makes result (decision.conjunctions (decision.clause_list (expression_of d.now))) }
 {
     let clauses = clause_list(alloc, d)?;
     conjoined(alloc, clauses.as_slice())
 }
 
+// The same of these clauses.
 fn conjoined(alloc: Global, clauses: &[&Expr]) -> Result<Vec<Expr>, AllocError>
     requires { AreErased (pointed clauses.now) }
-    ensures { IfOk result (λ list. expressions list ≡ decision.conjunctions (pointed clauses.now)) }
+    ensures { Makes result (decision.conjunctions (pointed clauses.now)) }
 {
     let Some((first, rest)) = clauses.split_first() else {
         return Ok(Vec::new(alloc));
@@ -50,8 +50,9 @@ fn conjoined(alloc: Global, clauses: &[&Expr]) -> Result<Vec<Expr>, AllocError>
     Ok(made)
 }
 
+// Each of these with the clause, and with its negation.
 fn extended(alloc: Global, made: &[Expr], clause: &Expr) -> Result<Vec<Expr>, AllocError>
-    ensures { IfOk result (λ list. expressions list ≡ flat_map (λ e. extensions (erased (expression_of e)) (erased (expression_of clause.now))) made.now) }
+    ensures { Makes result (copied_extensions made.now (expression_of clause.now)) }
 {
     let mut list = Vec::new(alloc);
     for e in made {

@@ -1,15 +1,14 @@
 // That an expression and its mutants have different values.
 
-ghost use Rattle.std.specs.Prelude.{◌≡◌, ◌&&◌, [], ◌∷◌, not, IfOk, map, filter};
+ghost use Rattle.std.specs.Prelude.{◌≡◌, ◌&&◌, IfOk};
 ghost use Rattle.lt_model.specs.declared.scalar.DataModel.{DataModel};
 ghost use Rattle.lt_tree.specs.Tree as t;
 ghost use Rattle.lt_tree.specs.View.{expression_of};
 ghost use Rattle.lt_tree.specs.Erasure.{erased};
 ghost use Rattle.lt_tree.specs.Typing.Types.{CType, is_integer};
-ghost use Rattle.lt_objectives.specs.Decisions as decision;
 ghost use Rattle.lt_objectives.specs.Mutants as mutant;
-ghost use Rattle.lt_predicates.specs.Expressions.{expressions, IsErased};
-ghost use Rattle.lt_predicates.specs.Differences.{differences, other_operators};
+ghost use Rattle.lt_predicates.specs.Expressions.{Makes, IsErased};
+ghost use Rattle.lt_predicates.specs.Differences.{differences, other_operators, copied_others};
 
 use crate::copies::{inequality, zero};
 use lt_marks::erase_expression;
@@ -19,14 +18,20 @@ use lt_tree::{Expr, LogicalOp, UnaryOp};
 use std::alloc::{AllocError, Global};
 
 const ARITHMETIC: [Op; 5] = [Op::Add, Op::Sub, Op::Mul, Op::Div, Op::Rem];
+
 const RELATIONS: [Op; 6] = [Op::Lt, Op::Le, Op::Gt, Op::Ge, Op::Eq, Op::Ne];
+
 const POINTER_RELATIONS: [Op; 2] = [Op::Eq, Op::Ne];
 
 /// From its absolute value, and from that with a minus; for an expression of a signed integer type or of another.
-pub fn differences_by_absolute(alloc: Global, e: &Expr, is_signed: bool) -> Result<Vec<Expr>, AllocError>
+pub fn differences_by_absolute(
+    alloc: Global,
+    e: &Expr,
+    is_signed: bool,
+) -> Result<Vec<Expr>, AllocError>
     requires { IsErased (expression_of e.now) }
     ensures { (m : DataModel) (type : CType) → mutant.is_signed_integer m type ≡ is_signed
-        → IfOk result (λ list. expressions list ≡ differences (expression_of e.now) (mutant.absolute_mutants m type (expression_of e.now))) }
+        → Makes result (differences (expression_of e.now) (mutant.absolute_mutants m type (expression_of e.now))) }
 {
     if !(is_signed && is_fitting(e)) {
         return Ok(Vec::new(alloc));
@@ -66,10 +71,14 @@ fn absolute(alloc: Global, e: &Expr) -> Result<Expr, AllocError>
 }
 
 /// From what each other operator of arithmetic makes of its operands, if both are of integer types.
-pub fn differences_by_arithmetic(alloc: Global, e: &Expr, are_integers: bool) -> Result<Vec<Expr>, AllocError>
+pub fn differences_by_arithmetic(
+    alloc: Global,
+    e: &Expr,
+    are_integers: bool,
+) -> Result<Vec<Expr>, AllocError>
     requires { IsErased (expression_of e.now) }
     ensures { (left right : CType) → (is_integer left && is_integer right) ≡ are_integers
-        → IfOk result (λ list. expressions list ≡ differences (expression_of e.now) (mutant.arithmetic_mutants left right (expression_of e.now))) }
+        → Makes result (differences (expression_of e.now) (mutant.arithmetic_mutants left right (expression_of e.now))) }
 {
     if are_integers {
         differences_by_others(alloc, e, &ARITHMETIC)
@@ -81,7 +90,7 @@ pub fn differences_by_arithmetic(alloc: Global, e: &Expr, are_integers: bool) ->
 /// From what the other of `&&` and `||` makes of its operands.
 pub fn differences_by_connector(alloc: Global, e: &Expr) -> Result<Vec<Expr>, AllocError>
     requires { IsErased (expression_of e.now) }
-    ensures { IfOk result (λ list. expressions list ≡ differences (expression_of e.now) (mutant.connector_mutants (expression_of e.now))) }
+    ensures { Makes result (differences (expression_of e.now) (mutant.connector_mutants (expression_of e.now))) }
 {
     match e {
         Expr::Logical(op, left, right) => {
@@ -104,10 +113,14 @@ fn other_connector(op: LogicalOp) -> LogicalOp
 }
 
 /// From what each other relation makes of its operands; if they aren't both of integer types, of `==` and `!=` the other alone.
-pub fn differences_by_relation(alloc: Global, e: &Expr, are_integers: bool) -> Result<Vec<Expr>, AllocError>
+pub fn differences_by_relation(
+    alloc: Global,
+    e: &Expr,
+    are_integers: bool,
+) -> Result<Vec<Expr>, AllocError>
     requires { IsErased (expression_of e.now) }
     ensures { (left right : CType) → (is_integer left && is_integer right) ≡ are_integers
-        → IfOk result (λ list. expressions list ≡ differences (expression_of e.now) (mutant.relational_mutants left right (expression_of e.now))) }
+        → Makes result (differences (expression_of e.now) (mutant.relational_mutants left right (expression_of e.now))) }
 {
     if are_integers {
         differences_by_others(alloc, e, &RELATIONS)
@@ -116,10 +129,10 @@ pub fn differences_by_relation(alloc: Global, e: &Expr, are_integers: bool) -> R
     }
 }
 
-// From the same operands with each other of these operators, if its operator is one of them.
+// From the same operands with each other of these operators, if the expression's is one of them.
 fn differences_by_others(alloc: Global, e: &Expr, ops: &[Op]) -> Result<Vec<Expr>, AllocError>
     requires { IsErased (expression_of e.now) }
-    ensures { IfOk result (λ list. expressions list ≡ differences (expression_of e.now) (other_operators ops.now (expression_of e.now))) }
+    ensures { Makes result (differences (expression_of e.now) (other_operators ops.now (expression_of e.now))) }
 {
     match e {
         Expr::Binary(op, left, right) => {
@@ -133,6 +146,7 @@ fn differences_by_others(alloc: Global, e: &Expr, ops: &[Op]) -> Result<Vec<Expr
     }
 }
 
+// From the same operands with each of these operators but this one.
 fn differences_but(
     alloc: Global,
     e: &Expr,
@@ -141,7 +155,7 @@ fn differences_but(
     left: &Expr,
     right: &Expr,
 ) -> Result<Vec<Expr>, AllocError>
-    ensures { IfOk result (λ list. expressions list ≡ map (λ other. decision.inequality (erased (expression_of e.now)) (t.Binary other (erased (expression_of left.now)) (erased (expression_of right.now)))) (filter (λ other. not (mutant.same_op op other)) ops.now)) }
+    ensures { Makes result (copied_others ops.now op (expression_of e.now) (expression_of left.now) (expression_of right.now)) }
 {
     let mut list = Vec::new(alloc);
     for other in ops {

@@ -1,10 +1,8 @@
 // The parts of what a variable's type can hold.
 
-ghost use Rattle.std.specs.Prelude.{◌≡◌, IfOk, codes};
+ghost use Rattle.std.specs.Prelude.{◌≡◌};
 ghost use Rattle.lt_tree.specs.Tree as t;
-ghost use Rattle.lt_tree.specs.View.{expression_of};
-ghost use Rattle.lt_objectives.specs.Decisions.{zero_constant};
-ghost use Rattle.lt_predicates.specs.Expressions.{expressions};
+ghost use Rattle.lt_predicates.specs.Expressions.{Makes};
 ghost use Rattle.lt_predicates.specs.Domains.{domain_predicates, relations_to_zero};
 
 use crate::copies::zero;
@@ -28,7 +26,7 @@ pub enum Domain {
 
 /// That a variable of this domain lies in each part of it.
 pub fn domains(alloc: Global, domain: Domain, variable: &Name) -> Result<Vec<Expr>, AllocError>
-    ensures { IfOk result (λ list. expressions list ≡ domain_predicates domain (t.Name variable.now)) }
+    ensures { Makes result (domain_predicates domain (t.Name variable.now)) }
 {
     match domain {
         Domain::Unconstrained => compared_to_zero(alloc, variable, &[]),
@@ -38,8 +36,13 @@ pub fn domains(alloc: Global, domain: Domain, variable: &Name) -> Result<Vec<Exp
     }
 }
 
-fn compared_to_zero(alloc: Global, variable: &Name, relations: &[Op]) -> Result<Vec<Expr>, AllocError>
-    ensures { IfOk result (λ list. expressions list ≡ relations_to_zero relations.now (t.Name variable.now)) }
+// The variable compared to 0 in each of these ways.
+fn compared_to_zero(
+    alloc: Global,
+    variable: &Name,
+    relations: &[Op],
+) -> Result<Vec<Expr>, AllocError>
+    ensures { Makes result (relations_to_zero relations.now (t.Name variable.now)) }
 {
     let mut list = Vec::new(alloc);
     for relation in relations {

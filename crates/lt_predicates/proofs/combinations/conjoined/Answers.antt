@@ -19,12 +19,12 @@ loop-clause-preserved c =
     let plain = tail_erased (value c.in-Some.first.now) (pointed rest) (ap (λ l. map erased (pointed l)) (sym c.in-Some.ensures.cases.0) ∙ c.requires ∙ ap pointed c.in-Some.ensures.cases.0) in
     record {
       joined =
-        join_step value expression_of rest c.loop-clause.clause-index c.clause-item.result c.as_slice.result.now made (expressions c.in_ok-made-2.made) c.loop-clause-test.true
-        c.clause-item.is plain c.as_slice.ensures.value c.loop-clause.invariant.unmarked c.in_ok-made-2.ensures
-        ∙ c.loop-clause.invariant.joined;
+          join_step value expression_of rest c.loop-clause.clause-index c.clause-item.result c.as_slice.result.now made (expressions c.in_ok-made-2.made) c.loop-clause-test.true
+          c.clause-item.is plain c.as_slice.ensures.value c.loop-clause.invariant.unmarked c.in_ok-made-2.ensures
+          ∙ c.loop-clause.invariant.joined;
       unmarked =
-        erased_step value expression_of rest c.loop-clause.clause-index c.clause-item.result c.as_slice.result.now made (expressions c.in_ok-made-2.made) c.loop-clause-test.true
-        c.clause-item.is plain c.as_slice.ensures.value c.loop-clause.invariant.unmarked c.in_ok-made-2.ensures;
+          erased_step value expression_of rest c.loop-clause.clause-index c.clause-item.result c.as_slice.result.now made (expressions c.in_ok-made-2.made) c.loop-clause-test.true
+          c.clause-item.is plain c.as_slice.ensures.value c.loop-clause.invariant.unmarked c.in_ok-made-2.ensures;
     }
 
 pub returns : goal.returns

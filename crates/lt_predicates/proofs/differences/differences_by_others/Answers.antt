@@ -2,8 +2,8 @@ use Rattle.std.proofs.Common.{◌≡◌, sym, ap, ◌∙◌}
 use Rattle.std.proofs.lemmas.Result.{IfOk-weaker}
 use Rattle.lt_tree.specs.View.{expression_of}
 use Rattle.lt_predicates.specs.Expressions.{expressions}
-use Rattle.lt_predicates.specs.Differences.{differences, other_operators}
-use Rattle.lt_predicates.proofs.Others.{copied_others, others_are}
+use Rattle.lt_predicates.specs.Differences.{differences, other_operators, copied_others}
+use Rattle.lt_predicates.proofs.Others.{others_are}
 use Rattle.lt_predicates.proofs.differences.differences_by_others.Goals as goal
 
 pub returns-then-is_one_of : goal.returns-then-is_one_of
@@ -17,8 +17,8 @@ returns-then-is_one_of c =
     (λ list. expressions list ≡ copied_others ops op e (expression_of left) (expression_of right))
     (λ list. expressions list ≡ differences e (other_operators ops e))
     (λ list made.
-      made ∙ ap (λ x. copied_others ops op e (expression_of x) (expression_of right)) c.deref.ensures
-      ∙ ap (λ x. copied_others ops op e (expression_of c.in-Binary.left.value) (expression_of x)) c.deref-then-is_one_of.ensures
-      ∙ others_are ops op e (expression_of c.in-Binary.left.value) (expression_of c.in-Binary.right.value) (ap expression_of c.in-Binary.is) c.requires
-      (sym c.is_one_of.ensures ∙ c.if-is_one_of.true))
+    made ∙ ap (λ x. copied_others ops op e (expression_of x) (expression_of right)) c.deref.ensures
+    ∙ ap (λ x. copied_others ops op e (expression_of c.in-Binary.left.value) (expression_of x)) c.deref-then-is_one_of.ensures
+    ∙ others_are ops op e (expression_of c.in-Binary.left.value) (expression_of c.in-Binary.right.value) (ap expression_of c.in-Binary.is) c.requires
+    (sym c.is_one_of.ensures ∙ c.if-is_one_of.true))
     c.differences_but.ensures
