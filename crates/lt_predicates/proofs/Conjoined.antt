@@ -1,10 +1,10 @@
 -- Conjunctions, joined clause by clause, and lists of expressions without marks.
 use Rattle.std.proofs.Common.{◌≡◌, ℕ, zero, suc, ◌+◌, ◌<◌, ◌≤◌, arith, List, [], ◌∷◌, ◌++◌, length, map, get_or, drop, refl, sym, ap, ◌∙◌, append_assoc}
 use Rattle.std.specs.List.{flat_map}
-use Rattle.std.proofs.lemmas.List.{append-nil, at_drop_more, drop_all}
+use Rattle.std.proofs.lemmas.List.{at_drop_more, drop_all}
 use Rattle.lt_tree.specs.Tree as t
 use Rattle.lt_tree.specs.Erasure.{erased}
-use Rattle.lt_objectives.specs.Decisions.{conjunction, negation, conjunctions, conjunctions_from}
+use Rattle.lt_objectives.specs.Decisions.{conjunction, negation, conjunctions_from}
 use Rattle.lt_predicates.specs.Conjunctions.{extensions, AreErased}
 
 pub head_erased : (e : t.Expression) (es : List t.Expression) → AreErased (e ∷ es) → erased e ≡ e

@@ -1,5 +1,5 @@
 -- Other operators in place of an expression's own.
-use Rattle.std.proofs.Common.{◌≡◌, List, [], ◌∷◌, map, refl, sym, ap, ◌∙◌, Bool, true}
+use Rattle.std.proofs.Common.{◌≡◌, List, [], ◌∷◌, map, refl, sym, ap, ◌∙◌, true}
 use Rattle.std.specs.Prelude.{not, filter, if◌then◌else◌}
 use Rattle.lt_model.specs.declared.operator.Op.{Op}
 use Rattle.lt_tree.specs.Tree as t

@@ -1,4 +1,4 @@
-use Rattle.std.proofs.Common.{◌≡◌, ◌++◌, drop, map, sym, ap, ◌∙◌, Bor}
+use Rattle.std.proofs.Common.{map, sym, ap, ◌∙◌, Bor}
 use Rattle.lt_tree.specs.declared.expression.Expr.{Expr}
 use Rattle.lt_tree.specs.Tree as t
 use Rattle.lt_tree.specs.View.{expression_of}

@@ -1,4 +1,4 @@
-use Rattle.std.proofs.Common.{◌≡◌, ◌++◌, length, drop}
+use Rattle.std.proofs.Common.{◌≡◌, ◌++◌, drop}
 use Rattle.lt_tree.specs.View.{expression_of}
 use Rattle.lt_objectives.specs.Decisions.{active_from, active_clauses}
 use Rattle.lt_predicates.specs.Expressions.{expressions, pointed}

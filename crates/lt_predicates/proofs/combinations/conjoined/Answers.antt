@@ -1,11 +1,10 @@
-use Rattle.std.proofs.Common.{◌≡◌, ◌∷◌, drop, map, sym, ap, ◌∙◌, Bor, add-one, subst}
+use Rattle.std.proofs.Common.{map, sym, ap, ◌∙◌, Bor}
 use Rattle.lt_tree.specs.declared.expression.Expr.{Expr}
 use Rattle.lt_tree.specs.Tree as t
 use Rattle.lt_tree.specs.View.{expression_of}
 use Rattle.lt_tree.specs.Erasure.{erased}
 use Rattle.lt_predicates.specs.Expressions.{expressions, pointed}
-use Rattle.lt_predicates.specs.Conjunctions.{AreErased}
-use Rattle.lt_predicates.proofs.Conjoined.{tail_erased, join_step, erased_step, join_end, joined}
+use Rattle.lt_predicates.proofs.Conjoined.{tail_erased, join_step, erased_step, join_end}
 use Rattle.lt_predicates.proofs.combinations.conjoined.Goals as goal
 
 value : Bor Expr → t.Expression
