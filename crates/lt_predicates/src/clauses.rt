@@ -1,10 +1,11 @@
 // The clauses of a decision.
 
-ghost use Rattle.std.specs.Prelude.{◌≡◌, IfOk, map};
+ghost use Rattle.std.specs.Prelude.{◌≡◌, IfOk};
 ghost use Rattle.lt_tree.specs.Tree as t;
 ghost use Rattle.lt_tree.specs.View.{expression_of};
 ghost use Rattle.lt_objectives.specs.Decisions as decision;
 ghost use Rattle.lt_predicates.specs.Clauses.{insides, insides_of};
+ghost use Rattle.lt_predicates.specs.Expressions.{pointed};
 
 use lt_tree::{Expr, UnaryOp};
 use std::alloc::{AllocError, Global};
@@ -22,6 +23,7 @@ enum Inner<'t> {
     Nothing,
 }
 
+// What stands directly in it and has its clauses.
 fn inside(e: &Expr) -> Inner<'_>
     ensures { insides_of result ≡ insides (expression_of e.now) }
 {
@@ -36,7 +38,7 @@ fn inside(e: &Expr) -> Inner<'_>
 
 /// What `&&`, `||`, `!` and marks leave of an expression, from left to right.
 pub fn clause_list<'t>(alloc: Global, d: &'t Expr) -> Result<Vec<&'t Expr>, AllocError>
-    ensures { IfOk result (λ list. map (λ e. expression_of e.now) list.items ≡ decision.clause_list (expression_of d.now)) }
+    ensures { IfOk result (λ list. pointed list.items ≡ decision.clause_list (expression_of d.now)) }
 {
     let mut clauses = Vec::new(alloc);
     let mut left = Vec::new(alloc);
@@ -56,7 +58,7 @@ pub fn clause_list<'t>(alloc: Global, d: &'t Expr) -> Result<Vec<&'t Expr>, Allo
 
 /// Whether these are few enough that their combinations are objectives.
 pub fn has_few_clauses(clauses: &[&Expr]) -> bool
-    ensures { (d : t.Expression) → map (λ e. expression_of e.now) clauses.now ≡ decision.clause_list d → result ≡ decision.has_few_clauses d }
+    ensures { (d : t.Expression) → pointed clauses.now ≡ decision.clause_list d → result ≡ decision.has_few_clauses d }
 {
     clauses.len() <= MOST_CLAUSES
 }
