@@ -12,7 +12,7 @@ use Rattle.lt_survey.specs.declared.marking.Marked.{Marked}
 
 -- The unit with the marks of these objectives, and the id that follows.
 pub record IsMarkedWith (unit : c.Unit) (id : ℕ) (them : List Objective) (it : Marked) : Type 0 where
-  pub unit : unit_of it.unit ≡ unit_with_marks (numbered id them) unit
+  pub marks : unit_of it.unit ≡ unit_with_marks (numbered id them) unit
   pub next : it.next ≡ next_id id them
 
 -- the id that follows the marks of these criteria
@@ -34,5 +34,5 @@ chosen criteria set = filter (is_in set) criteria
 
 -- The unit with the marks of criteria, each applied to what the one before gave, and the id that follows.
 pub record IsMarkedBy (criteria : List Criterion) (unit : c.Unit) (program : Program) (id : ℕ) (it : Marked) : Type 0 where
-  pub unit : unit_of it.unit ≡ marked_by criteria unit program id
+  pub marks : unit_of it.unit ≡ marked_by criteria unit program id
   pub next : it.next ≡ next_behind criteria unit program id

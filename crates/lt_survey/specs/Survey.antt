@@ -15,7 +15,7 @@ by_number unit of = map (λ site. of site.number) (sites unit)
 
 pub record IsSurvey (unit : c.Unit) (program : Program) (it : Survey) : Type 0 where
   pub sites : AreSitesOf it.sites.items unit
-  pub open : it.open.items ≡ by_number unit (is_open unit program)
+  pub open_places : it.open.items ≡ by_number unit (is_open unit program)
   pub values : it.values.items ≡ by_number unit (is_value_position unit)
   pub decisions : it.decisions.items ≡ by_number unit (decided_at (decisions unit))
   pub clauses : it.clauses.items ≡ by_number unit (decided_at (clauses unit))

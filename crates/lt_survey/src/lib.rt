@@ -4,5 +4,5 @@
 mod marking;
 mod survey;
 
-pub use marking::{Marked, marked, unmarked};
-pub use survey::{Survey, survey};
+pub use marking::{Marked, marked_with, unmarked};
+pub use survey::{Survey, survey_of};

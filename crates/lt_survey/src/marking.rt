@@ -25,7 +25,7 @@ pub fn unmarked(alloc: Global, unit: &Unit, next: u32) -> Result<Marked, AllocEr
 }
 
 /// A unit with the marks of objectives.
-pub fn marked(alloc: Global, unit: &Unit, new: NewMarks) -> Result<Marked, AllocError>
+pub fn marked_with(alloc: Global, unit: &Unit, new: NewMarks) -> Result<Marked, AllocError>
     ensures { (id : ℕ) (them : List Objective) → Number new id them → IfOk result (IsMarkedWith (unit_of unit.now) id them) }
 {
     let unit = with_marks(alloc, unit, new.marks)?;

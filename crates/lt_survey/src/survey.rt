@@ -30,7 +30,7 @@ pub struct Survey<'u> {
 }
 
 /// The survey of a unit, of which the program is, or of which it would be without the marks.
-pub fn survey<'u>(
+pub fn survey_of<'u>(
     alloc: Global,
     unit: &'u Unit,
     program: &Program<'_>,
