@@ -1,0 +1,14 @@
+pub mod PlaceLists
+pub mod Standing
+pub mod Sorted
+pub mod Reached
+pub mod Gathering
+pub mod Taking
+pub mod Nothing
+pub mod Loops
+pub mod Sequences
+pub mod Withins
+pub mod Openings
+pub mod Copied
+pub mod StatementParts
+pub mod Bodies

@@ -1,0 +1,3 @@
+pub mod NewMarks
+pub mod Walks
+pub mod Parts
