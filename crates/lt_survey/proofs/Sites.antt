@@ -4,7 +4,7 @@ use Rattle.std.specs.Prelude.{option_map, slice_get}
 use Rattle.std.specs.List.{flat_map}
 use Rattle.std.proofs.lemmas.List.{append-nil, length-map, take_all, take_more}
 use Rattle.std.proofs.lemmas.List.Concat.{flat_map-append}
-use Rattle.std.proofs.lemmas.Option.{get_or_from_slice_get, slice_get-map, slice_get_within}
+use Rattle.std.proofs.lemmas.Option.{get_or_from_slice_get, slice_get-map, slice_get_read, slice_get_within}
 use Rattle.lt_tree.specs.Tree as c
 use Rattle.lt_tree.specs.Nodes.{Node, nodes}
 use Rattle.lt_objectives.specs.Places.{Site, sites, sites_from}
@@ -71,3 +71,7 @@ pub all_sites : {A : Type 0} (of : Site → List A) (unit : c.Unit) (list : List
     → flat_map of (take k (sites unit)) ≡ flat_map of (sites unit)
 all_sites of unit list k are past =
     let count = length_sites unit list are in let beyond : length (sites unit) ≤ k = omega arith in ap (flat_map of) (take_all k (sites unit) beyond)
+
+pub node_read : (unit : c.Unit) (list items : List Held) (k : ℕ) (it : Held) → AreSitesOf items unit → list ≡ items → k < length list → it ≡ get_or list k it
+    → slice_get (nodes unit) k ≡ Some (node_of it.node)
+node_read unit list items k it are same within is = node_at unit items k it are (ap (λ l. slice_get l k) (sym same) ∙ slice_get_read list (length list) k it refl within is)
