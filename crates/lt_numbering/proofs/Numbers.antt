@@ -34,12 +34,12 @@ pub adds_both : (a b c : NewMarks) (xs ys : List Objective) → Adds a b xs → 
 adds_both a b c xs ys first second = λ id before h. subst (λ them. Number c id them) (append_assoc before xs ys) (second id (before ++ xs) (first id before h))
 
 -- one mark more
-pub adds_one : (old new : NewMarks) (mark : NewMark) (it : Objective)
-    → new.marks.items ≡ old.marks.items ++ mark ∷ [] → new_mark_of mark ≡ record { objective = it; id = old.next }
+pub adds_one : (old new : NewMarks) (marks : List NewMark) (mark : NewMark) (it : Objective)
+    → new.marks.items ≡ marks ++ mark ∷ [] → marks ≡ old.marks.items → new_mark_of mark ≡ record { objective = it; id = old.next }
     → new.next ≡ old.next + ids_of it.form → new.next ≤ most_id + 1 → Adds old new (it ∷ [])
-adds_one old new mark it items is next within = λ id before h.
+adds_one old new marks mark it items same is next within = λ id before h.
     record {
-      marks = ap (map new_mark_of) items ∙ map-append new_mark_of old.marks.items (mark ∷ [])
+      marks = ap (map new_mark_of) (items ∙ ap (λ list. list ++ mark ∷ []) same) ∙ map-append new_mark_of old.marks.items (mark ∷ [])
           ∙ ap (λ front. front ++ new_mark_of mark ∷ []) h.marks
           ∙ ap (λ last. numbered id before ++ last ∷ []) (is ∙ ap (λ n. record { objective = it; id = n }) h.next)
           ∙ sym (numbered_append id before (it ∷ []));

@@ -6,6 +6,7 @@ use Rattle.lt_placing.specs.NewMarks.{form_of}
 use Rattle.lt_numbering.specs.Numbering.{Adds, most_id}
 use Rattle.std.proofs.Common.{subst, ap, ◌∙◌}
 use Rattle.lt_objectives.specs.Objectives.{objective}
+use Rattle.std.specs.Global.{Vec}
 use Rattle.std.specs.Prelude.{◌==◌}
 use Rattle.lt_placing.specs.declared.new_mark.NewMark.{NewMark}
 use Rattle.lt_numbering.specs.declared.new_marks.NewMarks.{NewMarks}
@@ -34,9 +35,8 @@ left-preserved-in-Continue-branch-2 c =
     let stays = c.in-Some.ensures.stays in
     let items = c.in_ok-push.ensures.items in
     let one : Adds c.left.self now (objective c.args.place (form_of c.args.form) c.args.criterion e ∷ [])
-    = let mark : NewMark = record { place = c.args.place; form = c.args.form; predicate = c.in-Some-pop_front.predicate; id = c.in-Some.id; tag = c.in_ok-tag.tag } in
-    adds_one c.left.self now mark (objective c.args.place (form_of c.args.form) c.args.criterion e)
-    (items ∙ ap (λ marks. marks.items ++ mark ∷ []) stays)
+    = adds_one c.left.self now c.take_id.new.self.marks.items _ (objective c.args.place (form_of c.args.form) c.args.criterion e)
+    items (ap (λ (marks : Vec NewMark). marks.items) stays)
     (mark_is c.left.self.next c.in-Some.id c.args.place (form_of c.args.form) c.args.criterion e c.in_ok-tag.tag taken.0 tag)
     taken.1 taken.2 in
     let both = adds_both c.args.self.now c.left.self now (all_at c.args.place (form_of c.args.form) c.args.criterion done) (objective c.args.place (form_of c.args.form) c.args.criterion e ∷ []) c.left.invariant.2 one in
