@@ -1,6 +1,6 @@
 -- The marks of criteria, node by node, and criterion by criterion.
 use Rattle.std.proofs.Common.{◌≡◌, ℕ, ◌+◌, ◌<◌, ◌≤◌, List, [], ◌∷◌, ◌++◌, length, take, drop, Some, Bool, true, false, cond, inl, inr, refl, sym, ap, subst, ◌∙◌, arith}
-use Rattle.std.specs.Prelude.{slice_get, Result, Ok, Err, IfOk, IfErr}
+use Rattle.std.specs.Prelude.{slice_get}
 use Rattle.std.specs.List.{flat_map}
 use Rattle.std.proofs.lemmas.List.{take-append-drop}
 use Rattle.std.proofs.lemmas.List.Concat.{flat_map-append}
@@ -91,24 +91,3 @@ chosen_first criterion left set is = ap (λ b. cond b (criterion ∷ chosen left
 
 pub not_chosen_first : (criterion : Criterion) (left : List Criterion) (set : ℕ) → is_in set criterion ≡ false → chosen (criterion ∷ left) set ≡ chosen left set
 not_chosen_first criterion left set is = ap (λ b. cond b (criterion ∷ chosen left set) (chosen left set)) is
-
--- ---- rounds
-
-pub leads_behind_round : {E : Type 0} (made : Result Marked E) (criterion : Criterion) (left whole : List Criterion) (unit : c.Unit) (program : Program) (set id : ℕ) (old : Marked)
-    → is_in set criterion ≡ true → Leads (chosen (criterion ∷ left) set) whole unit program id old → IfOk made (λ it. it.next ≤ most_id + 1)
-    → IfOk made (IsMarkedWith (unit_of old.unit) old.next (objectives (unit_of old.unit) program criterion)) → IfOk made (Leads (chosen left set) whole unit program id)
-leads_behind_round (Ok new) criterion left whole unit program set id old is leads within marked =
-    leads_on criterion (chosen left set) whole unit program id old new (subst (λ list. Leads list whole unit program id old) (chosen_first criterion left set is) leads) marked within
-leads_behind_round (Err why) criterion left whole unit program set id old is leads within marked = tt
-
-pub too_few_in_round : (made : Result Marked MarkStop) (criterion : Criterion) (left whole : List Criterion) (unit : c.Unit) (program : Program) (set id : ℕ) (old : Marked)
-    → is_in set criterion ≡ true → Leads (chosen (criterion ∷ left) set) whole unit program id old
-    → IfErr made (λ why. why ≡ stop.Ids → most_id + 1 < next_id old.next (objectives (unit_of old.unit) program criterion)) → IfErr made (λ why. why ≡ stop.Ids → IdsPass whole unit program id)
-too_few_in_round (Ok new) criterion left whole unit program set id old is leads out = tt
-too_few_in_round (Err why) criterion left whole unit program set id old is leads out =
-    λ ids. leads_to_too_few criterion (chosen left set) whole unit program id old (subst (λ list. Leads list whole unit program id old) (chosen_first criterion left set is) leads) (out ids)
-
-pub leads_without_round : (criterion : Criterion) (left whole : List Criterion) (unit : c.Unit) (program : Program) (set id : ℕ) (old : Marked)
-    → is_in set criterion ≡ false → Leads (chosen (criterion ∷ left) set) whole unit program id old → Leads (chosen left set) whole unit program id old
-leads_without_round criterion left whole unit program set id old isnt leads =
-    subst (λ list. Leads list whole unit program id old) (not_chosen_first criterion left set isnt) leads
