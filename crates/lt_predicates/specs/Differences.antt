@@ -1,6 +1,7 @@
 -- That an expression and others have different values.
 use Rattle.std.specs.Prelude.{not, List, [], map, filter}
 use Rattle.lt_model.specs.declared.operator.Op.{Op}
+use Rattle.lt_tree.specs.declared.expression.LogicalOp.{LogicalOp}
 use Rattle.lt_tree.specs.Tree as t
 use Rattle.lt_tree.specs.Erasure.{erased}
 use Rattle.lt_objectives.specs.Decisions.{inequality}
@@ -14,7 +15,15 @@ abbrev pub other_operators : List Op → t.Expression → List t.Expression
 other_operators ops (t.Binary op left right) = with_others ops op left right
 other_operators ops e = []
 
--- the differences of an expression and copies of its operands with each of these operators but this one
-abbrev pub copied_others : List Op → Op → (e left right : t.Expression) → List t.Expression
-copied_others ops op e left right =
-    map (λ other. inequality (erased e) (t.Binary other (erased left) (erased right))) (filter (λ other. not (same_op op other)) ops)
+-- an expression with this operator, or this connector, in place of its own
+abbrev pub with_operator : Op → t.Expression → t.Expression
+with_operator op (t.Binary own left right) = t.Binary op left right
+with_operator op e = e
+
+abbrev pub with_connector : LogicalOp → t.Expression → t.Expression
+with_connector op (t.Logical own left right) = t.Logical op left right
+with_connector op e = e
+
+-- the differences of an expression without its marks, and of the same with each of these operators but this one
+abbrev pub copied_others : List Op → Op → t.Expression → List t.Expression
+copied_others ops op e = map (λ other. inequality (erased e) (with_operator other (erased e))) (filter (λ other. not (same_op op other)) ops)

@@ -7,13 +7,13 @@ ghost use Rattle.lt_tree.specs.View.{expression_of};
 ghost use Rattle.lt_tree.specs.Erasure.{erased};
 ghost use Rattle.lt_tree.specs.Typing.Types.{CType, is_integer};
 ghost use Rattle.lt_objectives.specs.Mutants as mutant;
-ghost use Rattle.lt_predicates.specs.Expressions.{Makes, IsErased};
-ghost use Rattle.lt_predicates.specs.Differences.{differences, other_operators, copied_others};
+ghost use Rattle.lt_predicates.specs.Expressions.{Makes};
+ghost use Rattle.lt_predicates.specs.Differences.{differences, other_operators, copied_others, with_operator, with_connector};
 
 use crate::copies::{inequality, zero};
 use lt_marks::erase_expression;
 use lt_model::Op;
-use lt_tree::makes::expression::{binary, conditional, logical, unary};
+use lt_tree::makes::expression::{binary, conditional, unary};
 use lt_tree::{Expr, LogicalOp, UnaryOp};
 use std::alloc::{AllocError, Global};
 
@@ -27,13 +27,14 @@ const POINTER_RELATIONS: [Op; 2] = [Op::Eq, Op::Ne];
 pub fn differences_by_absolute(
     alloc: Global,
     e: &Expr,
+    plain: &Expr,
     is_signed: bool,
 ) -> Result<Vec<Expr>, AllocError>
-    requires { IsErased (expression_of e.now) }
+    requires { expression_of plain.now ≡ erased (expression_of e.now) }
     ensures { (m : DataModel) (type : CType) → mutant.is_signed_integer m type ≡ is_signed
-        → Makes result (differences (expression_of e.now) (mutant.absolute_mutants m type (expression_of e.now))) }
+        → Makes result (differences (expression_of plain.now) (mutant.absolute_mutants m type (expression_of plain.now))) }
 {
-    if !(is_signed && is_fitting(e)) {
+    if !(is_signed && is_fitting(plain)) {
         return Ok(Vec::new(alloc));
     }
     let from_absolute = inequality(alloc, e, absolute(alloc, e)?)?;
@@ -74,32 +75,45 @@ fn absolute(alloc: Global, e: &Expr) -> Result<Expr, AllocError>
 pub fn differences_by_arithmetic(
     alloc: Global,
     e: &Expr,
+    plain: &Expr,
     are_integers: bool,
 ) -> Result<Vec<Expr>, AllocError>
-    requires { IsErased (expression_of e.now) }
+    requires { expression_of plain.now ≡ erased (expression_of e.now) }
     ensures { (left right : CType) → (is_integer left && is_integer right) ≡ are_integers
-        → Makes result (differences (expression_of e.now) (mutant.arithmetic_mutants left right (expression_of e.now))) }
+        → Makes result (differences (expression_of plain.now) (mutant.arithmetic_mutants left right (expression_of plain.now))) }
 {
     if are_integers {
-        differences_by_others(alloc, e, &ARITHMETIC)
+        differences_by_others(alloc, e, plain, &ARITHMETIC)
     } else {
         Ok(Vec::new(alloc))
     }
 }
 
 /// From what the other of `&&` and `||` makes of its operands.
-pub fn differences_by_connector(alloc: Global, e: &Expr) -> Result<Vec<Expr>, AllocError>
-    requires { IsErased (expression_of e.now) }
-    ensures { Makes result (differences (expression_of e.now) (mutant.connector_mutants (expression_of e.now))) }
+pub fn differences_by_connector(
+    alloc: Global,
+    e: &Expr,
+    plain: &Expr,
+) -> Result<Vec<Expr>, AllocError>
+    requires { expression_of plain.now ≡ erased (expression_of e.now) }
+    ensures { Makes result (differences (expression_of plain.now) (mutant.connector_mutants (expression_of plain.now))) }
 {
-    match e {
-        Expr::Logical(op, left, right) => {
-            let left = erase_expression(alloc, left)?;
-            let right = erase_expression(alloc, right)?;
-            let mutant = logical(alloc, other_connector(*op), left, right)?;
+    match plain {
+        Expr::Logical(op, _, _) => {
+            let mutant = with_connector(erase_expression(alloc, e)?, other_connector(*op));
             Ok(vec![in alloc; inequality(alloc, e, mutant)?]?)
         }
         _ => Ok(Vec::new(alloc)),
+    }
+}
+
+// An expression with this connector in place of its own.
+fn with_connector(e: Expr, op: LogicalOp) -> Expr
+    ensures { expression_of result ≡ with_connector op (expression_of e) }
+{
+    match e {
+        Expr::Logical(_, left, right) => Expr::Logical(op, left, right),
+        other => other,
     }
 }
 
@@ -116,28 +130,34 @@ fn other_connector(op: LogicalOp) -> LogicalOp
 pub fn differences_by_relation(
     alloc: Global,
     e: &Expr,
+    plain: &Expr,
     are_integers: bool,
 ) -> Result<Vec<Expr>, AllocError>
-    requires { IsErased (expression_of e.now) }
+    requires { expression_of plain.now ≡ erased (expression_of e.now) }
     ensures { (left right : CType) → (is_integer left && is_integer right) ≡ are_integers
-        → Makes result (differences (expression_of e.now) (mutant.relational_mutants left right (expression_of e.now))) }
+        → Makes result (differences (expression_of plain.now) (mutant.relational_mutants left right (expression_of plain.now))) }
 {
     if are_integers {
-        differences_by_others(alloc, e, &RELATIONS)
+        differences_by_others(alloc, e, plain, &RELATIONS)
     } else {
-        differences_by_others(alloc, e, &POINTER_RELATIONS)
+        differences_by_others(alloc, e, plain, &POINTER_RELATIONS)
     }
 }
 
 // From the same operands with each other of these operators, if the expression's is one of them.
-fn differences_by_others(alloc: Global, e: &Expr, ops: &[Op]) -> Result<Vec<Expr>, AllocError>
-    requires { IsErased (expression_of e.now) }
-    ensures { Makes result (differences (expression_of e.now) (other_operators ops.now (expression_of e.now))) }
+fn differences_by_others(
+    alloc: Global,
+    e: &Expr,
+    plain: &Expr,
+    ops: &[Op],
+) -> Result<Vec<Expr>, AllocError>
+    requires { expression_of plain.now ≡ erased (expression_of e.now) }
+    ensures { Makes result (differences (expression_of plain.now) (other_operators ops.now (expression_of plain.now))) }
 {
-    match e {
-        Expr::Binary(op, left, right) => {
+    match plain {
+        Expr::Binary(op, _, _) => {
             if is_one_of(*op, ops) {
-                differences_but(alloc, e, ops, *op, left, right)
+                differences_but(alloc, e, ops, *op)
             } else {
                 Ok(Vec::new(alloc))
             }
@@ -147,24 +167,25 @@ fn differences_by_others(alloc: Global, e: &Expr, ops: &[Op]) -> Result<Vec<Expr
 }
 
 // From the same operands with each of these operators but this one.
-fn differences_but(
-    alloc: Global,
-    e: &Expr,
-    ops: &[Op],
-    op: Op,
-    left: &Expr,
-    right: &Expr,
-) -> Result<Vec<Expr>, AllocError>
-    ensures { Makes result (copied_others ops.now op (expression_of e.now) (expression_of left.now) (expression_of right.now)) }
+fn differences_but(alloc: Global, e: &Expr, ops: &[Op], op: Op) -> Result<Vec<Expr>, AllocError>
+    ensures { Makes result (copied_others ops.now op (expression_of e.now)) }
 {
     let mut list = Vec::new(alloc);
     for other in ops {
         if op != *other {
-            let left = erase_expression(alloc, left)?;
-            let right = erase_expression(alloc, right)?;
-            let mutant = binary(alloc, *other, left, right)?;
+            let mutant = with_operator(erase_expression(alloc, e)?, *other);
             list.push(inequality(alloc, e, mutant)?)?;
         }
     }
     Ok(list)
+}
+
+// A binary expression with this operator in place of its own.
+fn with_operator(e: Expr, op: Op) -> Expr
+    ensures { expression_of result ≡ with_operator op (expression_of e) }
+{
+    match e {
+        Expr::Binary(_, left, right) => Expr::Binary(op, left, right),
+        other => other,
+    }
 }

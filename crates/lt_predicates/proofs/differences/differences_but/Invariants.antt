@@ -5,4 +5,4 @@ use Rattle.lt_predicates.specs.Differences.{copied_others}
 use Rattle.lt_predicates.proofs.differences.differences_but.Given as goal
 
 abbrev pub invariant-loop-other : goal.invariant-loop-other
-invariant-loop-other l = expressions l.list ≡ copied_others (take l.other-index l.ops) l.op (expression_of l.e) (expression_of l.left) (expression_of l.right)
+invariant-loop-other l = expressions l.list ≡ copied_others (take l.other-index l.ops) l.op (expression_of l.e)

@@ -11,14 +11,6 @@ returns-then-is_one_of c =
     let ops = c.args.ops.now in
     let op = c.in-Binary.op in
     let e = expression_of c.args.e.now in
-    let left = c.deref.result.now in
-    let right = c.deref-then-is_one_of.result.now in
-    IfOk-weaker c.differences_but.result
-    (λ list. expressions list ≡ copied_others ops op e (expression_of left) (expression_of right))
-    (λ list. expressions list ≡ differences e (other_operators ops e))
-    (λ list made.
-    made ∙ ap (λ x. copied_others ops op e (expression_of x) (expression_of right)) c.deref.ensures
-    ∙ ap (λ x. copied_others ops op e (expression_of c.in-Binary.left.value) (expression_of x)) c.deref-then-is_one_of.ensures
-    ∙ others_are ops op e (expression_of c.in-Binary.left.value) (expression_of c.in-Binary.right.value) (ap expression_of c.in-Binary.is) c.requires
-    (sym c.is_one_of.ensures ∙ c.if-is_one_of.true))
-    c.differences_but.ensures
+    let plain = expression_of c.args.plain.now in
+    IfOk-weaker c.differences_but.result (λ list. expressions list ≡ copied_others ops op e) (λ list. expressions list ≡ differences plain (other_operators ops plain))
+    (λ list made. made ∙ others_are ops op e plain _ _ c.requires (ap expression_of c.in-Binary.is) (sym c.is_one_of.ensures ∙ c.if-is_one_of.true)) c.differences_but.ensures
