@@ -1,0 +1,7 @@
+mod Parts
+mod ValueParts
+mod OperandNumbers
+mod Families
+mod Shown
+mod Nodes
+mod Choices

@@ -1,0 +1,3 @@
+pub mod Mutations
+pub mod Candidates
+pub mod Operands
