@@ -205,7 +205,8 @@ fn sort_of(form: Form, piece: &[u8]) -> Option<Sort>
     }
 }
 
-fn fresh_after(fresh: bool, piece: &[u8]) -> bool
+/// Whether only spaces and tabs stand before the end of a piece on its line.
+pub fn fresh_after(fresh: bool, piece: &[u8]) -> bool
     ensures { result ≡ spec.fresh_after fresh piece.now }
 {
     let mut fresh = fresh;
@@ -215,8 +216,8 @@ fn fresh_after(fresh: bool, piece: &[u8]) -> bool
     fresh
 }
 
-/// What is cut off the front of a text, and how long it is.
-fn first_cut(fresh: bool, text: &[u8]) -> (Option<Sort>, usize)
+/// What is cut off the front of a text, if it doesn't only separate, and how long it is.
+pub fn first_cut(fresh: bool, text: &[u8]) -> (Option<Sort>, usize)
     requires { 0 < length text.now }
     ensures value { result ≡ first_cut fresh text.now }
     ensures some { 0 < result.1 }

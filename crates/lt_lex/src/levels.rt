@@ -122,7 +122,8 @@ fn step_of_mark(text: &[u8]) -> Step
     }
 }
 
-fn step_of(kind: Kind, text: &[u8]) -> Step
+/// What a token does to the levels of the nest.
+pub fn step_of(kind: Kind, text: &[u8]) -> Step
     ensures { result ≡ spec.step_of kind text.now }
 {
     match kind {

@@ -12,7 +12,10 @@ mod token;
 mod tokens;
 mod words;
 
+pub use cut::{first_cut, fresh_after};
+pub use levels::step_of;
 pub use lexer::{lex, nest};
+pub use read::{role_of, trails_after};
 pub use stop::LexStop;
 pub use token::Token;
 pub use tokens::Tokens;

@@ -99,7 +99,8 @@ fn role_of_word(trails: bool, word: &[u8]) -> Role
     }
 }
 
-fn role_of(trails: bool, sort: Sort, text: &[u8]) -> Role
+/// What becomes of a lexeme; `trails` says that it stands directly behind an identifier, `)` or `]`.
+pub fn role_of(trails: bool, sort: Sort, text: &[u8]) -> Role
     ensures { result ≡ spec.role_of trails sort text.now }
 {
     match sort {
@@ -113,7 +114,8 @@ fn role_of(trails: bool, sort: Sort, text: &[u8]) -> Role
     }
 }
 
-fn trails_after(kind: Kind, text: &[u8]) -> bool
+/// Whether what stands directly behind this token trails.
+pub fn trails_after(kind: Kind, text: &[u8]) -> bool
     ensures { result ≡ spec.trails_after kind text.now }
 {
     match kind {
