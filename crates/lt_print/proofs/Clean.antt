@@ -39,10 +39,11 @@ pub record IsIdentifier (w : List ℕ) : Type 0 where
   pub is_word : (fresh : Bool) → is_piece fresh form.Word w ≡ true
   pub is_name : (trails : Bool) → role_of_word trails w ≡ role.Token kind.Identifier
   pub unreserved : spelt reserved w ≡ k.Other
+  pub bytes : All IsByte w
 
 pub data IsConstant (w : List ℕ) : Type 0 where
-  integer : ((fresh : Bool) → is_piece fresh form.Number w ≡ true) → lex.is_integer w ≡ true → IsConstant w
-  character : ((fresh : Bool) → is_piece fresh form.Character w ≡ true) → IsConstant w
+  integer : ((fresh : Bool) → is_piece fresh form.Number w ≡ true) → lex.is_integer w ≡ true → All IsByte w → IsConstant w
+  character : ((fresh : Bool) → is_piece fresh form.Character w ≡ true) → All IsByte w → IsConstant w
 
 abbrev pub IsGood : Word → Type 0
 IsGood (p.name w) = IsIdentifier w
@@ -176,8 +177,8 @@ cut_sign x t fresh trails (a_mark_name b is role back) ends = record {
 
 cut_word : (w : Word) (t : List ℕ) (fresh trails : Bool) → IsGood w → Ends w t → Cut w t fresh trails
 cut_word (p.name w) t fresh trails good ends = cut_name w t fresh trails good ends
-cut_word (p.constant w) t fresh trails (integer is i) ends = cut_integer w t fresh trails is i ends
-cut_word (p.constant w) t fresh trails (character is) ends = cut_character w t fresh trails is
+cut_word (p.constant w) t fresh trails (integer is i all) ends = cut_integer w t fresh trails is i ends
+cut_word (p.constant w) t fresh trails (character is all) ends = cut_character w t fresh trails is
 cut_word (p.literal bytes) t fresh trails good ends = cut_literal bytes t fresh trails good
 cut_word (p.sign x) t fresh trails good ends = cut_sign x t fresh trails (written_as x good) ends
 

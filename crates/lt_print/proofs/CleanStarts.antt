@@ -66,10 +66,10 @@ name_starts [] good = absurd (clash false (good.is_word false) refl)
 name_starts (b ∷ bs) good = starts_unmarked b bs (word_starts (class_of b) b bs (good.is_word false))
 
 constant_starts : (w : List ℕ) → IsConstant w → Starts w
-constant_starts [] (integer is i) = absurd (clash false (is false) refl)
-constant_starts (b ∷ bs) (integer is i) = starts_unmarked b bs (ap is_mark (digit_class b (integer_digit false b bs (is false) i)))
-constant_starts [] (character is) = absurd (clash false (is false) refl)
-constant_starts (b ∷ bs) (character is) = starts_unmarked b bs (character_starts (class_of b) b bs (is false))
+constant_starts [] (integer is i all) = absurd (clash false (is false) refl)
+constant_starts (b ∷ bs) (integer is i all) = starts_unmarked b bs (ap is_mark (digit_class b (integer_digit false b bs (is false) i)))
+constant_starts [] (character is all) = absurd (clash false (is false) refl)
+constant_starts (b ∷ bs) (character is all) = starts_unmarked b bs (character_starts (class_of b) b bs (is false))
 
 prefix_starts : (o : UnaryOp) (a : Pieces) → Starts (text_of (prefixed (sign_of_unary o) a))
 unfolding text_of

@@ -31,9 +31,9 @@ use Rattle.lt_print.proofs.Spelt.{IsSpelt, AreSpelt}
 -- ---- lexemes
 
 abbrev Known : Sort → List ℕ → Type 0
-Known sort.Word w = (fresh : Bool) → is_piece fresh form.Word w ≡ true
-Known sort.Integer w = ((fresh : Bool) → is_piece fresh form.Number w ≡ true) × (lex.is_integer w ≡ true)
-Known sort.Character w = (fresh : Bool) → is_piece fresh form.Character w ≡ true
+Known sort.Word w = ((fresh : Bool) → is_piece fresh form.Word w ≡ true) × All IsByte w
+Known sort.Integer w = ((fresh : Bool) → is_piece fresh form.Number w ≡ true) × (lex.is_integer w ≡ true) × All IsByte w
+Known sort.Character w = ((fresh : Bool) → is_piece fresh form.Character w ≡ true) × All IsByte w
 Known sort.Text w = All IsByte w
 Known _ w = Unit {0}
 
@@ -73,11 +73,11 @@ some_is x y e = cc
 as_sort : (x y : Sort) (w : List ℕ) → Some x ≡ Some y → Known x w → Known y w
 as_sort x y w e = subst (λ (z : Sort). Known z w) (some_is x y e)
 
-known_number : (y : Sort) (w : List ℕ) → ((fresh : Bool) → is_piece fresh form.Number w ≡ true) → (i f : Bool) → lex.is_integer w ≡ i
+known_number : (y : Sort) (w : List ℕ) → ((fresh : Bool) → is_piece fresh form.Number w ≡ true) → All IsByte w → (i f : Bool) → lex.is_integer w ≡ i
     → Some (if i then sort.Integer else (if f then sort.Foreign else sort.Malformed)) ≡ Some y → Known y w
-known_number y w is true f e h = as_sort sort.Integer y w h (is, e)
-known_number y w is false true e h = as_sort sort.Foreign y w h tt
-known_number y w is false false e h = as_sort sort.Malformed y w h tt
+known_number y w is all true f e h = as_sort sort.Integer y w h (is, e, all)
+known_number y w is all false true e h = as_sort sort.Foreign y w h tt
+known_number y w is all false false e h = as_sort sort.Malformed y w h tt
 
 known_text : (y : Sort) (w : List ℕ) → All IsByte w → (b : Bool) → Some (if b then sort.Text else sort.Malformed) ≡ Some y → Known y w
 known_text y w all true h = as_sort sort.Text y w h all
@@ -88,9 +88,9 @@ maybe_none true y w h = absurd cc
 maybe_none false y w h = as_sort sort.Malformed y w h tt
 
 known_piece : (fresh : Bool) (f : Form) (y : Sort) (w : List ℕ) → is_piece fresh f w ≡ true → All IsByte w → sort_of f w ≡ Some y → Known y w
-known_piece fresh form.Word y w is all h = as_sort sort.Word y w h (word_anywhere fresh w is)
-known_piece fresh form.Number y w is all h = known_number y w (number_anywhere fresh w is) (lex.is_integer w) (is_floating w) refl h
-known_piece fresh form.Character y w is all h = as_sort sort.Character y w h (character_anywhere fresh w is)
+known_piece fresh form.Word y w is all h = as_sort sort.Word y w h (word_anywhere fresh w is, all)
+known_piece fresh form.Number y w is all h = known_number y w (number_anywhere fresh w is) all (lex.is_integer w) (is_floating w) refl h
+known_piece fresh form.Character y w is all h = as_sort sort.Character y w h (character_anywhere fresh w is, all)
 known_piece fresh form.Text y w is all h = known_text y w all (is_closed_text w) h
 known_piece fresh form.Prefixed y w is all h = as_sort sort.Foreign y w h tt
 known_piece fresh form.Punctuator y w is all h = as_sort sort.Punctuator y w h tt
@@ -156,24 +156,25 @@ named_spelt : (x : Terminal) (w : List ℕ) (at : ℕ) → (x ≡ k.Other → Is
 named_spelt k.Other w at h = h refl
 named_spelt x w at h = tt
 
-word_spelt : (trails : Bool) (x : Kind) (w : List ℕ) (at : ℕ) → ((fresh : Bool) → is_piece fresh form.Word w ≡ true) → role_of_word trails w ≡ role.Token x
+word_spelt : (trails : Bool) (x : Kind) (w : List ℕ) (at : ℕ) → Known sort.Word w → role_of_word trails w ≡ role.Token x
     → IsSpelt (symbol_of (record { kind = x; text = w; at = at }))
-word_spelt trails kind.Identifier w at is h = named_spelt (spelt reserved w) w at
+word_spelt trails kind.Identifier w at known h = named_spelt (spelt reserved w) w at
     (λ e. record {
-      is_word = is;
+      is_word = known.0;
       is_name = name_anywhere (is_among w skipped) (is_among w attributes) (is_among w assemblers) trails (is_among w unsupported) (is_among w keywords || is_among w respelled) h;
       unreserved = e;
+      bytes = known.1;
     })
-word_spelt trails kind.Keyword w at is h = tt
-word_spelt trails kind.Punctuator w at is h = tt
-word_spelt trails x w at is h =
+word_spelt trails kind.Keyword w at known h = tt
+word_spelt trails kind.Punctuator w at known h = tt
+word_spelt trails x w at known h =
     let e = word_kind (is_among w skipped) (is_among w attributes) (is_among w assemblers) trails (is_among w unsupported) (is_among w keywords || is_among w respelled) x h in absurd cc
 
 symbol_spelt : (trails : Bool) (y : Sort) (x : Kind) (w : List ℕ) (at : ℕ) → Known y w → role_of trails y w ≡ role.Token x → IsSpelt (symbol_of (record { kind = x; text = w; at = at }))
 symbol_spelt trails sort.Word x w at known h = word_spelt trails x w at known h
-symbol_spelt trails sort.Integer kind.Integer w at known h = integer known.0 known.1
+symbol_spelt trails sort.Integer kind.Integer w at known h = integer known.0 known.1 known.2
 symbol_spelt trails sort.Integer x w at known h = absurd cc
-symbol_spelt trails sort.Character kind.Character w at known h = character known
+symbol_spelt trails sort.Character kind.Character w at known h = character known.0 known.1
 symbol_spelt trails sort.Character x w at known h = absurd cc
 symbol_spelt trails sort.Text kind.Text w at known h = known
 symbol_spelt trails sort.Text x w at known h = absurd cc
