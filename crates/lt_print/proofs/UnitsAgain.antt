@@ -59,7 +59,7 @@ of_start st.nothing = sts.nothing_start_again
 of_start (st.expression x) = sts.first_start_again (of_expression x)
 of_start (st.declaration x) = sts.declares_start_again (of_declaration x)
 
-of_labels : {scope : Scope} {ts : List Symbol} {labels : List c.Label} {rest : List Symbol} {spots more : List ℕ} → st.AreLabels scope ts labels rest spots more → LabelsFit scope labels
+pub of_labels : {scope : Scope} {ts : List Symbol} {labels : List c.Label} {rest : List Symbol} {spots more : List ℕ} → st.AreLabels scope ts labels rest spots more → LabelsFit scope labels
 of_labels (st.no_labels a b) = tt
 of_labels (st.case_label x y) = ((of_expression x).stands, of_labels y)
 of_labels (st.default_label y) = of_labels y
@@ -67,11 +67,11 @@ of_labels (st.default_label y) = of_labels y
 at_else : (scope : Scope) (f g : Bool) (x : c.Statement) → f ≡ g → StatementAgain scope f x → StatementAgain scope g x
 at_else scope f g x e = subst (λ (b : Bool). StatementAgain scope b x) e
 
-else_seen : (at : ℕ) (ts : List Symbol) → sees k.Else (s.sign k.Else at ∷ ts) ≡ true
+pub else_seen : (at : ℕ) (ts : List Symbol) → sees k.Else (s.sign k.Else at ∷ ts) ≡ true
 unfolding same_terminal
 else_seen at ts = refl
 
-while_seen : (at : ℕ) (ts : List Symbol) → sees k.Else (s.sign k.While at ∷ ts) ≡ false
+pub while_seen : (at : ℕ) (ts : List Symbol) → sees k.Else (s.sign k.While at ∷ ts) ≡ false
 unfolding same_terminal
 while_seen at ts = refl
 
@@ -107,7 +107,7 @@ mutual
 abbrev pub UnitAgain : Scope → c.Unit → Type 0
 UnitAgain scope unit = (ts : List Symbol) (more : List ℕ) → Reads (flat_map external unit) ts [] → (spots : List ℕ) × AreExternals scope ts unit spots more
 
-nothing_again : {scope : Scope} → UnitAgain scope []
+pub nothing_again : {scope : Scope} → UnitAgain scope []
 nothing_again ts more done = (more, u.no_more_externals)
 
 declaration_from : {scope : Scope} {x : c.Declaration} {unit : c.Unit} → DeclarationAgain scope x → UnitAgain (after_declaration x scope) unit → {ts between past : List Symbol} (more : List ℕ)
@@ -115,7 +115,7 @@ declaration_from : {scope : Scope} {x : c.Declaration} {unit : c.Unit} → Decla
 declaration_from again others {ts} {past = past} more a (a_line_end done) b =
     let behind = others past more b in let got = again 0 ts past behind.0 a in (_, u.declaration got.1 behind.1)
 
-declaration_again : {scope : Scope} {x : c.Declaration} {unit : c.Unit} → DeclarationAgain scope x → UnitAgain (after_declaration x scope) unit → UnitAgain scope (c.Declared x ∷ unit)
+pub declaration_again : {scope : Scope} {x : c.Declaration} {unit : c.Unit} → DeclarationAgain scope x → UnitAgain (after_declaration x scope) unit → UnitAgain scope (c.Declared x ∷ unit)
 declaration_again {scope} {x} {unit} again others ts more r =
     let q = parted (declaration 0 x ++ line_end ∷ []) (flat_map external unit) r in
     let p = parted (declaration 0 x) (line_end ∷ []) q.front in
@@ -134,7 +134,7 @@ definition_from {scope} {ss} {x} {body} again fits items others {ts} {gone = gon
     no_missing : (ss : c.Specifiers) {b : Bool} → takes_none (naming_behind ss) ≡ true → b ≡ false
     no_missing ss e = let f = behind_is_named ss in absurd cc
 
-definition_again : {scope : Scope} {ss : c.Specifiers} {x : c.Declarator} {body : c.Items} {unit : c.Unit} → SpecifiersAgain scope ss → DeclaratorFits (naming_behind ss) (after_specifiers ss scope) x
+pub definition_again : {scope : Scope} {ss : c.Specifiers} {x : c.Declarator} {body : c.Items} {unit : c.Unit} → SpecifiersAgain scope ss → DeclaratorFits (naming_behind ss) (after_specifiers ss scope) x
     → ItemsAgain (in_body ss x scope) body → UnitAgain (after_external (c.Defines ss x body) scope) unit → UnitAgain scope (c.Defines ss x body ∷ unit)
 definition_again {scope} {ss} {x} {body} {unit} again fits items others ts more r =
     let q = parted (apart (specifiers 0 ss) (declarator 0 x) ++ gap ∷ sign k.OpenBrace ∷ line_end ∷ item_lines 1 body ++ sign k.CloseBrace ∷ line_end ∷ []) (flat_map external unit) r in
