@@ -1,6 +1,7 @@
-// New marks put at their places in a unit; `Marked.antt` of `lt_objectives` says what the unit with them is, `specs/NewMarks.antt` has marks as values.
+// New marks put at their places in a unit, and exact copies; `Marked.antt` of `lt_objectives` says what the unit with them is, `specs/NewMarks.antt` has marks as values.
 #![tactic(auto)]
 
+mod copy;
 mod declaration;
 mod declarator;
 mod expression;
@@ -12,5 +13,6 @@ mod statement;
 mod unit;
 mod walk;
 
+pub use copy::copy_expression;
 pub use new_mark::{Form, NewMark};
 pub use unit::with_marks;
