@@ -1,22 +1,12 @@
 -- The clauses of an expression, without where they stand.
 use Rattle.std.proofs.Common.{◌≡◌, ℕ, ◌+◌, ◌<◌, arith, List, [], ◌∷◌, ◌++◌, length, map, refl, sym, ap, ◌∙◌}
-use Rattle.std.specs.Prelude.{Option, None, Bool, true, false, ◌&&◌}
+use Rattle.std.specs.Prelude.{Option, None}
 use Rattle.std.proofs.lemmas.List.{map-append, length-append, length-map}
 use Rattle.lt_tree.specs.declared.expression.UnaryOp.TheVariants as unary
 use Rattle.lt_tree.specs.Tree as t
-use Rattle.lt_tree.specs.Erasure.{erased}
-use Rattle.lt_tree.specs.Purity.{is_pure}
 use Rattle.lt_tree.specs.Nodes.{in_expression, in_marks}
 use Rattle.lt_objectives.specs.Decisions.{clauses_of, clause_list, clause_count, in_after}
 use Rattle.lt_predicates.specs.Clauses.{insides}
-
-and_left : (a b : Bool) → (a && b) ≡ true → a ≡ true
-and_left true b h = refl
-and_left false b h = absurd cc
-
-and_right : (a b : Bool) → (a && b) ≡ true → b ≡ true
-and_right true b h = h
-and_right false b h = absurd cc
 
 abbrev pub plain_clauses : t.Expression → List t.Expression
 plain_clauses (t.Logical op left right) = plain_clauses left ++ plain_clauses right
@@ -98,20 +88,3 @@ one_less e inner h = absurd cc
 pub some_nodes : (e : t.Expression) → 0 < length (in_expression e)
 some_nodes (t.Logical op l r) = omega arith
 some_nodes e = omega arith
-
--- ---- of what is pure and has no marks
-
-pub clauses_erased : (e : t.Expression) → is_pure e ≡ true → erased e ≡ e → map erased (plain_clauses e) ≡ plain_clauses e
-clauses_erased (t.Logical op left right) pure same =
-    let p : is_pure left ≡ true = and_left (is_pure left) (is_pure right) pure in
-    let q : is_pure right ≡ true = and_right (is_pure left) (is_pure right) pure in
-    let l : erased left ≡ left = cc in
-    let r : erased right ≡ right = cc in
-    map-append erased (plain_clauses left) (plain_clauses right)
-    ∙ ap (λ z. z ++ map erased (plain_clauses right)) (clauses_erased left p l)
-    ∙ ap (λ z. plain_clauses left ++ z) (clauses_erased right q r)
-clauses_erased (t.Unary unary.Not e) pure same = clauses_erased e pure (let inner : erased e ≡ e = cc in inner)
-clauses_erased (t.Marked marks e) pure same = absurd cc
-clauses_erased (t.Decide e when_true when_false tag) pure same = absurd cc
-clauses_erased (t.After e id tag) pure same = absurd cc
-clauses_erased e pure same = ap (λ x. x ∷ []) same

@@ -5,7 +5,6 @@ use Rattle.std.specs.Global.{Vec}
 use Rattle.lt_tree.specs.declared.expression.Expr.{Expr}
 use Rattle.lt_tree.specs.Tree as t
 use Rattle.lt_tree.specs.View.{expression_of}
-use Rattle.lt_tree.specs.Erasure.{erased}
 
 abbrev pub expressions : Vec Expr → List t.Expression
 expressions list = map expression_of list.items
@@ -17,7 +16,3 @@ Makes made list = IfOk made (λ all. expressions all ≡ list)
 -- those that are pointed to
 abbrev pub pointed : List (Bor Expr) → List t.Expression
 pointed list = map (λ e. expression_of e.now) list
-
--- that there are no marks in an expression
-abbrev pub IsErased : t.Expression → Type 0
-IsErased e = erased e ≡ e

@@ -2,24 +2,22 @@
 
 ghost use Rattle.std.specs.Prelude.{◌≡◌, [], ◌∷◌, true};
 ghost use Rattle.lt_tree.specs.View.{expression_of};
-ghost use Rattle.lt_tree.specs.Erasure.{erased};
 ghost use Rattle.lt_tree.specs.Purity.{is_pure};
 ghost use Rattle.lt_objectives.specs.Decisions as decision;
-ghost use Rattle.lt_predicates.specs.Expressions.{Makes, pointed, IsErased};
-ghost use Rattle.lt_predicates.specs.Conjunctions.{copied_extensions, AreErased};
+ghost use Rattle.lt_predicates.specs.Expressions.{Makes, pointed};
+ghost use Rattle.lt_predicates.specs.Conjunctions.{all_extensions};
 
 use crate::clauses::clause_list;
 use crate::copies::{conjunction, negation};
-use lt_marks::erase_expression;
+use lt_placing::copy_expression;
 use lt_tree::Expr;
 use std::alloc::{AllocError, Global};
 
-/// That an expression without marks is true, and that it isn't.
+/// That an expression is true, and that it isn't.
 pub fn both_truths(alloc: Global, d: &Expr) -> Result<Vec<Expr>, AllocError>
-    requires { IsErased (expression_of d.now) }
     ensures { Makes result (expression_of d.now ∷ decision.negation (expression_of d.now) ∷ []) }
 {
-    let truth = erase_expression(alloc, d)?;
+    let truth = copy_expression(alloc, d)?;
     let falsity = negation(alloc, d)?;
     Ok(vec![in alloc; truth, falsity]?)
 }
@@ -27,7 +25,6 @@ pub fn both_truths(alloc: Global, d: &Expr) -> Result<Vec<Expr>, AllocError>
 /// Each clause of a decision or its negation, joined from left to right, all true first, the last changing fastest.
 pub fn conjunctions(alloc: Global, d: &Expr) -> Result<Vec<Expr>, AllocError>
     requires pure { is_pure (expression_of d.now) ≡ true }
-    requires unmarked { erased (expression_of d.now) ≡ expression_of d.now }
     requires few { decision.has_few_clauses (expression_of d.now) ≡ true }
     ensures { Makes result (decision.conjunctions (decision.clause_list (expression_of d.now))) }
 {
@@ -37,7 +34,6 @@ pub fn conjunctions(alloc: Global, d: &Expr) -> Result<Vec<Expr>, AllocError>
 
 // The same of these clauses.
 fn conjoined(alloc: Global, clauses: &[&Expr]) -> Result<Vec<Expr>, AllocError>
-    requires { AreErased (pointed clauses.now) }
     ensures { Makes result (decision.conjunctions (pointed clauses.now)) }
 {
     let Some((first, rest)) = clauses.split_first() else {
@@ -52,11 +48,11 @@ fn conjoined(alloc: Global, clauses: &[&Expr]) -> Result<Vec<Expr>, AllocError>
 
 // Each of these with the clause, and with its negation.
 fn extended(alloc: Global, made: &[Expr], clause: &Expr) -> Result<Vec<Expr>, AllocError>
-    ensures { Makes result (copied_extensions made.now (expression_of clause.now)) }
+    ensures { Makes result (all_extensions made.now (expression_of clause.now)) }
 {
     let mut list = Vec::new(alloc);
     for e in made {
-        let truth = erase_expression(alloc, clause)?;
+        let truth = copy_expression(alloc, clause)?;
         list.push(conjunction(alloc, e, truth)?)?;
         list.push(conjunction(alloc, e, negation(alloc, clause)?)?)?;
     }

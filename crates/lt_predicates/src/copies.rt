@@ -1,4 +1,4 @@
-// Predicates made of others, which are copied without their marks.
+// Predicates made of others, which are copied.
 
 ghost use Rattle.std.specs.Prelude.{◌≡◌, IfOk};
 ghost use Rattle.lt_tree.specs.View.{expression_of};
@@ -7,6 +7,7 @@ ghost use Rattle.lt_objectives.specs.Decisions as decision;
 
 use lt_marks::erase_expression;
 use lt_model::{Name, Op};
+use lt_placing::copy_expression;
 use lt_tree::makes::expression::{binary, constant, logical, unary};
 use lt_tree::{Expr, LogicalOp, UnaryOp};
 use std::alloc::{AllocError, Global};
@@ -20,20 +21,20 @@ pub fn zero(alloc: Global) -> Result<Expr, AllocError>
 
 /// `!e`.
 pub fn negation(alloc: Global, e: &Expr) -> Result<Expr, AllocError>
-    ensures { IfOk result (λ it. expression_of it ≡ decision.negation (erased (expression_of e.now))) }
+    ensures { IfOk result (λ it. expression_of it ≡ decision.negation (expression_of e.now)) }
 {
-    unary(alloc, UnaryOp::Not, erase_expression(alloc, e)?)
+    unary(alloc, UnaryOp::Not, copy_expression(alloc, e)?)
 }
 
 /// `left && right`.
 pub fn conjunction(alloc: Global, left: &Expr, right: Expr) -> Result<Expr, AllocError>
-    ensures { IfOk result (λ it. expression_of it ≡ decision.conjunction (erased (expression_of left.now)) (expression_of right)) }
+    ensures { IfOk result (λ it. expression_of it ≡ decision.conjunction (expression_of left.now) (expression_of right)) }
 {
-    let left = erase_expression(alloc, left)?;
+    let left = copy_expression(alloc, left)?;
     logical(alloc, LogicalOp::And, left, right)
 }
 
-/// `left != right`.
+/// `left != right`, of the left side without its marks.
 pub fn inequality(alloc: Global, left: &Expr, right: Expr) -> Result<Expr, AllocError>
     ensures { IfOk result (λ it. expression_of it ≡ decision.inequality (erased (expression_of left.now)) (expression_of right)) }
 {
