@@ -1,0 +1,23 @@
+use Rattle.std.proofs.Common.{◌≡◌, ap, ◌∙◌, map, Some, None}
+use Rattle.std.proofs.lemmas.Result.{IfOk-weaker}
+use Rattle.lt_tree.specs.View.{expression_of}
+use Rattle.lt_tree.specs.Erasure.{erased}
+use Rattle.lt_mcc.specs.Candidates.{ArePredicates}
+use Rattle.lt_mcc.specs.Combinations.{combined, criterion_of}
+use Rattle.lt_mcc.proofs.Shown.{found_there, are_predicates}
+use Rattle.lt_mcc.proofs.predicates.predicates_at.Goals as goal
+
+pub returns-in_default : goal.returns-in_default
+returns-in_default c unit program node known at =
+    let found = found_there unit program c.args.survey.now c.args.k node None known at c.in_default.ensures in
+    are_predicates unit program c.args.combination c.args.k node None c.new.result.items found (ap (map expression_of) c.new.ensures.items)
+
+pub returns : goal.returns
+returns c unit program node known at =
+    let e = expression_of c.in-Some.e.now in
+    let found = found_there unit program c.args.survey.now c.args.k node (Some e) known at c.in-Some.ensures in
+    let plain : expression_of c.deref.result.now ≡ erased e = ap expression_of c.deref.ensures ∙ ap expression_of c.in_ok-plain.ensures.ok ∙ c.in_ok-expression.ensures in
+    IfOk-weaker c.combined.result (λ made. map expression_of made.items ≡ combined c.args.combination (expression_of c.deref.result.now))
+    (λ made. ArePredicates unit program (criterion_of c.args.combination) c.args.k node made.items)
+    (λ made is. are_predicates unit program c.args.combination c.args.k node (Some e) made.items found (is ∙ ap (combined c.args.combination) plain))
+    c.combined.ensures
