@@ -1,9 +1,8 @@
 // Both truths of decisions and clauses.
 
-ghost use Rattle.std.specs.Prelude.{◌≡◌, ◌≤◌, ◌+◌, ◌&&◌, [], ◌∷◌, false, IfErr, IfOk, OnOk, None, map, slice_index_or};
+ghost use Rattle.std.specs.Prelude.{◌≡◌, ◌≤◌, ◌+◌, ◌&&◌, false, IfErr, OnOk, None, slice_index_or};
 ghost use Rattle.lt_tree.specs.View.{expression_of};
 ghost use Rattle.lt_tree.specs.Erasure.{erased};
-ghost use Rattle.lt_objectives.specs.Decisions.{negation};
 ghost use Rattle.lt_objectives.specs.Objectives.{is_core, both_truths};
 ghost use Rattle.lt_numbering.specs.Numbering.{Adds, IdsAreOut, most_id};
 ghost use Rattle.lt_crit.specs.Known.{tested, truths_where_open};
@@ -12,10 +11,10 @@ use lt_marks::erase_expression;
 use lt_numbering::{MarkStop, NewMarks};
 use lt_objectives::Criterion;
 use lt_placing::Form;
+use lt_predicates::both_truths;
 use lt_survey::Survey;
-use lt_tree::makes::expression::unary;
-use lt_tree::{Expr, UnaryOp, is_pure};
-use std::alloc::{AllocError, Global};
+use lt_tree::{Expr, is_pure};
+use std::alloc::Global;
 
 /// The marks of a criterion at an expression that has this number.
 pub fn add_at_expression(
@@ -95,20 +94,10 @@ fn add_both_truths(
 {
     let plain = erase_expression(alloc, e)?;
     if is_pure(&plain) {
-        let predicates = truths(alloc, e)?;
+        let predicates = both_truths(alloc, &plain)?;
         new.add(alloc, number as u64, Form::InFront, criterion, predicates)
     } else {
         let predicates = vec![in alloc; plain]?;
         new.add(alloc, decided as u64, Form::Around, criterion, predicates)
     }
-}
-
-/// An expression without its marks, and the negation of that.
-fn truths(alloc: Global, e: &Expr) -> Result<Vec<Expr>, AllocError>
-    ensures { IfOk result (λ list. map expression_of list.items ≡ erased (expression_of e.now) ∷ negation (erased (expression_of e.now)) ∷ []) }
-{
-    let truth = erase_expression(alloc, e)?;
-    let copy = erase_expression(alloc, e)?;
-    let negation = unary(alloc, UnaryOp::Not, copy)?;
-    Ok(vec![in alloc; truth, negation]?)
 }
