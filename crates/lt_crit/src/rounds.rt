@@ -10,7 +10,7 @@ ghost use Rattle.lt_objectives.specs.Marked.{next_id};
 ghost use Rattle.lt_numbering.specs.declared.stop.MarkStop.TheVariants as stop;
 ghost use Rattle.lt_numbering.specs.Numbering.{Number, most_id};
 ghost use Rattle.lt_survey.specs.Survey.{IsSurvey};
-ghost use Rattle.lt_survey.specs.Marking.{IsMarkedWith, IsMarkedBy, IdsPass, chosen};
+ghost use Rattle.lt_survey.specs.Marking.{IsMarkedWith, IsMarkedBy, IdsPass, bits_of, chosen};
 ghost use Rattle.lt_survey.specs.Rounds.{Leads};
 ghost use Rattle.lt_crit.specs.Criteria.{criteria, IsOneOfThem};
 
@@ -34,8 +34,8 @@ pub fn annotate(
     first: u32,
 ) -> Result<Marked, MarkStop>
     requires { first ≤ most_id + 1 }
-    ensures marked { IfOk result (IsMarkedBy (chosen criteria which.0) (unit_of unit.now) (program_of program.now) first) }
-    ensures ids { IfErr result (λ why. why ≡ stop.Ids → IdsPass (chosen criteria which.0) (unit_of unit.now) (program_of program.now) first) }
+    ensures marked { IfOk result (IsMarkedBy (chosen criteria (bits_of which)) (unit_of unit.now) (program_of program.now) first) }
+    ensures ids { IfErr result (λ why. why ≡ stop.Ids → IdsPass (chosen criteria (bits_of which)) (unit_of unit.now) (program_of program.now) first) }
 {
     let copy = unmarked(alloc, unit, first)?;
     let functions = round_if_chosen(alloc, copy, program, which, Criterion::Function)?;
@@ -55,9 +55,9 @@ fn round_if_chosen(
     requires criterion { IsOneOfThem criterion }
     requires within { so_far.next ≤ most_id + 1 }
     ensures within { IfOk result (λ it. it.next ≤ most_id + 1) }
-    ensures leads { (left whole : List Each) (unit : c.Unit) (id : ℕ) → Leads (chosen (criterion ∷ left) which.0) whole unit (program_of program.now) id so_far
-        → IfOk result (Leads (chosen left which.0) whole unit (program_of program.now) id) }
-    ensures ids { (left whole : List Each) (unit : c.Unit) (id : ℕ) → Leads (chosen (criterion ∷ left) which.0) whole unit (program_of program.now) id so_far
+    ensures leads { (left whole : List Each) (unit : c.Unit) (id : ℕ) → Leads (chosen (criterion ∷ left) (bits_of which)) whole unit (program_of program.now) id so_far
+        → IfOk result (Leads (chosen left (bits_of which)) whole unit (program_of program.now) id) }
+    ensures ids { (left whole : List Each) (unit : c.Unit) (id : ℕ) → Leads (chosen (criterion ∷ left) (bits_of which)) whole unit (program_of program.now) id so_far
         → IfErr result (λ why. why ≡ stop.Ids → IdsPass whole unit (program_of program.now) id) }
 {
     if which.contains(criterion.alone()) {

@@ -2,7 +2,7 @@ ghost use Rattle.std.specs.Prelude.{◌≡◌, ◌≤◌, ◌+◌, IfErr, IfOk};
 ghost use Rattle.lt_tree.specs.UnitView.{unit_of};
 ghost use Rattle.lt_tree.specs.Typing.ProgramView.{program_of};
 ghost use Rattle.lt_numbering.specs.Numbering.{most_id};
-ghost use Rattle.lt_survey.specs.Marking.{IsMarkedBy, IdsPass, chosen};
+ghost use Rattle.lt_survey.specs.Marking.{IsMarkedBy, IdsPass, bits_of, chosen};
 ghost use Rattle.lt_mut.specs.Mutations.{criteria};
 
 use crate::mutation::MUTATIONS;
@@ -25,8 +25,8 @@ pub fn annotate(
     first: u32,
 ) -> Result<Marked, MarkStop>
     requires { first ≤ most_id + 1 }
-    ensures marked { IfOk result (IsMarkedBy (chosen criteria which.0) (unit_of unit.now) (program_of program.now) first) }
-    ensures ids { IfErr result (λ why. why ≡ MarkStop.Ids → IdsPass (chosen criteria which.0) (unit_of unit.now) (program_of program.now) first) }
+    ensures marked { IfOk result (IsMarkedBy (chosen criteria (bits_of which)) (unit_of unit.now) (program_of program.now) first) }
+    ensures ids { IfErr result (λ why. why ≡ MarkStop.Ids → IdsPass (chosen criteria (bits_of which)) (unit_of unit.now) (program_of program.now) first) }
 {
     let mut made = unmarked(alloc, unit, first)?;
     'mutations: for mutation in &MUTATIONS {

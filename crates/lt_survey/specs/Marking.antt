@@ -4,6 +4,7 @@ use Rattle.lt_tree.specs.Tree as c
 use Rattle.lt_tree.specs.UnitView.{unit_of}
 use Rattle.lt_tree.specs.Typing.Programs.{Program}
 use Rattle.lt_objectives.specs.declared.criteria.Criterion.{Criterion}
+use Rattle.lt_objectives.specs.declared.criteria.Criteria.{Criteria}
 use Rattle.lt_objectives.specs.Criteria.{is_in}
 use Rattle.lt_objectives.specs.Objectives.{Objective, objectives}
 use Rattle.lt_objectives.specs.Marked.{numbered, next_id, unit_with_marks, marked_by}
@@ -27,6 +28,10 @@ IdsPass [] unit program id = ⊥
 IdsPass (criterion ∷ rest) unit program id =
     let them = objectives unit program criterion in
     (most_id + 1 < next_id id them) ⊎ IdsPass rest (unit_with_marks (numbered id them) unit) program (next_id id them)
+
+-- a set of criteria, by its bits
+abbrev pub bits_of : Criteria → ℕ
+bits_of set = set.0
 
 -- those of these criteria that are in a set
 abbrev pub chosen : List Criterion → (set : ℕ) → List Criterion
