@@ -1,3 +1,1 @@
 mod Shown
-mod Nodes
-mod Choices

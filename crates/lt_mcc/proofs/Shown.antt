@@ -2,7 +2,6 @@
 use Rattle.std.proofs.Common.{◌≡◌, refl, sym, ap, ◌∙◌, ℕ, Bool, true, false, cond, ◌&&◌, List, [], ◌++◌, get_or, map, Option, Some, None}
 use Rattle.std.specs.Prelude.{slice_get, option_map, is_some}
 use Rattle.std.proofs.lemmas.List.{append-nil}
-use Rattle.std.proofs.lemmas.Option.{slice_get-map}
 use Rattle.lt_tree.specs.declared.expression.Expr.{Expr}
 use Rattle.lt_tree.specs.Tree as c
 use Rattle.lt_tree.specs.View.{expression_of}
@@ -10,24 +9,21 @@ use Rattle.lt_tree.specs.Erasure.{erased}
 use Rattle.lt_tree.specs.Purity.{is_pure}
 use Rattle.lt_tree.specs.Nodes.{Node, an_external, an_expression, nodes}
 use Rattle.lt_tree.specs.Typing.Programs.{Program}
-use Rattle.lt_objectives.specs.Places as places
 use Rattle.lt_objectives.specs.Places.{is_open, is_value_position}
 use Rattle.lt_objectives.specs.Decisions.{decisions, clauses, clause_list, conjunctions, active_clauses, has_few_clauses}
 use Rattle.lt_objectives.specs.declared.criteria.Criterion.{Criterion}
 use Rattle.lt_objectives.specs.declared.criteria.Criterion.TheVariants as C
 use Rattle.lt_objectives.specs.Objectives.{Objective, at_start, in_front, all_at, at_body, at_test, at_node, decided_at, is_core, differences}
 use Rattle.lt_sites.specs.declared.site.Site.{Site}
-use Rattle.lt_sites.specs.Sites.{Sized, AreSitesOf, node_of, entry_of, part_of}
+use Rattle.lt_sites.specs.Sites.{node_of}
 use Rattle.lt_survey.specs.declared.survey.Survey.{Survey}
 use Rattle.lt_survey.specs.Survey.{IsSurvey}
-use Rattle.lt_survey.proofs.Sites.{read_by_number}
+use Rattle.lt_survey.specs.Rounds.{site, ArePredicates}
+use Rattle.lt_survey.proofs.Sites.{read_by_number, node_there}
 use Rattle.lt_mcc.specs.declared.combination.Combination.{Combination}
 use Rattle.lt_mcc.specs.declared.combination.Combination.TheVariants as each
 use Rattle.lt_mcc.specs.Combinations.{criterion_of}
-use Rattle.lt_mcc.specs.Candidates.{candidate, predicates, ArePredicates}
-
-abbrev site : ℕ → Node → places.Site
-site k node = record { number = k; node = node }
+use Rattle.lt_mcc.specs.Candidates.{candidate, predicates}
 
 no_body : (unit : c.Unit) (program : Program) (combination : Combination) (k : ℕ) → at_body unit program (criterion_of combination) k ≡ []
 no_body unit program each.MultipleCondition k = refl
@@ -88,15 +84,6 @@ pub are_predicates : (unit : c.Unit) (program : Program) (combination : Combinat
     → found ≡ candidate node (is_open unit program k) (is_decision unit k) → map expression_of list ≡ predicates combination found → ArePredicates unit program (criterion_of combination) k node list
 are_predicates unit program combination k node found list is made =
     ap (all_at k in_front (criterion_of combination)) (made ∙ ap (predicates combination) is) ∙ sym (at_node_is unit program combination k node)
-
-same_node : (found : Option Site) (node : Node) → option_map entry_of found ≡ Some (part_of node) → option_map (λ (it : Site). node_of it.node) found ≡ Some node
-same_node None node is = absurd cc
-same_node (Some it) node is = let e : entry_of it ≡ part_of node = cc in ap (λ (p : Sized). Some p.node) e
-
--- the node of a number, as it lies in memory
-pub node_there : (unit : c.Unit) (list : List Site) (k : ℕ) (node : Node) → AreSitesOf list unit → slice_get (nodes unit) k ≡ Some node → option_map (λ (it : Site). node_of it.node) (slice_get list k) ≡ Some node
-node_there unit list k node are is =
-    same_node (slice_get list k) node (sym (slice_get-map entry_of list k) ∙ ap (λ xs. slice_get xs k) are ∙ slice_get-map part_of (nodes unit) k ∙ ap (option_map part_of) is)
 
 -- what is found at a number is the candidate there
 pub found_there : (unit : c.Unit) (program : Program) (survey : Survey) (k : ℕ) (node : Node) (found : Option c.Expression) → IsSurvey unit program survey → slice_get (nodes unit) k ≡ Some node

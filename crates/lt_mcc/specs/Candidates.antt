@@ -1,13 +1,9 @@
 -- Decisions before which labels for combinations of their clauses may stand.
-use Rattle.std.specs.Prelude.{◌≡◌, ℕ, Bool, ◌&&◌, if◌then◌else◌, List, [], map, Option, Some, None}
-use Rattle.lt_tree.specs.declared.expression.Expr.{Expr}
+use Rattle.std.specs.Prelude.{Bool, ◌&&◌, if◌then◌else◌, List, [], Option, Some, None}
 use Rattle.lt_tree.specs.Tree as c
-use Rattle.lt_tree.specs.View.{expression_of}
 use Rattle.lt_tree.specs.Erasure.{erased}
 use Rattle.lt_tree.specs.Nodes.{Node, an_expression}
-use Rattle.lt_tree.specs.Typing.Programs.{Program}
-use Rattle.lt_objectives.specs.declared.criteria.Criterion.{Criterion}
-use Rattle.lt_objectives.specs.Objectives.{all_at, in_front, is_core, at_node}
+use Rattle.lt_objectives.specs.Objectives.{is_core}
 use Rattle.lt_mcc.specs.declared.combination.Combination.{Combination}
 use Rattle.lt_mcc.specs.Combinations.{combined}
 
@@ -24,8 +20,3 @@ candidate node is_open is_decision = if is_open && is_decision then core_in node
 abbrev pub predicates : Combination → Option c.Expression → List c.Expression
 predicates combination None = []
 predicates combination (Some e) = combined combination (erased e)
-
--- These are the predicates of the objectives at a node, all of which stand in front of it.
-abbrev pub ArePredicates : c.Unit → Program → Criterion → ℕ → Node → List Expr → Type 0
-ArePredicates unit program criterion k node list =
-    all_at k in_front criterion (map expression_of list) ≡ at_node unit program criterion (record { number = k; node = node })

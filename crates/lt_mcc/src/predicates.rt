@@ -7,7 +7,7 @@ ghost use Rattle.lt_tree.specs.Typing.Programs.{Program};
 ghost use Rattle.lt_objectives.specs.Decisions.{has_few_clauses};
 ghost use Rattle.lt_predicates.specs.Expressions.{Makes};
 ghost use Rattle.lt_survey.specs.Survey.{IsSurvey};
-ghost use Rattle.lt_mcc.specs.Candidates.{ArePredicates};
+ghost use Rattle.lt_survey.specs.Rounds.{ArePredicates};
 ghost use Rattle.lt_mcc.specs.Combinations.{combinations_of, combined, criterion_of};
 
 use crate::candidate::candidate;

@@ -3,5 +3,3 @@ mod ValueParts
 mod OperandNumbers
 mod Families
 mod Shown
-mod Nodes
-mod Choices

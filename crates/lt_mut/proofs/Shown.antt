@@ -1,7 +1,6 @@
 -- The predicates at a node are those of its objectives.
 use Rattle.std.proofs.Common.{◌≡◌, refl, sym, ap, ◌∙◌, ℕ, Bool, true, false, cond, ◌&&◌, List, [], ◌++◌, get_or, map, Option, Some, None}
 use Rattle.std.specs.Prelude.{slice_get, option_map}
-use Rattle.std.proofs.lemmas.Option.{slice_get-map}
 use Rattle.lt_tree.specs.declared.expression.Expr.{Expr}
 use Rattle.lt_tree.specs.Tree as c
 use Rattle.lt_tree.specs.View.{expression_of}
@@ -9,23 +8,20 @@ use Rattle.lt_tree.specs.Erasure.{erased}
 use Rattle.lt_tree.specs.Purity.{is_pure}
 use Rattle.lt_tree.specs.Nodes.{Node, an_external, an_expression, nodes}
 use Rattle.lt_tree.specs.Typing.Programs.{Program}
-use Rattle.lt_objectives.specs.Places as places
 use Rattle.lt_objectives.specs.Places.{is_open, is_value_position}
 use Rattle.lt_objectives.specs.Decisions.{inequality, decisions, clauses}
 use Rattle.lt_objectives.specs.declared.criteria.Criterion.{Criterion}
 use Rattle.lt_objectives.specs.Objectives.{Objective, at_start, in_front, all_at, at_body, at_test, at_node, decided_at, is_core, mutants}
 use Rattle.lt_sites.specs.declared.site.Site.{Site}
-use Rattle.lt_sites.specs.Sites.{Sized, AreSitesOf, node_of, entry_of, part_of}
+use Rattle.lt_sites.specs.Sites.{node_of}
 use Rattle.lt_survey.specs.declared.survey.Survey.{Survey}
 use Rattle.lt_survey.specs.Survey.{IsSurvey}
-use Rattle.lt_survey.proofs.Sites.{read_by_number}
+use Rattle.lt_survey.specs.Rounds.{site, ArePredicates}
+use Rattle.lt_survey.proofs.Sites.{read_by_number, node_there}
 use Rattle.lt_mut.specs.declared.mutation.Mutation.{Mutation}
 use Rattle.lt_mut.specs.declared.mutation.Mutation.TheVariants as change
 use Rattle.lt_mut.specs.Mutations.{criterion_of}
-use Rattle.lt_mut.specs.Candidates.{core_in, candidate, predicates, ArePredicates}
-
-abbrev site : ℕ → Node → places.Site
-site k node = record { number = k; node = node }
+use Rattle.lt_mut.specs.Candidates.{core_in, candidate, predicates}
 
 no_body : (unit : c.Unit) (program : Program) (mutation : Mutation) (k : ℕ) → at_body unit program (criterion_of mutation) k ≡ []
 no_body unit program change.AbsoluteValue k = refl
@@ -98,15 +94,6 @@ in_candidate node x false is = absurd cc
 -- a candidate is the node
 pub candidate_stands : (node : Node) (x : c.Expression) (o v : Bool) → Some x ≡ candidate node o v → node ≡ an_expression x
 candidate_stands node x o v is = in_candidate node x (o && v) is
-
-same_node : (found : Option Site) (node : Node) → option_map entry_of found ≡ Some (part_of node) → option_map (λ (it : Site). node_of it.node) found ≡ Some node
-same_node None node is = absurd cc
-same_node (Some it) node is = let e : entry_of it ≡ part_of node = cc in ap (λ (p : Sized). Some p.node) e
-
--- the node of a number, as it lies in memory
-pub node_there : (unit : c.Unit) (list : List Site) (k : ℕ) (node : Node) → AreSitesOf list unit → slice_get (nodes unit) k ≡ Some node → option_map (λ (it : Site). node_of it.node) (slice_get list k) ≡ Some node
-node_there unit list k node are is =
-    same_node (slice_get list k) node (sym (slice_get-map entry_of list k) ∙ ap (λ xs. slice_get xs k) are ∙ slice_get-map part_of (nodes unit) k ∙ ap (option_map part_of) is)
 
 -- what is found at a number is the candidate there
 pub found_there : (unit : c.Unit) (program : Program) (survey : Survey) (k : ℕ) (node : Node) (found : Option c.Expression) → IsSurvey unit program survey → slice_get (nodes unit) k ≡ Some node

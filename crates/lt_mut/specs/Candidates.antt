@@ -1,15 +1,13 @@
 -- Expressions before which labels for mutants may stand.
-use Rattle.std.specs.Prelude.{◌≡◌, ℕ, Bool, ◌&&◌, if◌then◌else◌, List, [], map, Option, Some, None}
-use Rattle.lt_tree.specs.declared.expression.Expr.{Expr}
+use Rattle.std.specs.Prelude.{ℕ, Bool, ◌&&◌, if◌then◌else◌, List, [], map, Option, Some, None}
 use Rattle.lt_tree.specs.Tree as c
-use Rattle.lt_tree.specs.View.{expression_of}
 use Rattle.lt_tree.specs.Erasure.{erased}
 use Rattle.lt_tree.specs.Purity.{is_pure}
 use Rattle.lt_tree.specs.Nodes.{Node, an_expression}
 use Rattle.lt_tree.specs.Typing.Programs.{Program}
 use Rattle.lt_objectives.specs.declared.criteria.Criterion.{Criterion}
 use Rattle.lt_objectives.specs.Decisions.{inequality}
-use Rattle.lt_objectives.specs.Objectives.{all_at, in_front, is_core, mutants, at_node}
+use Rattle.lt_objectives.specs.Objectives.{is_core, mutants}
 
 -- an expression without marks around it
 abbrev pub core_in : Node → Option c.Expression
@@ -24,8 +22,3 @@ candidate node is_open is_value = if is_open && is_value then core_in node else 
 abbrev pub predicates : c.Unit → Program → Criterion → ℕ → Option c.Expression → List c.Expression
 predicates unit program criterion k None = []
 predicates unit program criterion k (Some e) = if is_pure (erased e) then map (inequality (erased e)) (mutants unit program criterion k e (erased e)) else []
-
--- These are the predicates of the objectives at a node, all of which stand in front of it.
-abbrev pub ArePredicates : c.Unit → Program → Criterion → ℕ → Node → List Expr → Type 0
-ArePredicates unit program criterion k node list =
-    all_at k in_front criterion (map expression_of list) ≡ at_node unit program criterion (record { number = k; node = node })

@@ -8,7 +8,8 @@ ghost use Rattle.lt_objectives.specs.Decisions.{inequality};
 ghost use Rattle.lt_objectives.specs.Objectives.{mutants};
 ghost use Rattle.lt_predicates.specs.Expressions.{Makes};
 ghost use Rattle.lt_survey.specs.Survey.{IsSurvey};
-ghost use Rattle.lt_mut.specs.Candidates.{predicates, ArePredicates};
+ghost use Rattle.lt_survey.specs.Rounds.{ArePredicates};
+ghost use Rattle.lt_mut.specs.Candidates.{predicates};
 ghost use Rattle.lt_mut.specs.Mutations.{criterion_of};
 
 use crate::candidate::candidate;

@@ -3,7 +3,7 @@ use Rattle.std.proofs.Common.{◌≡◌, ℕ, ◌+◌, List, [], ◌∷◌, leng
 use Rattle.std.specs.List.{flat_map}
 use Rattle.lt_tree.specs.Tree as t
 use Rattle.lt_tree.specs.Nodes.{in_expression, in_specifiers, in_declarator, in_initialiser, in_init_declarator, in_declaration, in_mark, in_start, in_optional, in_label, in_statement, in_external}
-use Rattle.lt_objectives.specs.Marked.{optional_with_marks, initialiser_with_marks, initialisers_with_marks, start_with_marks, declarators_with_marks, declaration_with_marks, for_start_with_marks, statement_with_marks, items_with_marks, cases_with_marks, labels_before, after_leading, external_with_marks, externals_with_marks, unit_with_marks}
+use Rattle.lt_objectives.specs.Marked.{optional_with_marks, initialiser_with_marks, initialisers_with_marks, start_with_marks, declarators_with_marks, declaration_with_marks, for_start_with_marks, statement_with_marks, items_with_marks, cases_with_marks, after_leading, external_with_marks, externals_with_marks, unit_with_marks}
 use Rattle.lt_placing.proofs.Nothing.{nothing_within}
 
 both : {A B C : Type 0} (f : A → B → C) {x y : A} {v w : B} → x ≡ y → v ≡ w → f x v ≡ f y w

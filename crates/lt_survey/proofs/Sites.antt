@@ -1,5 +1,5 @@
 -- Lists with an element for each node of a unit.
-use Rattle.std.proofs.Common.{◌≡◌, ℕ, zero, suc, ◌+◌, ◌<◌, ◌≤◌, List, [], ◌∷◌, ◌++◌, length, map, take, drop, get_or, Option, Some, None, refl, sym, ap, subst, ◌∙◌, add_assoc, zero-add, arith}
+use Rattle.std.proofs.Common.{◌≡◌, ℕ, zero, suc, ◌+◌, ◌<◌, ◌≤◌, List, [], ◌∷◌, ◌++◌, length, take, get_or, Option, Some, None, refl, sym, ap, subst, ◌∙◌, zero-add, arith}
 use Rattle.std.specs.Prelude.{option_map, slice_get}
 use Rattle.std.specs.List.{flat_map}
 use Rattle.std.proofs.lemmas.List.{append-nil, length-map, take_all, take_more}
@@ -10,6 +10,7 @@ use Rattle.lt_tree.specs.Nodes.{Node, nodes}
 use Rattle.lt_objectives.specs.Places.{Site, sites, sites_from}
 use Rattle.lt_sites.specs.declared.site.Site.{Site as Held}
 use Rattle.lt_sites.specs.Sites.{Sized, AreSitesOf, node_of, entry_of, part_of}
+use Rattle.lt_places.proofs.Numbered as Numbered
 use Rattle.lt_survey.specs.Survey.{by_number}
 use Rattle.lt_survey.specs.Rounds.{site}
 
@@ -54,6 +55,21 @@ pub node_at : (unit : c.Unit) (list : List Held) (k : ℕ) (it : Held) → AreSi
 node_at unit list k it are is =
     same_part (slice_get (nodes unit) k) it
     (sym (slice_get-map part_of (nodes unit) k) ∙ sym (ap (λ l. slice_get l k) are) ∙ slice_get-map entry_of list k ∙ ap (option_map entry_of) is)
+
+found_part : (found : Option Held) (node : Node) → option_map entry_of found ≡ Some (part_of node) → option_map (λ (it : Held). node_of it.node) found ≡ Some node
+found_part None node is = absurd cc
+found_part (Some it) node is = let same : entry_of it ≡ part_of node = cc in ap (λ (part : Sized). Some part.node) same
+
+-- the node of a number, as it lies in memory
+pub node_there : (unit : c.Unit) (list : List Held) (k : ℕ) (node : Node) → AreSitesOf list unit → slice_get (nodes unit) k ≡ Some node
+    → option_map (λ (it : Held). node_of it.node) (slice_get list k) ≡ Some node
+node_there unit list k node are is =
+    found_part (slice_get list k) node
+    (sym (slice_get-map entry_of list k) ∙ ap (λ l. slice_get l k) are ∙ slice_get-map part_of (nodes unit) k ∙ ap (option_map part_of) is)
+
+-- there is a node
+pub node_before : (unit : c.Unit) (list : List Held) (k : ℕ) → AreSitesOf list unit → k < length list → (node : Node) × (slice_get (nodes unit) k ≡ Some node)
+node_before unit list k are within = Numbered.node_at (nodes unit) k (subst (λ n. k < n) (Numbered.long unit list are) within)
 
 -- ---- of the nodes before a number
 

@@ -1,13 +1,15 @@
 -- How the marks of criteria come to be: node by node, and criterion by criterion.
-use Rattle.std.specs.Prelude.{◌≡◌, ◌≤◌, ℕ, ◌+◌, List, take}
+use Rattle.std.specs.Prelude.{◌≡◌, ◌≤◌, ℕ, ◌+◌, List, map, take}
 use Rattle.std.specs.List.{flat_map}
+use Rattle.lt_tree.specs.declared.expression.Expr.{Expr}
 use Rattle.lt_tree.specs.Tree as c
+use Rattle.lt_tree.specs.View.{expression_of}
 use Rattle.lt_tree.specs.UnitView.{unit_of}
 use Rattle.lt_tree.specs.Typing.Programs.{Program}
 use Rattle.lt_objectives.specs.declared.criteria.Criterion.{Criterion}
 use Rattle.lt_tree.specs.Nodes.{Node}
 use Rattle.lt_objectives.specs.Places.{Site, sites}
-use Rattle.lt_objectives.specs.Objectives.{at_node}
+use Rattle.lt_objectives.specs.Objectives.{all_at, in_front, at_node}
 use Rattle.lt_objectives.specs.Marked.{marked_by}
 use Rattle.lt_numbering.specs.declared.new_marks.NewMarks.{NewMarks}
 use Rattle.lt_numbering.specs.Numbering.{Number, most_id}
@@ -16,6 +18,10 @@ use Rattle.lt_survey.specs.Marking.{next_behind, IdsPass}
 
 abbrev pub site : ℕ → Node → Site
 site k node = record { number = k; node = node }
+
+-- These are the predicates of the objectives at a node, all of which stand in front of it.
+abbrev pub ArePredicates : c.Unit → Program → Criterion → ℕ → Node → List Expr → Type 0
+ArePredicates unit program criterion k node list = all_at k in_front criterion (map expression_of list) ≡ at_node unit program criterion (site k node)
 
 -- These are the marks of a criterion at the nodes before a number.
 abbrev pub NumberBefore : NewMarks → c.Unit → Program → Criterion → (id k : ℕ) → Type 0

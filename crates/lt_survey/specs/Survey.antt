@@ -2,7 +2,7 @@
 use Rattle.std.specs.Prelude.{◌≡◌, ℕ, List, map}
 use Rattle.lt_tree.specs.Tree as c
 use Rattle.lt_tree.specs.Typing.Programs.{Program}
-use Rattle.lt_objectives.specs.Places.{Site, sites, is_open, is_value_position}
+use Rattle.lt_objectives.specs.Places.{sites, is_open, is_value_position}
 use Rattle.lt_objectives.specs.Decisions.{decisions, clauses}
 use Rattle.lt_objectives.specs.Objectives.{decided_at}
 use Rattle.lt_sites.specs.Sites.{AreSitesOf}

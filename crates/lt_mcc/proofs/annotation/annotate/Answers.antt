@@ -4,10 +4,9 @@ use Rattle.lt_tree.specs.UnitView.{unit_of}
 use Rattle.lt_tree.specs.Typing.ProgramView.{program_of}
 use Rattle.lt_survey.specs.Marking.{chosen}
 use Rattle.lt_survey.specs.Rounds.{Leads}
-use Rattle.lt_survey.proofs.Rounds.{leads_at_first}
+use Rattle.lt_survey.proofs.Rounds.{leads_at_first, answered, leads_past, leads_through, leads_out, leads_to_end}
 use Rattle.lt_mcc.specs.declared.combination.TheConstants.{COMBINATIONS}
 use Rattle.lt_mcc.specs.Combinations.{criteria, criterion_of}
-use Rattle.lt_mcc.proofs.Choices.{answered, leads_past, leads_through, leads_out, leads_to_end}
 use Rattle.lt_mcc.proofs.annotation.annotate.Goals as goal
 use Rattle.lt_mcc.proofs.annotation.annotate.Goals.{then-contains+in_ok-made-2, else-contains}
 
@@ -23,7 +22,7 @@ returns-in_err-made-2-clause-ids c =
     let p = err_from_is_err_and c.from_residual-in_err-made-2.result c.from_residual-in_err-made-2.ensures.1 in
     let within : c.combinations.combination-index < length COMBINATIONS = omega (arith, c.combinations-test.true) in
     rw (p.1, p.2) (λ ids.
-    leads_out COMBINATIONS c.combinations.combination-index _ c.args.which.0 (chosen criteria c.args.which.0) (unit_of c.args.unit.now) (program_of c.args.program.now) c.args.first within c.combinations.made
+    leads_out criterion_of COMBINATIONS c.combinations.combination-index _ c.args.which.0 (chosen criteria c.args.which.0) (unit_of c.args.unit.now) (program_of c.args.program.now) c.args.first c.combinations.made within
     (answered c.args.which.0 c.alone.result.0 c.criterion.result _ c.contains.result c.alone.ensures c.criterion.ensures (c.contains.ensures tt) ∙ c.if-contains.true)
     c.combinations.invariant (c.in_err-made-2.ensures.ids ids))
 
@@ -39,13 +38,13 @@ combinations-preserved c =
     elim c.if-contains.branch [
       | then-contains+in_ok-made-2 w ↦
           subst (Leads (chosen (map criterion_of (drop (i + 1) COMBINATIONS)) set) whole unit program c.args.first) (sym w.made-is)
-          (leads_through COMBINATIONS i _ set whole unit program c.args.first within c.combinations.made w.in_ok-made-2.made (answer ∙ w.if-contains.true) c.combinations.invariant w.in_ok-made-2.ensures.marked w.in_ok-made-2.ensures.within)
+          (leads_through criterion_of COMBINATIONS i _ set whole unit program c.args.first c.combinations.made w.in_ok-made-2.made within (answer ∙ w.if-contains.true) c.combinations.invariant w.in_ok-made-2.ensures.marked w.in_ok-made-2.ensures.within)
       | else-contains w ↦
           subst (Leads (chosen (map criterion_of (drop (i + 1) COMBINATIONS)) set) whole unit program c.args.first) (sym w.made-is)
-          (leads_past COMBINATIONS i _ set whole unit program c.args.first within c.combinations.made (answer ∙ w.if-contains.false) c.combinations.invariant)
+          (leads_past criterion_of COMBINATIONS i _ set whole unit program c.args.first c.combinations.made within (answer ∙ w.if-contains.false) c.combinations.invariant)
     ]
 
 pub returns-clause-marked : goal.returns-clause-marked
 returns-clause-marked c =
     let past : length COMBINATIONS ≤ c.combinations.combination-index = omega (arith, c.combinations-test.false) in
-    leads_to_end COMBINATIONS c.combinations.combination-index c.args.which.0 (chosen criteria c.args.which.0) (unit_of c.args.unit.now) (program_of c.args.program.now) c.args.first c.combinations.made past c.combinations.invariant
+    leads_to_end criterion_of COMBINATIONS c.combinations.combination-index c.args.which.0 (chosen criteria c.args.which.0) (unit_of c.args.unit.now) (program_of c.args.program.now) c.args.first c.combinations.made past c.combinations.invariant

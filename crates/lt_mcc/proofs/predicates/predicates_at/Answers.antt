@@ -2,7 +2,7 @@ use Rattle.std.proofs.Common.{◌≡◌, ap, ◌∙◌, map, Some, None}
 use Rattle.std.proofs.lemmas.Result.{IfOk-weaker}
 use Rattle.lt_tree.specs.View.{expression_of}
 use Rattle.lt_tree.specs.Erasure.{erased}
-use Rattle.lt_mcc.specs.Candidates.{ArePredicates}
+use Rattle.lt_survey.specs.Rounds.{ArePredicates}
 use Rattle.lt_mcc.specs.Combinations.{combined, criterion_of}
 use Rattle.lt_mcc.proofs.Shown.{found_there, are_predicates}
 use Rattle.lt_mcc.proofs.predicates.predicates_at.Goals as goal

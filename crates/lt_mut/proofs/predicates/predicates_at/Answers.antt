@@ -2,7 +2,8 @@ use Rattle.std.proofs.Common.{◌≡◌, ap, ◌∙◌, map, Some, None}
 use Rattle.std.proofs.lemmas.Result.{IfOk-weaker}
 use Rattle.lt_tree.specs.View.{expression_of}
 use Rattle.lt_objectives.specs.Places.{is_open, is_value_position}
-use Rattle.lt_mut.specs.Candidates.{predicates, ArePredicates}
+use Rattle.lt_survey.specs.Rounds.{ArePredicates}
+use Rattle.lt_mut.specs.Candidates.{predicates}
 use Rattle.lt_mut.specs.Mutations.{criterion_of}
 use Rattle.lt_mut.proofs.Shown.{found_there, are_predicates, candidate_stands}
 use Rattle.lt_mut.proofs.predicates.predicates_at.Goals as goal
