@@ -14,22 +14,18 @@ use Rattle.lt_sites.specs.declared.site.Site.{Site as Held}
 use Rattle.lt_sites.specs.Sites.{part_of, entry_of, AreSitesOf}
 use Rattle.lt_decisions.specs.declared.turn.Tests.{Tests}
 use Rattle.lt_decisions.specs.declared.turn.Tests.TheVariants as tests
-use Rattle.lt_decisions.specs.Walk.{IsTest, tests_of, tests_in, noted_all}
+use Rattle.lt_decisions.specs.Walk.{IsTest, tests_of, tests_at, tests_in, noted_all}
 use Rattle.lt_decisions.proofs.Noted.{noted_both, noted_is, length-sites_from}
-
-abbrev pub tests_at : Tests → Site → List Test
-tests_at tests.Decisions site = map (λ it. decision_of None it.number it.expression) (controlling site.number site.node)
-tests_at tests.Clauses site = flat_map (λ it. clauses_of None it.number it.expression) (controlling site.number site.node)
 
 pub all_tests : (what : Tests) (unit : c.Unit) → tests_in what unit ≡ flat_map (tests_at what) (sites unit)
 all_tests tests.Decisions unit = refl
 all_tests tests.Clauses unit = refl
 
-no_test : (what : Tests) (k : ℕ) (node : Node) → controlling k node ≡ [] → tests_at what (record { number = k; node = node }) ≡ []
+pub no_test : (what : Tests) (k : ℕ) (node : Node) → controlling k node ≡ [] → tests_at what (record { number = k; node = node }) ≡ []
 no_test tests.Decisions k node e = ap (map (λ it. decision_of None it.number it.expression)) e
 no_test tests.Clauses k node e = ap (flat_map (λ it. clauses_of None it.number it.expression)) e
 
-one_test : (what : Tests) (k : ℕ) (node : Node) (first : ℕ) (e : c.Expression) → controlling k node ≡ part first e ∷ [] →
+pub one_test : (what : Tests) (k : ℕ) (node : Node) (first : ℕ) (e : c.Expression) → controlling k node ≡ part first e ∷ [] →
     tests_at what (record { number = k; node = node }) ≡ tests_of what None first e
 one_test tests.Decisions k node first e is = ap (map (λ it. decision_of None it.number it.expression)) is
 one_test tests.Clauses k node first e is = ap (flat_map (λ it. clauses_of None it.number it.expression)) is ∙ append-nil (clauses_of None first e)

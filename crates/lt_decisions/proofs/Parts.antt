@@ -30,26 +30,26 @@ mutual
   expression (c.Decide e when_true when_false tag) = whole refl (expression e)
   expression (c.After e id tag) = whole refl (expression e)
 
-  expressions : (es : c.Expressions) → Closed (in_expressions es)
+  pub expressions : (es : c.Expressions) → Closed (in_expressions es)
   expressions c.no_expressions = nothing
   expressions (c.an_expression e es) = both (expression e) (expressions es)
 
-  maybe : (e : c.Maybe) → Closed (in_maybe e)
+  pub maybe : (e : c.Maybe) → Closed (in_maybe e)
   maybe c.absent = nothing
   maybe (c.present e) = expression e
 
-  marks : (ms : c.Marks) → Closed (in_marks ms)
+  pub marks : (ms : c.Marks) → Closed (in_marks ms)
   marks c.no_marks = nothing
   marks (c.a_mark m ms) = both (mark m) (marks ms)
 
-  mark : (m : c.Mark) → Closed (in_mark m)
+  pub mark : (m : c.Mark) → Closed (in_mark m)
   mark (c.mark e id tag bound) = whole refl (both (expression e) (bindings bound))
 
-  bindings : (bs : c.Bindings) → Closed (in_bindings bs)
+  pub bindings : (bs : c.Bindings) → Closed (in_bindings bs)
   bindings c.no_bindings = nothing
   bindings (c.a_binding w e bs) = both (expression e) (bindings bs)
 
-  specifiers : (s : c.Specifiers) → Closed (in_specifiers s)
+  pub specifiers : (s : c.Specifiers) → Closed (in_specifiers s)
   specifiers (c.specifiers words types) = type_words types
 
   type_words : (types : c.TypeSpecifiers) → Closed (in_types types)
@@ -73,7 +73,7 @@ mutual
   enumerators c.no_enumerators = nothing
   enumerators (c.an_enumerator w value es) = both (whole refl (maybe value)) (enumerators es)
 
-  declarator : (d : c.Declarator) → Closed (in_declarator d)
+  pub declarator : (d : c.Declarator) → Closed (in_declarator d)
   declarator (c.declarator None c.no_parts) = nothing
   declarator (c.declarator None (c.Pointer q list)) = whole refl (parts (c.Pointer q list))
   declarator (c.declarator None (c.Array length list)) = whole refl (parts (c.Array length list))
@@ -97,39 +97,39 @@ mutual
   parameter_list (c.a_parameter s d ps) = both (both (specifiers s) (declarator d)) (parameter_list ps)
 
 mutual
-  initialiser : (i : c.Initialiser) → Closed (in_initialiser i)
+  pub initialiser : (i : c.Initialiser) → Closed (in_initialiser i)
   initialiser (c.Value e) = whole refl (expression e)
   initialiser (c.Braces list) = whole refl (initialisers list)
 
-  initialisers : (list : c.Initialisers) → Closed (in_initialisers list)
+  pub initialisers : (list : c.Initialisers) → Closed (in_initialisers list)
   initialisers c.no_initialisers = nothing
   initialisers (c.an_initialiser i list) = both (initialiser i) (initialisers list)
 
-optional_initialiser : (i : Option c.Initialiser) → Closed (in_optional_initialiser i)
+pub optional_initialiser : (i : Option c.Initialiser) → Closed (in_optional_initialiser i)
 optional_initialiser None = nothing
 optional_initialiser (Some i) = initialiser i
 
-init_declarator : (d : c.InitDeclarator) → Closed (in_init_declarator d)
+pub init_declarator : (d : c.InitDeclarator) → Closed (in_init_declarator d)
 init_declarator d = both (declarator d.declarator) (optional_initialiser d.initialiser)
 
-declaration : (d : c.Declaration) → Closed (in_declaration d)
+pub declaration : (d : c.Declaration) → Closed (in_declaration d)
 declaration d = both (specifiers d.specifiers) (each in_init_declarator init_declarator d.declarators)
 
-optional : (e : Option c.Expression) → Closed (in_optional e)
+pub optional : (e : Option c.Expression) → Closed (in_optional e)
 optional None = nothing
 optional (Some e) = expression e
 
-start : (s : c.ForStart) → Closed (in_start s)
+pub start : (s : c.ForStart) → Closed (in_start s)
 start c.Nothing = nothing
 start (c.First e) = expression e
 start (c.Declares d) = declaration d
 
-label : (l : c.Label) → Closed (in_label l)
+pub label : (l : c.Label) → Closed (in_label l)
 label (c.Case e) = whole refl (expression e)
 label c.Default = whole refl nothing
 
 mutual
-  statement : (x : c.Statement) → Closed (in_statement x)
+  pub statement : (x : c.Statement) → Closed (in_statement x)
   statement (c.Compound list) = whole refl (items list)
   statement (c.Evaluates e) = whole refl (expression e)
   statement c.Null = whole refl nothing
@@ -143,17 +143,17 @@ mutual
   statement c.Continue = whole refl nothing
   statement (c.Return e) = whole refl (optional e)
 
-  items : (list : c.Items) → Closed (in_items list)
+  pub items : (list : c.Items) → Closed (in_items list)
   items c.no_items = nothing
   items (c.a_declaration d list) = both (whole refl (declaration d)) (items list)
   items (c.a_statement x list) = both (whole refl (statement x)) (items list)
   items (c.a_label m list) = both (whole refl (mark m)) (items list)
 
-  cases : (list : c.Cases) → Closed (in_cases list)
+  pub cases : (list : c.Cases) → Closed (in_cases list)
   cases c.no_cases = nothing
   cases (c.a_case labels x list) = both (both (each in_label label labels) (statement x)) (cases list)
 
-external : (x : c.External) → Closed (in_external x)
+pub external : (x : c.External) → Closed (in_external x)
 external (c.Defines s d body) = whole refl (both (both (specifiers s) (declarator d)) (items body))
 external (c.Declared d) = whole refl (declaration d)
 

@@ -64,16 +64,16 @@ test list what k after behind last found whole e es stand ends behind_is is lead
     }
 
 -- the marks around an expression add nothing
-in_marked : (what : Tests) (after : Option ℕ) (k : ℕ) (ms : c.Marks) (e : c.Expression) → tests_of what after (k + 1 + length (in_marks ms)) e ≡ tests_of what after k (c.Marked ms e)
+pub in_marked : (what : Tests) (after : Option ℕ) (k : ℕ) (ms : c.Marks) (e : c.Expression) → tests_of what after (k + 1 + length (in_marks ms)) e ≡ tests_of what after k (c.Marked ms e)
 in_marked tests.Decisions after k ms e = refl
 in_marked tests.Clauses after k ms e = refl
 
-in_decide : (what : Tests) (after : Option ℕ) (k : ℕ) (e : c.Expression) (when_true when_false tag : List ℕ) →
+pub in_decide : (what : Tests) (after : Option ℕ) (k : ℕ) (e : c.Expression) (when_true when_false tag : List ℕ) →
     tests_of what after (k + 1) e ≡ tests_of what after k (c.Decide e when_true when_false tag)
 in_decide tests.Decisions after k e when_true when_false tag = refl
 in_decide tests.Clauses after k e when_true when_false tag = refl
 
-inside_after : (what : Tests) (after : Option ℕ) (k : ℕ) (e : c.Expression) (id tag : List ℕ) → tests_of what (in_after after k) (k + 1) e ≡ tests_of what after k (c.After e id tag)
+pub inside_after : (what : Tests) (after : Option ℕ) (k : ℕ) (e : c.Expression) (id tag : List ℕ) → tests_of what (in_after after k) (k + 1) e ≡ tests_of what after k (c.After e id tag)
 inside_after tests.Decisions after k e id tag = refl
 inside_after tests.Clauses after k e id tag = refl
 

@@ -3,7 +3,7 @@ use Rattle.std.specs.Prelude.{◌≡◌, ℕ, ◌+◌, List, [], ◌∷◌, ◌+
 use Rattle.std.specs.List.{flat_map}
 use Rattle.lt_tree.specs.Tree as c
 use Rattle.lt_tree.specs.Nodes.{Node, in_expression, in_marks}
-use Rattle.lt_objectives.specs.Places.{part}
+use Rattle.lt_objectives.specs.Places.{Site as Numbered, part}
 use Rattle.lt_objectives.specs.Decisions.{Test, controlling, decision_of, clauses_of, decisions, clauses}
 use Rattle.lt_sites.specs.declared.site.Site.{Site}
 use Rattle.lt_sites.specs.Sites.{Sized, part_of, entry_of}
@@ -22,6 +22,11 @@ tests_of tests.Clauses after k e = clauses_of after k e
 abbrev pub tests_from : Tests → Option ℕ → ℕ → List c.Expression → List Test
 tests_from what after k [] = []
 tests_from what after k (e ∷ es) = tests_of what after k e ++ tests_from what None (k + length (in_expression e)) es
+
+-- those of the controlling expression of a node
+abbrev pub tests_at : Tests → Numbered → List Test
+tests_at tests.Decisions site = map (λ it. decision_of None it.number it.expression) (controlling site.number site.node)
+tests_at tests.Clauses site = flat_map (λ it. clauses_of None it.number it.expression) (controlling site.number site.node)
 
 abbrev pub tests_in : Tests → c.Unit → List Test
 tests_in tests.Decisions unit = decisions unit
