@@ -1,0 +1,10 @@
+pub mod Among
+pub mod Numbers
+pub mod Runs
+pub mod Roles
+pub mod Expressions
+pub mod Statements
+pub mod Going
+pub mod NotOpen
+pub mod Found
+pub mod Standing

@@ -1,0 +1,24 @@
+//! Laws of the definitions; the functions do nothing.
+
+ghost use Rattle.lt_objective_places.specs.Laws.{NoneStandsWhereNoLabelDoes, ObjectivesStandWhereTheyMay, PiecesStand, SomeAreClosed};
+
+/// All pieces of a unit stand in it, from the whole unit on.
+pub fn pieces_stand()
+    ensures { PiecesStand }
+{}
+
+/// An objective at the number of an expression stands there as the expression's role allows, and one at that of a
+/// function at the start of its body.
+pub fn objectives_stand_where_they_may()
+    ensures { ObjectivesStandWhereTheyMay }
+{}
+
+/// No label stands in constants and in declarations of objects that are there from the start.
+pub fn some_are_closed()
+    ensures { SomeAreClosed }
+{}
+
+/// No objective stands where no label does.
+pub fn none_stands_where_no_label_does()
+    ensures { NoneStandsWhereNoLabelDoes }
+{}

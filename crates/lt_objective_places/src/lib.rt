@@ -1,0 +1,9 @@
+// Where the pieces of a unit stand, and which objectives stand there: `specs/Stands.antt` says what is known of a place, `specs/Pieces.antt` goes from parent
+// to child, `specs/Laws.antt` has the laws.
+#![tactic(auto)]
+
+mod laws;
+
+pub use laws::{
+    none_stands_where_no_label_does, objectives_stand_where_they_may, pieces_stand, some_are_closed,
+};
