@@ -76,7 +76,7 @@ of_all place form criterion list o h =
     (ap (λ (x : Objective). x.place) (sym it.2), ap (λ (x : Objective). x.form) (sym it.2))
 
 -- an objective at a test at number k: in front of it, or around what is decided
-data AtTest (k : ℕ) (decision clause : Option ℕ) (o : Objective) : Type 0 where
+pub data AtTest (k : ℕ) (decision clause : Option ℕ) (o : Objective) : Type 0 where
   in_front_of_test : (d : ℕ) → (decision ≡ Some d) ⊎ (clause ≡ Some d) → o.place ≡ k → o.form ≡ in_front → AtTest k decision clause o
   around_test : (decision ≡ Some o.place) ⊎ (clause ≡ Some o.place) → o.form ≡ around → AtTest k decision clause o
 
@@ -95,7 +95,7 @@ of_combinations criterion k d predicates e decision clause o is h =
     let it = of_all k in_front criterion (predicates e) o some.1 in
     in_front_of_test d is it.0 it.1
 
-of_test : (criterion : Criterion) (decision clause : Option ℕ) (k : ℕ) (e : c.Expression) (o : Objective) → IsAmong o (at_test criterion decision clause k e) → AtTest k decision clause o
+pub of_test : (criterion : Criterion) (decision clause : Option ℕ) (k : ℕ) (e : c.Expression) (o : Objective) → IsAmong o (at_test criterion decision clause k e) → AtTest k decision clause o
 of_test C.Decision (Some d) clause k e o h = of_truths C.Decision k d e (Some d) clause o (is_pure e) (inl refl) h
 of_test C.Condition decision (Some d) k e o h = of_truths C.Condition k d e decision (Some d) o (is_pure e) (inr refl) h
 of_test C.MultipleCondition (Some d) clause k e o h = of_combinations C.MultipleCondition k d (λ d. conjunctions (clause_list d)) e (Some d) clause o (inl refl) h
@@ -115,7 +115,7 @@ pub data IsFound (unit : c.Unit) (program : Program) (criterion : Criterion) (o 
       → IsAmong o (at_expression unit program criterion k e) → IsFound unit program criterion o
 
 -- a test of either kind
-test_of_either : (unit : c.Unit) (k d : ℕ) → (decided_at (decisions unit) k ≡ Some d) ⊎ (decided_at (clauses unit) k ≡ Some d)
+pub test_of_either : (unit : c.Unit) (k d : ℕ) → (decided_at (decisions unit) k ≡ Some d) ⊎ (decided_at (clauses unit) k ≡ Some d)
     → (what : Tests) × (it : Test) × IsAmong it (tests_in what unit) × (it.core.number ≡ k) × (it.decided ≡ d)
 test_of_either unit k d (inl is) = let it = decided_by (decisions unit) k d is in (tests.Decisions, it.0, it.1, it.2, it.3)
 test_of_either unit k d (inr is) = let it = decided_by (clauses unit) k d is in (tests.Clauses, it.0, it.1, it.2, it.3)
@@ -162,3 +162,38 @@ found_node unit program criterion o k x among h = absurd h
 pub found : (unit : c.Unit) (program : Program) (criterion : Criterion) (o : Objective) → IsAmong o (objectives unit program criterion) → IsFound unit program criterion o
 found unit program criterion o h =
     let it = given_by (at_node unit program criterion) o (sites unit) h in found_node unit program criterion o (it.0).number (it.0).node it.1 it.2
+
+-- ---- places of the objectives of one node
+
+-- what an expression has is at a test, or in front of a value
+of_expression : (unit : c.Unit) (program : Program) (criterion : Criterion) (o : Objective) (k : ℕ) (e : c.Expression) → IsAmong o (at_expression unit program criterion k e)
+    → AtTest k (decided_at (decisions unit) k) (decided_at (clauses unit) k) o ⊎ ((o.place ≡ k) × (o.form ≡ in_front))
+of_expression unit program criterion o k e h =
+    let test = at_test criterion (decided_at (decisions unit) k) (decided_at (clauses unit) k) k (erased e) in
+    let some = when (is_core e && is_open unit program k) o (test ++ differences unit program criterion k e) h in
+    elim (in_either o test (differences unit program criterion k e) some.1) [
+      | inl i ↦ inl (of_test criterion (decided_at (decisions unit) k) (decided_at (clauses unit) k) k (erased e) o i)
+      | inr i ↦ inr (of_all k in_front criterion _ o (when (is_pure (erased e) && is_value_position unit k) o _ i).1)
+    ]
+
+pub in_front_place : (unit : c.Unit) (program : Program) (criterion : Criterion) (o : Objective) (k : ℕ) (x : Node) → IsAmong o (at_node unit program criterion (record { number = k; node = x })) → o.form ≡ in_front
+    → o.place ≡ k
+in_front_place unit program criterion o k (an_external (c.Defines type d body)) h form = (of_all k at_start criterion (at_body unit program criterion k) o h).0
+in_front_place unit program criterion o k (an_expression e) h form =
+    elim (of_expression unit program criterion o k e h) [ inl t ↦ by_test t form | inr v ↦ v.0 ]
+  where
+    by_test : {decision clause : Option ℕ} → AtTest k decision clause o → o.form ≡ in_front → o.place ≡ k
+    by_test (in_front_of_test d is place f) form = place
+    by_test (around_test is f) form = absurd cc
+in_front_place unit program criterion o k x h form = absurd h
+
+pub around_decided : (unit : c.Unit) (program : Program) (criterion : Criterion) (o : Objective) (k : ℕ) (x : Node) → IsAmong o (at_node unit program criterion (record { number = k; node = x })) → o.form ≡ around
+    → (decided_at (decisions unit) k ≡ Some o.place) ⊎ (decided_at (clauses unit) k ≡ Some o.place)
+around_decided unit program criterion o k (an_external (c.Defines type d body)) h form = let start = (of_all k at_start criterion (at_body unit program criterion k) o h).1 in absurd cc
+around_decided unit program criterion o k (an_expression e) h form =
+    elim (of_expression unit program criterion o k e h) [ inl t ↦ by_test t form | inr v ↦ let in_front_is = v.1 in absurd cc ]
+  where
+    by_test : {decision clause : Option ℕ} → AtTest k decision clause o → o.form ≡ around → (decision ≡ Some o.place) ⊎ (clause ≡ Some o.place)
+    by_test (in_front_of_test d is place f) form = absurd cc
+    by_test (around_test is f) form = is
+around_decided unit program criterion o k x h form = absurd h

@@ -8,3 +8,7 @@ pub mod Going
 pub mod NotOpen
 pub mod Found
 pub mod Standing
+pub mod MarksAtPlaces
+pub mod Together
+pub mod Unmarked
+pub mod UnmarkedDeclarations

@@ -70,7 +70,7 @@ in_run what k (x ∷ xs) it n begins h about =
 pub within_run : (what : Tests) (k : ℕ) {xs : List Node} (it : Test) (n : ℕ) → Closed xs → IsAmong it (tests_among what k xs) → IsAbout it n → n < k + length xs
 within_run what k {xs} it n closed h about = in_run what k xs it n closed.begins h about
 
-sites_of_both : (k : ℕ) (a b : List Node) → sites_from k (a ++ b) ≡ sites_from k a ++ sites_from (k + length a) b
+pub sites_of_both : (k : ℕ) (a b : List Node) → sites_from k (a ++ b) ≡ sites_from k a ++ sites_from (k + length a) b
 sites_of_both k [] b = ap (λ n. sites_from n b) (zero_more k)
   where
     zero_more : (k : ℕ) → k ≡ k + 0

@@ -7,7 +7,7 @@ use Rattle.lt_tree.specs.Typing.Programs.{Program}
 use Rattle.lt_objectives.specs.declared.criteria.Criterion.{Criterion}
 use Rattle.lt_objectives.specs.Places.{sites, part, core, is_open, is_value_position}
 use Rattle.lt_objectives.specs.Decisions.{Test}
-use Rattle.lt_objectives.specs.Objectives.{at_start, in_front, around, Objective, all_at, at_body, decided_at, is_core, at_expression, objectives}
+use Rattle.lt_objectives.specs.Objectives.{at_start, in_front, around, Objective, all_at, at_body, decided_at, is_core, at_expression, at_node, objectives}
 use Rattle.lt_sites.proofs.Nodes.{expression_node}
 use Rattle.lt_decisions.specs.declared.turn.Tests.{Tests}
 use Rattle.lt_decisions.specs.declared.turn.Tests.TheVariants as tests
@@ -19,7 +19,7 @@ use Rattle.lt_objective_places.specs.Stands.{IsAmong, IsWithin, GoOn, Stand, Are
 use Rattle.lt_objective_places.proofs.Numbers.{is_of, within}
 use Rattle.lt_objective_places.proofs.Runs.{go_on_next, go_on_back, behind_first, within_run}
 use Rattle.lt_objective_places.proofs.Roles.{any_test}
-use Rattle.lt_objective_places.proofs.Found.{same_node, decided_by, IsFound, found_at_start, found_in_front, found_around, found}
+use Rattle.lt_objective_places.proofs.Found.{same_node, decided_by, test_of_either, around_decided, IsFound, found_at_start, found_in_front, found_around, found}
 
 core_is : (k : ℕ) (e : c.Expression) → is_core e ≡ true → core k e ≡ part k e
 core_is k (c.Marked ms e) is = absurd (false≢true is)
@@ -34,7 +34,7 @@ core_is_core k (c.After e id tag) = core_is_core (k + 1) e
 core_is_core k e = refl
 
 -- the core stands in the unit too
-core_there : {unit : c.Unit} (k : ℕ) (e : c.Expression) → GoOn unit k (in_expression e) → GoOn unit (core k e).number (in_expression (core k e).expression)
+pub core_there : {unit : c.Unit} (k : ℕ) (e : c.Expression) → GoOn unit k (in_expression e) → GoOn unit (core k e).number (in_expression (core k e).expression)
 core_there k (c.Marked ms e) s = core_there (k + 1 + length (in_marks ms)) e (go_on_back (in_marks ms) (in_expression e) (go_on_next s))
 core_there k (c.Decide e when_true when_false tag) s = core_there (k + 1) e (go_on_next s)
 core_there k (c.After e id tag) s = core_there (k + 1) e (go_on_next s)
@@ -175,6 +175,17 @@ pub may_stand : (unit : c.Unit) (program : Program) (criterion : Criterion) (rol
 may_stand unit program criterion role k e o s among place =
     subst (λ n. MayStand unit program criterion role n e o o.form) place
     (stands_at program criterion e o (subst (λ n. Stands unit role n e) (sym place) s) (found unit program criterion o among))
+
+-- an objective around an expression is of its core
+pub around_core : {unit : c.Unit} {role : Role} (program : Program) (criterion : Criterion) (k : ℕ) (e : c.Expression) (o : Objective) (n : ℕ) (x : Node) → Stands unit role k e
+    → IsAmong o (at_node unit program criterion (record { number = n; node = x })) → o.form ≡ around → o.place ≡ k → n ≡ (core k e).number
+around_core {unit} {role} program criterion k e o n x s h form place =
+    let t = test_of_either unit n o.place (around_decided unit program criterion o n x h form) in
+    let decided_is : (t.1).decided ≡ k = t.4 ∙ place in
+    elim (s.stand.tests t.0 t.1 k t.2 (inr decided_is) (at_itself k e)) [
+      | inl g ↦ sym t.3 ∙ ap (λ p. p.number) (decided_here role k e t.0 t.1 g decided_is).1
+      | inr i ↦ let later : k < k = behind_first t.0 k (in_expression e) t.1 k i (inr decided_is) in absurd (omega arith)
+    ]
 
 -- ---- at the start of functions
 

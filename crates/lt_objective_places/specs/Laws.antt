@@ -1,12 +1,13 @@
 -- What is known of tests and objectives where the pieces of a unit stand.
-use Rattle.std.specs.Prelude.{◌≡◌, ℕ, ◌+◌, true, length, Option}
+use Rattle.std.specs.Prelude.{◌≡◌, ℕ, ◌+◌, true, List, ◌++◌, length, Option}
 use Rattle.std.specs.List.{list_any}
 use Rattle.lt_tree.specs.Tree as c
 use Rattle.lt_tree.specs.Nodes.{in_expression, in_declaration}
 use Rattle.lt_tree.specs.Typing.Programs.{Program}
 use Rattle.lt_objectives.specs.declared.criteria.Criterion.{Criterion}
-use Rattle.lt_objectives.specs.Places.{is_constant, storage_of, makes_static, makes_static_in_for}
-use Rattle.lt_objectives.specs.Objectives.{at_start, Objective, all_at, at_body, objectives}
+use Rattle.lt_objectives.specs.Places.{core, is_constant, storage_of, makes_static, makes_static_in_for}
+use Rattle.lt_objectives.specs.Objectives.{at_start, in_front, Objective, all_at, at_body, at_expression, objectives}
+use Rattle.lt_objectives.specs.Marked.{numbered, next_id, labels, decided, with_marks, declaration_with_marks}
 use Rattle.lt_objective_places.specs.Stands.{IsAmong, IsWithin, Role, AreClosed, MayStand}
 use Rattle.lt_objective_places.specs.Pieces.{Piece, an_expression, a_declaration, a_statement, items, an_external, externals, at, pieces, IsIn, PieceStands}
 
@@ -44,3 +45,33 @@ NoneStandsWhereNoLabelDoes =
     → ((role : Role) (e : c.Expression) → PieceStands unit k (an_expression role e) → AreClosed unit program k (length (in_expression e)) → IsWithin k (length (in_expression e)) it.place
     → it.form ≡ at_start)
     × ((d : c.Declaration) → PieceStands unit k (a_declaration d) → AreClosed unit program k (length (in_declaration d)) → IsWithin k (length (in_declaration d)) it.place → it.form ≡ at_start)
+
+-- So such an expression or declaration gets no mark.
+abbrev pub NothingIsMarkedThere : Type 0
+NothingIsMarkedThere =
+    (unit : c.Unit) (program : Program) (criterion : Criterion) (k id : ℕ)
+    → ((role : Role) (e : c.Expression) → PieceStands unit k (an_expression role e) → AreClosed unit program k (length (in_expression e))
+    → with_marks (numbered id (objectives unit program criterion)) k e ≡ e)
+    × ((d : c.Declaration) → PieceStands unit k (a_declaration d) → AreClosed unit program k (length (in_declaration d))
+    → declaration_with_marks (numbered id (objectives unit program criterion)) k d ≡ d)
+
+-- The new labels in front of an expression are those of its own objectives, which stand together among all.
+pub record HasLabelsOf (unit : c.Unit) (program : Program) (criterion : Criterion) (k : ℕ) (e : c.Expression) (id : ℕ) : Type 0 where
+  pub before : List Objective
+  pub behind : List Objective
+  pub all : objectives unit program criterion ≡ before ++ (at_expression unit program criterion k e ++ behind)
+  pub marks : labels in_front (numbered id (objectives unit program criterion)) k ≡ labels in_front (numbered (next_id id before) (at_expression unit program criterion k e)) k
+
+-- So are the new `pc_decide`s around it those of its core.
+pub record HasDecidedOf (unit : c.Unit) (program : Program) (criterion : Criterion) (k : ℕ) (e : c.Expression) (id : ℕ) : Type 0 where
+  pub before : List Objective
+  pub behind : List Objective
+  pub all : objectives unit program criterion ≡ before ++ (at_expression unit program criterion (core k e).number (core k e).expression ++ behind)
+  pub marks : (x : c.Expression)
+      → decided (numbered id (objectives unit program criterion)) k x
+      ≡ decided (numbered (next_id id before) (at_expression unit program criterion (core k e).number (core k e).expression)) k x
+
+abbrev pub MarksAreOfOneExpression : Type 0
+MarksAreOfOneExpression =
+    (unit : c.Unit) (program : Program) (criterion : Criterion) (role : Role) (k : ℕ) (e : c.Expression) (id : ℕ) → PieceStands unit k (an_expression role e)
+    → HasLabelsOf unit program criterion k e id × HasDecidedOf unit program criterion k e id

@@ -1,6 +1,6 @@
 //! Laws of the definitions; the functions do nothing.
 
-ghost use Rattle.lt_objective_places.specs.Laws.{NoneStandsWhereNoLabelDoes, ObjectivesStandWhereTheyMay, PiecesStand, SomeAreClosed};
+ghost use Rattle.lt_objective_places.specs.Laws.{MarksAreOfOneExpression, NoneStandsWhereNoLabelDoes, NothingIsMarkedThere, ObjectivesStandWhereTheyMay, PiecesStand, SomeAreClosed};
 
 /// All pieces of a unit stand in it, from the whole unit on.
 pub fn pieces_stand()
@@ -21,4 +21,14 @@ pub fn some_are_closed()
 /// No objective stands where no label does.
 pub fn none_stands_where_no_label_does()
     ensures { NoneStandsWhereNoLabelDoes }
+{}
+
+/// So nothing is marked there.
+pub fn nothing_is_marked_there()
+    ensures { NothingIsMarkedThere }
+{}
+
+/// New marks at an expression are of its own objectives.
+pub fn marks_are_of_one_expression()
+    ensures { MarksAreOfOneExpression }
 {}
