@@ -14,7 +14,7 @@ use Rattle.lt_decisions.proofs.Closed.{both}
 use Rattle.lt_decisions.proofs.Parts as closed
 use Rattle.lt_decisions.proofs.AllTests.{no_test, one_test}
 use Rattle.lt_decisions.proofs.Steps.{in_marked, in_decide, inside_after}
-use Rattle.lt_objective_places.specs.Stands.{IsAmong, IsAbout, Stand, AreUntested, Role, in_test, in_truth, as_value, as_place, IsBefore, tests_as, Stands, behind_after}
+use Rattle.lt_objective_places.specs.Stands.{IsAmong, IsAbout, RunStands, AreUntested, Role, in_test, in_truth, as_value, as_place, IsBefore, tests_as, Stands, behind_after}
 use Rattle.lt_objective_places.specs.Pieces.{role_of}
 use Rattle.lt_objective_places.proofs.Among.{in_either}
 use Rattle.lt_objective_places.proofs.Numbers.{within}
@@ -102,7 +102,7 @@ not_tests role k e what it n h about less = by_tests what (any_test role k (c.Un
     by_tests tests.Clauses (after, before, i) = i
 
 -- a controlling expression, or an operand of one, in the tests that it has
-pub tested : {unit : c.Unit} {m : ℕ} (e : c.Expression) → Stand unit m (in_expression e) (of_test m e) → Stands unit in_test m e
+pub tested : {unit : c.Unit} {m : ℕ} (e : c.Expression) → RunStands unit m (in_expression e) (of_test m e) → Stands unit in_test m e
 tested {unit} {m} e s = record { stand = with_given (tests_as in_test m e) s (λ what it n g about w. (None, tt, g)); place = λ is. absurd cc }
 
 pub negation : {unit : c.Unit} {role : Role} {k : ℕ} {e : c.Expression} → Stands unit role k (c.Unary unary.Not e) → Stands unit in_test (k + 1) e
@@ -133,13 +133,13 @@ connective_tests role k op left right what it n h about less = by_tests what (an
     by_tests tests.Clauses (after, before, i) = in_either it (tests_of tests.Clauses None (k + 1) left) (tests_of tests.Clauses None (k + 1 + length (in_expression left)) right) i
 
 -- of two tests that stand one behind the other, each is about its own numbers
-first_of : {unit : c.Unit} {k j : ℕ} {left right : c.Expression} → k + length (in_expression left) ≤ j → Stand unit k (in_expression left) (either_test k left j right) → Stand unit k (in_expression left) (of_test k left)
+first_of : {unit : c.Unit} {k j : ℕ} {left right : c.Expression} → k + length (in_expression left) ≤ j → RunStands unit k (in_expression left) (either_test k left j right) → RunStands unit k (in_expression left) (of_test k left)
 first_of {unit} {k} {j} {left} {right} apart s =
     with_given (of_test k left) s (λ what it n g about w.
     let high : n < k + length (in_expression left) = w.1 in
     elim g [ inl i ↦ i | inr i ↦ let low : j ≤ n = (within what j right it n i about).0 in absurd (omega arith) ])
 
-second_of : {unit : c.Unit} {k j : ℕ} {left right : c.Expression} → k + length (in_expression left) ≤ j → Stand unit j (in_expression right) (either_test k left j right) → Stand unit j (in_expression right) (of_test j right)
+second_of : {unit : c.Unit} {k j : ℕ} {left right : c.Expression} → k + length (in_expression left) ≤ j → RunStands unit j (in_expression right) (either_test k left j right) → RunStands unit j (in_expression right) (of_test j right)
 second_of {unit} {k} {j} {left} {right} apart s =
     with_given (of_test j right) s (λ what it n g about w.
     let low : j ≤ n = w.0 in
@@ -149,7 +149,7 @@ pub connective : {unit : c.Unit} {role : Role} {k : ℕ} {op : LogicalOp} {left 
     → Stands unit in_test (k + 1) left × Stands unit in_test (k + 1 + length (in_expression left)) right
 connective {unit} {role} {k} {op} {left} {right} s =
     let j = k + 1 + length (in_expression left) in
-    let them : Stand unit (k + 1) (in_expression left ++ in_expression right) (either_test (k + 1) left j right) =
+    let them : RunStands unit (k + 1) (in_expression left ++ in_expression right) (either_test (k + 1) left j right) =
     with_given (either_test (k + 1) left j right) (inside s.stand) (λ what it n g about w.
     let low : k + 1 ≤ n = w.0 in
     elim g [ inl t ↦ connective_tests role k op left right what it n t about (omega arith) | inr i ↦ absurd (subst (IsAmong it) (no_test what k (an_expression (c.Logical op left right)) refl) i) ]) in
@@ -163,7 +163,7 @@ pub conditional : {unit : c.Unit} {role : Role} {k : ℕ} {test left right : c.E
 conditional {unit} {role} {k} {test} {left} {right} s =
     let e = c.Conditional test left right in
     let whole : IsWhole e = record { decision = λ after k. refl; clauses = λ after k. refl } in
-    let them : Stand unit (k + 1) (in_expression test ++ in_expression left ++ in_expression right) (of_test (k + 1) test) =
+    let them : RunStands unit (k + 1) (in_expression test ++ in_expression left ++ in_expression right) (of_test (k + 1) test) =
     with_given (of_test (k + 1) test) (inside s.stand) (λ what it n g about w.
     let low : k + 1 ≤ n = w.0 in
     elim g [ inl t ↦ absurd (not_behind role k e what it n whole t about (omega arith)) | inr i ↦ subst (IsAmong it) (one_test what k (an_expression e) (k + 1) test refl) i ]) in

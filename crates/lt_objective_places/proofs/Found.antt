@@ -176,16 +176,17 @@ of_expression unit program criterion o k e h =
       | inr i ↦ inr (of_all k in_front criterion _ o (when (is_pure (erased e) && is_value_position unit k) o _ i).1)
     ]
 
-pub in_front_place : (unit : c.Unit) (program : Program) (criterion : Criterion) (o : Objective) (k : ℕ) (x : Node) → IsAmong o (at_node unit program criterion (record { number = k; node = x })) → o.form ≡ in_front
-    → o.place ≡ k
-in_front_place unit program criterion o k (an_external (c.Defines type d body)) h form = (of_all k at_start criterion (at_body unit program criterion k) o h).0
-in_front_place unit program criterion o k (an_expression e) h form =
-    elim (of_expression unit program criterion o k e h) [ inl t ↦ by_test t form | inr v ↦ v.0 ]
+-- one that isn't around an expression has the number of the node
+pub own_place : (unit : c.Unit) (program : Program) (criterion : Criterion) (o : Objective) (k : ℕ) (x : Node) → IsAmong o (at_node unit program criterion (record { number = k; node = x }))
+    → (o.form ≡ around → ⊥) → o.place ≡ k
+own_place unit program criterion o k (an_external (c.Defines type d body)) h other = (of_all k at_start criterion (at_body unit program criterion k) o h).0
+own_place unit program criterion o k (an_expression e) h other =
+    elim (of_expression unit program criterion o k e h) [ inl t ↦ by_test t | inr v ↦ v.0 ]
   where
-    by_test : {decision clause : Option ℕ} → AtTest k decision clause o → o.form ≡ in_front → o.place ≡ k
-    by_test (in_front_of_test d is place f) form = place
-    by_test (around_test is f) form = absurd cc
-in_front_place unit program criterion o k x h form = absurd h
+    by_test : {decision clause : Option ℕ} → AtTest k decision clause o → o.place ≡ k
+    by_test (in_front_of_test d is place f) = place
+    by_test (around_test is f) = absurd (other f)
+own_place unit program criterion o k x h other = absurd h
 
 pub around_decided : (unit : c.Unit) (program : Program) (criterion : Criterion) (o : Objective) (k : ℕ) (x : Node) → IsAmong o (at_node unit program criterion (record { number = k; node = x })) → o.form ≡ around
     → (decided_at (decisions unit) k ≡ Some o.place) ⊎ (decided_at (clauses unit) k ≡ Some o.place)

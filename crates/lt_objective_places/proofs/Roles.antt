@@ -11,7 +11,7 @@ use Rattle.lt_decisions.specs.declared.turn.Tests.TheVariants as tests
 use Rattle.lt_decisions.specs.Walk.{tests_of}
 use Rattle.lt_decisions.proofs.Closed.{Closed, both}
 use Rattle.lt_decisions.proofs.AllTests.{no_test}
-use Rattle.lt_objective_places.specs.Stands.{IsAmong, GoOn, IsAbout, Stand, none, AreUntested, Role, in_test, in_truth, as_value, as_place, IsBefore, tests_as, Stands}
+use Rattle.lt_objective_places.specs.Stands.{IsAmong, GoOn, IsAbout, RunStands, none, AreUntested, Role, in_test, in_truth, as_value, as_place, IsBefore, tests_as, Stands}
 use Rattle.lt_objective_places.proofs.Among.{any_of}
 use Rattle.lt_objective_places.proofs.Runs.{with_given, front, back, inside}
 
@@ -76,7 +76,7 @@ not_behind role k e what it n whole h about less =
 pub inside_whole : {unit : c.Unit} {role : Role} {k : ℕ} (e : c.Expression) (xs : List Node) → in_expression e ≡ an_expression e ∷ xs → IsWhole e → controlling k (an_expression e) ≡ [] → Stands unit role k e
     → AreUntested unit (k + 1) xs
 inside_whole {unit} {role} {k} e xs is whole none_is s =
-    let begun : Stand unit k (an_expression e ∷ xs) (tests_as role k e) = subst (λ ys. Stand unit k ys (tests_as role k e)) is s.stand in
+    let begun : RunStands unit k (an_expression e ∷ xs) (tests_as role k e) = subst (λ ys. RunStands unit k ys (tests_as role k e)) is s.stand in
     with_given none (inside begun) (λ what it n g about w.
     let low : k + 1 ≤ n = w.0 in
     elim g [ inl t ↦ not_behind role k e what it n whole t about (omega arith) | inr i ↦ subst (IsAmong it) (no_test what k (an_expression e) none_is) i ])

@@ -12,7 +12,7 @@ use Rattle.lt_decisions.specs.declared.turn.Tests.{Tests}
 use Rattle.lt_decisions.specs.Walk.{tests_of, tests_at, tests_in}
 use Rattle.lt_decisions.proofs.Closed.{EachBegins, Closed}
 use Rattle.lt_decisions.proofs.AllTests.{all_tests, no_test, one_test}
-use Rattle.lt_objective_places.specs.Stands.{IsAmong, IsWithin, GoOn, IsAbout, tests_among, Stand, none, AreUntested}
+use Rattle.lt_objective_places.specs.Stands.{IsAmong, IsWithin, GoOn, IsAbout, tests_among, RunStands, none, AreUntested}
 use Rattle.lt_objective_places.proofs.Among.{in_either}
 use Rattle.lt_objective_places.proofs.Numbers.{IsInside, within}
 
@@ -92,8 +92,8 @@ top unit = record {
 }
 
 -- with others that are given
-pub with_given : {unit : c.Unit} {k : ℕ} {xs : List Node} {given : Tests → Test → Type 0} (other : Tests → Test → Type 0) → Stand unit k xs given
-    → ((what : Tests) (it : Test) (n : ℕ) → given what it → IsAbout it n → IsWithin k (length xs) n → other what it) → Stand unit k xs other
+pub with_given : {unit : c.Unit} {k : ℕ} {xs : List Node} {given : Tests → Test → Type 0} (other : Tests → Test → Type 0) → RunStands unit k xs given
+    → ((what : Tests) (it : Test) (n : ℕ) → given what it → IsAbout it n → IsWithin k (length xs) n → other what it) → RunStands unit k xs other
 with_given other s f = record { there = s.there; tests = λ what it n among about w. elim (s.tests what it n among about w) [ inl g ↦ inl (f what it n g about w) | inr i ↦ inr i ] }
 
 go_on_front : {unit : c.Unit} {k : ℕ} (a b : List Node) → GoOn unit k (a ++ b) → GoOn unit k a
@@ -112,7 +112,7 @@ go_on_back {unit} {k} a b s = record {
 pub go_on_next : {unit : c.Unit} {k : ℕ} {x : Node} {xs : List Node} → GoOn unit k (x ∷ xs) → GoOn unit (k + 1) xs
 go_on_next {unit} {k} {x} {xs} s = go_on_back (x ∷ []) xs s
 
-pub front : {unit : c.Unit} {k : ℕ} {given : Tests → Test → Type 0} (a b : List Node) → Stand unit k (a ++ b) given → Stand unit k a given
+pub front : {unit : c.Unit} {k : ℕ} {given : Tests → Test → Type 0} (a b : List Node) → RunStands unit k (a ++ b) given → RunStands unit k a given
 front {unit} {k} {given} a b s = record { there = go_on_front a b s.there; tests = in_front }
   where
     in_front : (what : Tests) (it : Test) (n : ℕ) → IsAmong it (tests_in what unit) → IsAbout it n → IsWithin k (length a) n → given what it ⊎ IsAmong it (tests_among what k a)
@@ -128,7 +128,7 @@ front {unit} {k} {given} a b s = record { there = go_on_front a b s.there; tests
           ]
         ]
 
-pub back : {unit : c.Unit} {k : ℕ} {given : Tests → Test → Type 0} {a : List Node} (b : List Node) → Closed a → Stand unit k (a ++ b) given → Stand unit (k + length a) b given
+pub back : {unit : c.Unit} {k : ℕ} {given : Tests → Test → Type 0} {a : List Node} (b : List Node) → Closed a → RunStands unit k (a ++ b) given → RunStands unit (k + length a) b given
 back {unit} {k} {given} {a} b closed s = record { there = go_on_back a b s.there; tests = in_back }
   where
     in_back : (what : Tests) (it : Test) (n : ℕ) → IsAmong it (tests_in what unit) → IsAbout it n → IsWithin (k + length a) (length b) n
@@ -150,7 +150,7 @@ back {unit} {k} {given} {a} b closed s = record { there = go_on_back a b s.there
 abbrev pub BehindNode : (Tests → Test → Type 0) → ℕ → Node → Tests → Test → Type 0
 BehindNode given k x what it = given what it ⊎ IsAmong it (tests_at what (record { number = k; node = x }))
 
-pub inside : {unit : c.Unit} {k : ℕ} {x : Node} {xs : List Node} {given : Tests → Test → Type 0} → Stand unit k (x ∷ xs) given → Stand unit (k + 1) xs (BehindNode given k x)
+pub inside : {unit : c.Unit} {k : ℕ} {x : Node} {xs : List Node} {given : Tests → Test → Type 0} → RunStands unit k (x ∷ xs) given → RunStands unit (k + 1) xs (BehindNode given k x)
 inside {unit} {k} {x} {xs} {given} s = record { there = go_on_next s.there; tests = in_it }
   where
     in_it : (what : Tests) (it : Test) (n : ℕ) → IsAmong it (tests_in what unit) → IsAbout it n → IsWithin (k + 1) (length xs) n
@@ -173,19 +173,19 @@ pub uncontrolled : {unit : c.Unit} {k : ℕ} {x : Node} {xs : List Node} → con
 uncontrolled {unit} {k} {x} {xs} none_is s = with_given none (inside s) (λ what it n g about w. elim g [ inl i ↦ i | inr i ↦ subst (IsAmong it) (no_test what k x none_is) i ])
 
 pub controlled : {unit : c.Unit} {k : ℕ} {x : Node} {xs : List Node} {m : ℕ} {e : c.Expression} → controlling k x ≡ part m e ∷ [] → AreUntested unit k (x ∷ xs)
-    → Stand unit (k + 1) xs (of_test m e)
+    → RunStands unit (k + 1) xs (of_test m e)
 controlled {unit} {k} {x} {xs} {m} {e} is s =
     with_given (of_test m e) (inside s) (λ what it n g about w. elim g [ inl i ↦ absurd i | inr i ↦ subst (IsAmong it) (one_test what k x m e is) i ])
 
 -- no test of a controlling expression is about what stands behind it, or before it
-pub behind_test : {unit : c.Unit} {k : ℕ} {xs : List Node} {m : ℕ} {e : c.Expression} → m + length (in_expression e) ≤ k → Stand unit k xs (of_test m e) → AreUntested unit k xs
+pub behind_test : {unit : c.Unit} {k : ℕ} {xs : List Node} {m : ℕ} {e : c.Expression} → m + length (in_expression e) ≤ k → RunStands unit k xs (of_test m e) → AreUntested unit k xs
 behind_test {unit} {k} {xs} {m} {e} apart s =
     with_given none s (λ what it n g about w.
     let high : n < m + length (in_expression e) = (within what m e it n g about).1 in
     let low : k ≤ n = w.0 in
     omega arith)
 
-pub before_test : {unit : c.Unit} {k : ℕ} {xs : List Node} {m : ℕ} {e : c.Expression} → k + length xs ≤ m → Stand unit k xs (of_test m e) → AreUntested unit k xs
+pub before_test : {unit : c.Unit} {k : ℕ} {xs : List Node} {m : ℕ} {e : c.Expression} → k + length xs ≤ m → RunStands unit k xs (of_test m e) → AreUntested unit k xs
 before_test {unit} {k} {xs} {m} {e} apart s =
     with_given none s (λ what it n g about w.
     let low : m ≤ n = (within what m e it n g about).0 in

@@ -15,7 +15,7 @@ use Rattle.lt_decisions.specs.Walk.{tests_of, tests_in}
 use Rattle.lt_decisions.proofs.Closed.{Closed}
 use Rattle.lt_decisions.proofs.Parts as closed
 use Rattle.lt_decisions.proofs.Steps.{in_marked, in_decide}
-use Rattle.lt_objective_places.specs.Stands.{IsAmong, IsWithin, GoOn, Stand, AreUntested, Role, in_test, in_truth, as_value, as_place, tests_as, Stands, AreClosed, CanBeMarked, can_be_decided, MayStand}
+use Rattle.lt_objective_places.specs.Stands.{IsAmong, IsWithin, GoOn, RunStands, AreUntested, Role, in_test, in_truth, as_value, as_place, tests_as, Stands, AreClosed, CanBeMarked, can_be_decided, MayStand}
 use Rattle.lt_objective_places.proofs.Numbers.{is_of, within}
 use Rattle.lt_objective_places.proofs.Runs.{go_on_next, go_on_back, behind_first, within_run}
 use Rattle.lt_objective_places.proofs.Roles.{any_test}
@@ -212,7 +212,7 @@ starts unit program criterion k type d body o s among place =
 -- ---- where no label stands
 
 none_found : {unit : c.Unit} {k : ℕ} {xs : List Node} {given : Tests → Test → Type 0} (program : Program) (criterion : Criterion) (o : Objective) → Closed xs
-    → ((what : Tests) (it : Test) → given what it → IsWithin k (length xs) it.core.number) → Stand unit k xs given → AreClosed unit program k (length xs)
+    → ((what : Tests) (it : Test) → given what it → IsWithin k (length xs) it.core.number) → RunStands unit k xs given → AreClosed unit program k (length xs)
     → IsWithin k (length xs) o.place → IsFound unit program criterion o → o.form ≡ at_start
 none_found program criterion o closed_xs cores s are w (found_at_start type d body form there at_it) = form
 none_found program criterion o closed_xs cores s are w (found_in_front other form there whole opened test_or_value at_it) = absurd (false≢true (sym (are o.place w) ∙ opened))

@@ -5,7 +5,7 @@ use Rattle.lt_tree.specs.Tree as c
 use Rattle.lt_tree.specs.Nodes.{in_expression, in_mark, in_specifiers, in_declarator, in_initialiser, in_initialisers, in_optional_initialiser, in_init_declarator, in_declaration, in_optional, in_start, in_label, in_statement, in_items, in_cases, in_external}
 use Rattle.lt_decisions.proofs.Closed.{both, each}
 use Rattle.lt_decisions.proofs.Parts as closed
-use Rattle.lt_objective_places.specs.Stands.{Stand, AreUntested, in_test, as_value, Stands}
+use Rattle.lt_objective_places.specs.Stands.{RunStands, AreUntested, in_test, as_value, Stands}
 use Rattle.lt_objective_places.proofs.Runs.{front, back, of_test, uncontrolled, controlled, behind_test, before_test}
 use Rattle.lt_objective_places.proofs.Roles.{at_number, value, two, three}
 use Rattle.lt_objective_places.proofs.Expressions.{tested}
@@ -42,14 +42,14 @@ evaluates e s = value e (uncontrolled refl s)
 pub if_alone : {unit : c.Unit} {k : ℕ} (test : c.Expression) (x : c.Statement) → AreUntested unit k (in_statement (c.If test x))
     → Stands unit in_test (k + 1) test × AreUntested unit (k + 1 + length (in_expression test)) (in_statement x)
 if_alone {unit} {k} test x s =
-    let them : Stand unit (k + 1) (in_expression test ++ in_statement x) (of_test (k + 1) test) = controlled refl s in
+    let them : RunStands unit (k + 1) (in_expression test ++ in_statement x) (of_test (k + 1) test) = controlled refl s in
     (tested test (front (in_expression test) (in_statement x) them), behind_test {e = test} (omega arith) (back (in_statement x) (closed.expression test) them))
 
 pub if_else : {unit : c.Unit} {k : ℕ} (test : c.Expression) (x y : c.Statement) → AreUntested unit k (in_statement (c.IfElse test x y))
     → Stands unit in_test (k + 1) test × AreUntested unit (k + 1 + length (in_expression test)) (in_statement x)
     × AreUntested unit (k + 1 + length (in_expression test) + length (in_statement x)) (in_statement y)
 if_else {unit} {k} test x y s =
-    let them : Stand unit (k + 1) (in_expression test ++ in_statement x ++ in_statement y) (of_test (k + 1) test) = controlled refl s in
+    let them : RunStands unit (k + 1) (in_expression test ++ in_statement x ++ in_statement y) (of_test (k + 1) test) = controlled refl s in
     let first = front (in_expression test ++ in_statement x) (in_statement y) them in
     let same : k + 1 + length (in_expression test ++ in_statement x) ≡ k + 1 + length (in_expression test) + length (in_statement x) = omega (arith, length-append (in_expression test) (in_statement x)) in
     let last = behind_test {e = test} (omega (arith, length-append (in_expression test) (in_statement x))) (back (in_statement y) (both (closed.expression test) (closed.statement x)) them) in (
@@ -61,13 +61,13 @@ if_else {unit} {k} test x y s =
 pub while_loop : {unit : c.Unit} {k : ℕ} (test : c.Expression) (x : c.Statement) → AreUntested unit k (in_statement (c.While test x))
     → Stands unit in_test (k + 1) test × AreUntested unit (k + 1 + length (in_expression test)) (in_statement x)
 while_loop {unit} {k} test x s =
-    let them : Stand unit (k + 1) (in_expression test ++ in_statement x) (of_test (k + 1) test) = controlled refl s in
+    let them : RunStands unit (k + 1) (in_expression test ++ in_statement x) (of_test (k + 1) test) = controlled refl s in
     (tested test (front (in_expression test) (in_statement x) them), behind_test {e = test} (omega arith) (back (in_statement x) (closed.expression test) them))
 
 pub do_loop : {unit : c.Unit} {k : ℕ} (x : c.Statement) (test : c.Expression) → AreUntested unit k (in_statement (c.Do x test))
     → AreUntested unit (k + 1) (in_statement x) × Stands unit in_test (k + 1 + length (in_statement x)) test
 do_loop {unit} {k} x test s =
-    let them : Stand unit (k + 1) (in_statement x ++ in_expression test) (of_test (k + 1 + length (in_statement x)) test) = controlled refl s in
+    let them : RunStands unit (k + 1) (in_statement x ++ in_expression test) (of_test (k + 1 + length (in_statement x)) test) = controlled refl s in
     (before_test {e = test} (omega arith) (front (in_statement x) (in_expression test) them), tested test (back (in_expression test) (closed.statement x) them))
 
 -- a controlling expression that may be left out
@@ -90,7 +90,7 @@ for_loop {unit} {k} start (Some test) step x s =
     let head = in_start start ++ in_expression test in
     let size = length-append (in_start start) (in_expression test) in
     let more = length-append head (in_optional step) in
-    let them : Stand unit (k + 1) (head ++ in_optional step ++ in_statement x) (of_test m test) = controlled refl s in
+    let them : RunStands unit (k + 1) (head ++ in_optional step ++ in_statement x) (of_test m test) = controlled refl s in
     let front_part = front (head ++ in_optional step) (in_statement x) them in
     let head_part = front head (in_optional step) front_part in
     let step_part = back (in_optional step) (both (closed.start start) (closed.expression test)) front_part in

@@ -3,18 +3,18 @@ use Rattle.std.proofs.Common.{◌≡◌, inl, inr, refl, sym, ap, ◌∙◌, sub
 use Rattle.std.specs.List.{flat_map}
 use Rattle.std.proofs.lemmas.Grind.{flat_map-append}
 use Rattle.lt_tree.specs.Tree as c
-use Rattle.lt_tree.specs.Nodes.{Node, in_expression, nodes}
+use Rattle.lt_tree.specs.Nodes.{Node, nodes}
 use Rattle.lt_tree.specs.Typing.Programs.{Program}
 use Rattle.lt_objectives.specs.declared.criteria.Criterion.{Criterion}
 use Rattle.lt_objectives.specs.Places.{Site, sites, sites_from, core}
-use Rattle.lt_objectives.specs.Objectives.{in_front, around, Objective, at_expression, at_node, objectives}
+use Rattle.lt_objectives.specs.Objectives.{Form, around, Objective, at_expression, at_node, objectives}
 use Rattle.lt_objectives.specs.Marked.{numbered, labels, decided}
 use Rattle.lt_sites.proofs.Nodes.{expression_node}
 use Rattle.lt_objective_places.specs.Stands.{IsAmong, IsWithin, GoOn, Role, Stands}
-use Rattle.lt_objective_places.specs.Laws.{HasLabelsOf, HasDecidedOf}
+use Rattle.lt_objective_places.specs.Laws.{AreTogether, LabelsAreOf, DecidedAreOf}
 use Rattle.lt_objective_places.proofs.Among.{given_by}
 use Rattle.lt_objective_places.proofs.Runs.{sites_of_both}
-use Rattle.lt_objective_places.proofs.Found.{in_front_place}
+use Rattle.lt_objective_places.proofs.Found.{own_place}
 use Rattle.lt_objective_places.proofs.MarksAtPlaces.{HasNoneAt, labels_of_part, decided_of_part}
 use Rattle.lt_objective_places.proofs.Standing.{core_there, around_core}
 
@@ -62,38 +62,41 @@ module _ (unit : c.Unit) (program : Program) (criterion : Criterion) where
   all_are {k} {x} it =
       ap (flat_map objectives_at) it.all ∙ flat_map-append objectives_at (sites_from 0 it.before) (record { number = k; node = x } ∷ sites_from (k + 1) it.behind)
 
-  -- ---- in front of an expression
+  abbrev together : {k : ℕ} {x : Node} → IsBetween unit k x → AreTogether unit program criterion (objectives_at (record { number = k; node = x }))
+  together {k} {x} it = record { before = flat_map objectives_at (sites_from 0 it.before); behind = flat_map objectives_at (sites_from (k + 1) it.behind); all = all_are it }
 
-  in_front_of_others : (j k : ℕ) (list : List Node) → ((n : ℕ) → IsWithin j (length list) n → n ≡ k → ⊥) → HasNoneAt in_front k (flat_map objectives_at (sites_from j list))
-  in_front_of_others j k list apart = λ o h form place.
+  -- ---- labels at a node
+
+  none_of_others : (form : Form) (j k : ℕ) (list : List Node) → (form ≡ around → ⊥) → ((n : ℕ) → IsWithin j (length list) n → n ≡ k → ⊥) → HasNoneAt form k (flat_map objectives_at (sites_from j list))
+  none_of_others form j k list other apart = λ o h is place.
       let it = given_by objectives_at o (sites_from j list) h in
-      apart (it.0).number (site_number j list it.0 it.1) (sym (in_front_place unit program criterion o (it.0).number (it.0).node it.2 form) ∙ place)
+      apart (it.0).number (site_number j list it.0 it.1) (sym (own_place unit program criterion o (it.0).number (it.0).node it.2 (λ f. other (sym is ∙ f))) ∙ place)
 
-  pub labels_of_one : (k : ℕ) (e : c.Expression) (id : ℕ) → GoOn unit k (in_expression e) → HasLabelsOf unit program criterion k e id
-  labels_of_one k e id s =
-      let it = between (subst (GoOn unit k) (expression_node e) s) in
+  pub labels_of_one : {xs : List Node} (form : Form) (k id : ℕ) (x : Node) → (form ≡ around → ⊥) → GoOn unit k (x ∷ xs)
+      → LabelsAreOf unit program criterion form k id (objectives_at (record { number = k; node = x }))
+  labels_of_one form k id x other s =
+      let it = between s in
       let before = flat_map objectives_at (sites_from 0 it.before) in
       let behind = flat_map objectives_at (sites_from (k + 1) it.behind) in
       let number = it.number in
-      let first : HasNoneAt in_front k before = in_front_of_others 0 k it.before (λ n w is. let high : n < 0 + length it.before = w.1 in omega arith) in
-      let last : HasNoneAt in_front k behind = in_front_of_others (k + 1) k it.behind (λ n w is. let low : k + 1 ≤ n = w.0 in omega arith) in
+      let first : HasNoneAt form k before = none_of_others form 0 k it.before other (λ n w is. let high : n < 0 + length it.before = w.1 in omega arith) in
+      let last : HasNoneAt form k behind = none_of_others form (k + 1) k it.behind other (λ n w is. let low : k + 1 ≤ n = w.0 in omega arith) in
       record {
-        before = before;
-        behind = behind;
-        all = all_are it;
-        marks = ap (λ them. labels in_front (numbered id them) k) (all_are it) ∙ labels_of_part in_front k id before (at_expression unit program criterion k e) behind first last;
+        together = together it;
+        labels_are = ap (λ them. labels form (numbered id them) k) (all_are it) ∙ labels_of_part form k id before (objectives_at (record { number = k; node = x })) behind first last;
       }
 
-  -- ---- around it
+  -- ---- what is decided
 
-  around_others : {role : Role} (j k : ℕ) (e : c.Expression) (list : List Node) → Stands unit role k e
-      → ((n : ℕ) → IsWithin j (length list) n → n ≡ (core k e).number → ⊥) → HasNoneAt around k (flat_map objectives_at (sites_from j list))
+  around_others : {role : Role} (j k : ℕ) (e : c.Expression) (list : List Node) → Stands unit role k e → ((n : ℕ) → IsWithin j (length list) n → n ≡ (core k e).number → ⊥)
+      → HasNoneAt around k (flat_map objectives_at (sites_from j list))
   around_others j k e list s apart = λ o h form place.
       let it = given_by objectives_at o (sites_from j list) h in
       apart (it.0).number (site_number j list it.0 it.1) (around_core program criterion k e o (it.0).number (it.0).node s it.2 form place)
 
-  pub decided_of_one : (role : Role) (k : ℕ) (e : c.Expression) (id : ℕ) → Stands unit role k e → HasDecidedOf unit program criterion k e id
-  decided_of_one role k e id s =
+  pub decided_of_one : (role : Role) (k id : ℕ) (e : c.Expression) → Stands unit role k e
+      → DecidedAreOf unit program criterion k id (at_expression unit program criterion (core k e).number (core k e).expression)
+  decided_of_one role k id e s =
       let inner = core k e in
       let it = between (subst (GoOn unit inner.number) (expression_node inner.expression) (core_there k e s.stand.there)) in
       let before = flat_map objectives_at (sites_from 0 it.before) in
@@ -102,8 +105,6 @@ module _ (unit : c.Unit) (program : Program) (criterion : Criterion) where
       let first : HasNoneAt around k before = around_others 0 k e it.before s (λ n w is. let high : n < 0 + length it.before = w.1 in omega arith) in
       let last : HasNoneAt around k behind = around_others (inner.number + 1) k e it.behind s (λ n w is. let low : inner.number + 1 ≤ n = w.0 in omega arith) in
       record {
-        before = before;
-        behind = behind;
-        all = all_are it;
-        marks = λ x. ap (λ them. decided (numbered id them) k x) (all_are it) ∙ decided_of_part k id x before (at_expression unit program criterion inner.number inner.expression) behind first last;
+        together = together it;
+        decided_are = λ x. ap (λ them. decided (numbered id them) k x) (all_are it) ∙ decided_of_part k id x before (at_expression unit program criterion inner.number inner.expression) behind first last;
       }

@@ -2,13 +2,13 @@
 use Rattle.std.specs.Prelude.{◌≡◌, ℕ, ◌+◌, true, List, ◌++◌, length, Option}
 use Rattle.std.specs.List.{list_any}
 use Rattle.lt_tree.specs.Tree as c
-use Rattle.lt_tree.specs.Nodes.{in_expression, in_declaration}
+use Rattle.lt_tree.specs.Nodes.{in_expression, in_mark, in_declaration}
 use Rattle.lt_tree.specs.Typing.Programs.{Program}
 use Rattle.lt_objectives.specs.declared.criteria.Criterion.{Criterion}
 use Rattle.lt_objectives.specs.Places.{core, is_constant, storage_of, makes_static, makes_static_in_for}
-use Rattle.lt_objectives.specs.Objectives.{at_start, in_front, Objective, all_at, at_body, at_expression, objectives}
+use Rattle.lt_objectives.specs.Objectives.{Form, at_start, in_front, Objective, all_at, at_body, at_expression, objectives}
 use Rattle.lt_objectives.specs.Marked.{numbered, next_id, labels, decided, with_marks, declaration_with_marks}
-use Rattle.lt_objective_places.specs.Stands.{IsAmong, IsWithin, Role, AreClosed, MayStand}
+use Rattle.lt_objective_places.specs.Stands.{IsAmong, IsWithin, GoOn, Role, AreClosed, MayStand}
 use Rattle.lt_objective_places.specs.Pieces.{Piece, an_expression, a_declaration, a_statement, items, an_external, externals, at, pieces, IsIn, PieceStands}
 
 -- The unit stands, and where a piece stands, so do its own pieces: so all pieces of a unit do.
@@ -27,7 +27,8 @@ ObjectivesStandWhereTheyMay =
     × ((s : c.Specifiers) (d : c.Declarator) (body : c.Items) → IsIn unit k (an_external (c.Defines s d body))
     → (it.form ≡ at_start) × IsAmong it (all_at k at_start criterion (at_body unit program criterion k)))
 
--- No label stands in declarations at the outermost level and of objects that are there from the start, nor in an integer constant expression.
+-- No label stands in declarations at the outermost level and of objects that are there from the start, in integer constant expressions, in operands of
+-- `sizeof`, and in marks.
 abbrev pub SomeAreClosed : Type 0
 SomeAreClosed =
     (unit : c.Unit) (program : Program) (k : ℕ)
@@ -37,6 +38,8 @@ SomeAreClosed =
     × ((d : c.Declaration) (test step : Option c.Expression) (x : c.Statement) → list_any makes_static_in_for (storage_of d.specifiers) ≡ true
     → PieceStands unit k (a_statement (c.For (c.Declares d) test step x)) → AreClosed unit program (k + 1) (length (in_declaration d)))
     × ((role : Role) (e : c.Expression) → is_constant unit program k ≡ true → PieceStands unit k (an_expression role e) → AreClosed unit program k (length (in_expression e)))
+    × ((role : Role) (e : c.Expression) → PieceStands unit k (an_expression role (c.SizeofExpr e)) → AreClosed unit program (k + 1) (length (in_expression e)))
+    × ((m : c.Mark) → GoOn unit k (in_mark m) → AreClosed unit program k (length (in_mark m)))
 
 -- No objective stands in expressions and declarations where no label does.
 abbrev pub NoneStandsWhereNoLabelDoes : Type 0
@@ -55,23 +58,29 @@ NothingIsMarkedThere =
     × ((d : c.Declaration) → PieceStands unit k (a_declaration d) → AreClosed unit program k (length (in_declaration d))
     → declaration_with_marks (numbered id (objectives unit program criterion)) k d ≡ d)
 
--- The new labels in front of an expression are those of its own objectives, which stand together among all.
-pub record HasLabelsOf (unit : c.Unit) (program : Program) (criterion : Criterion) (k : ℕ) (e : c.Expression) (id : ℕ) : Type 0 where
+-- These are some of all objectives, one behind the other.
+pub record AreTogether (unit : c.Unit) (program : Program) (criterion : Criterion) (these : List Objective) : Type 0 where
   pub before : List Objective
   pub behind : List Objective
-  pub all : objectives unit program criterion ≡ before ++ (at_expression unit program criterion k e ++ behind)
-  pub marks : labels in_front (numbered id (objectives unit program criterion)) k ≡ labels in_front (numbered (next_id id before) (at_expression unit program criterion k e)) k
+  pub all : objectives unit program criterion ≡ before ++ (these ++ behind)
 
--- So are the new `pc_decide`s around it those of its core.
-pub record HasDecidedOf (unit : c.Unit) (program : Program) (criterion : Criterion) (k : ℕ) (e : c.Expression) (id : ℕ) : Type 0 where
-  pub before : List Objective
-  pub behind : List Objective
-  pub all : objectives unit program criterion ≡ before ++ (at_expression unit program criterion (core k e).number (core k e).expression ++ behind)
-  pub marks : (x : c.Expression)
-      → decided (numbered id (objectives unit program criterion)) k x
-      ≡ decided (numbered (next_id id before) (at_expression unit program criterion (core k e).number (core k e).expression)) k x
+-- The new labels of a form at a number are of these objectives alone; numbers go on from an id.
+pub record LabelsAreOf (unit : c.Unit) (program : Program) (criterion : Criterion) (form : Form) (k : ℕ) (id : ℕ) (these : List Objective) : Type 0 where
+  pub together : AreTogether unit program criterion these
+  pub labels_are : labels form (numbered id (objectives unit program criterion)) k ≡ labels form (numbered (next_id id together.before) these) k
 
-abbrev pub MarksAreOfOneExpression : Type 0
-MarksAreOfOneExpression =
-    (unit : c.Unit) (program : Program) (criterion : Criterion) (role : Role) (k : ℕ) (e : c.Expression) (id : ℕ) → PieceStands unit k (an_expression role e)
-    → HasLabelsOf unit program criterion k e id × HasDecidedOf unit program criterion k e id
+-- So are the new `pc_decide`s.
+pub record DecidedAreOf (unit : c.Unit) (program : Program) (criterion : Criterion) (k : ℕ) (id : ℕ) (these : List Objective) : Type 0 where
+  pub together : AreTogether unit program criterion these
+  pub decided_are : (x : c.Expression) → decided (numbered id (objectives unit program criterion)) k x ≡ decided (numbered (next_id id together.before) these) k x
+
+-- The new labels in front of an expression are of its own objectives, the new `pc_decide`s around it of those of its core, and the labels at the start of a
+-- function of those of its body.
+abbrev pub MarksAreOfOneNode : Type 0
+MarksAreOfOneNode =
+    (unit : c.Unit) (program : Program) (criterion : Criterion) (k id : ℕ)
+    → ((role : Role) (e : c.Expression) → PieceStands unit k (an_expression role e)
+    → LabelsAreOf unit program criterion in_front k id (at_expression unit program criterion k e)
+    × DecidedAreOf unit program criterion k id (at_expression unit program criterion (core k e).number (core k e).expression))
+    × ((s : c.Specifiers) (d : c.Declarator) (body : c.Items) → PieceStands unit k (an_external (c.Defines s d body))
+    → LabelsAreOf unit program criterion at_start k id (all_at k at_start criterion (at_body unit program criterion k)))

@@ -37,7 +37,7 @@ tests_among what k xs = flat_map (tests_at what) (sites_from k xs)
 
 -- These nodes stand in the unit from this number on; and of the tests of the unit only those that are given, and those of the nodes' own controlling
 -- expressions, are about one of them.
-pub record Stand (unit : c.Unit) (k : ℕ) (xs : List Node) (given : Tests → Test → Type 0) : Type 0 where
+pub record RunStands (unit : c.Unit) (k : ℕ) (xs : List Node) (given : Tests → Test → Type 0) : Type 0 where
   pub there : GoOn unit k xs
   pub tests : (what : Tests) (it : Test) (n : ℕ) → IsAmong it (tests_in what unit) → IsAbout it n → IsWithin k (length xs) n
       → given what it ⊎ IsAmong it (tests_among what k xs)
@@ -47,7 +47,7 @@ none what it = ⊥
 
 -- no test from around is about these nodes
 abbrev pub AreUntested : c.Unit → ℕ → List Node → Type 0
-AreUntested unit k xs = Stand unit k xs none
+AreUntested unit k xs = RunStands unit k xs none
 
 -- ---- expressions
 
@@ -73,7 +73,7 @@ tests_as as_place k e what it = ⊥
 
 -- An expression stands in the unit at this number, in this role.
 pub record Stands (unit : c.Unit) (role : Role) (k : ℕ) (e : c.Expression) : Type 0 where
-  pub stand : Stand unit k (in_expression e) (tests_as role k e)
+  pub stand : RunStands unit k (in_expression e) (tests_as role k e)
   pub place : role ≡ as_place → is_value_position unit (core k e).number ≡ false
 
 -- what is taken of the operand of a `pc_after`

@@ -1,6 +1,6 @@
 //! Laws of the definitions; the functions do nothing.
 
-ghost use Rattle.lt_objective_places.specs.Laws.{MarksAreOfOneExpression, NoneStandsWhereNoLabelDoes, NothingIsMarkedThere, ObjectivesStandWhereTheyMay, PiecesStand, SomeAreClosed};
+ghost use Rattle.lt_objective_places.specs.Laws.{MarksAreOfOneNode, NoneStandsWhereNoLabelDoes, NothingIsMarkedThere, ObjectivesStandWhereTheyMay, PiecesStand, SomeAreClosed};
 
 /// All pieces of a unit stand in it, from the whole unit on.
 pub fn pieces_stand()
@@ -28,7 +28,7 @@ pub fn nothing_is_marked_there()
     ensures { NothingIsMarkedThere }
 {}
 
-/// New marks at an expression are of its own objectives.
-pub fn marks_are_of_one_expression()
-    ensures { MarksAreOfOneExpression }
+/// The new marks at an expression, and those at the start of a function, are of the objectives of one node.
+pub fn marks_are_of_one_node()
+    ensures { MarksAreOfOneNode }
 {}
