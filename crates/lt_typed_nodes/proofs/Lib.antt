@@ -1,0 +1,4 @@
+pub mod FactSteps
+pub mod NotedExpressions
+pub mod NotedDeclarations
+pub mod NotedUnits
