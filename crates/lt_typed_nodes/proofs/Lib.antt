@@ -2,3 +2,5 @@ pub mod FactSteps
 pub mod NotedExpressions
 pub mod NotedDeclarations
 pub mod NotedUnits
+pub mod FoundFacts
+pub mod OperandTypes

@@ -1,6 +1,8 @@
 //! Laws of the typing of units; the functions do nothing.
 
-ghost use Rattle.lt_typed_nodes.specs.Laws.{PartsNoteTheirNodes, ExpressionsAreNoted};
+ghost use Rattle.lt_typed_nodes.specs.Laws.{PartsNoteTheirNodes, ExpressionsAreNoted, FactsAreFound, ExpressionsAreKnown, ValuesHaveTheirTypes, OperandsHaveTheirTypes};
+
+use lt_tree_laws::nodes_are_numbered;
 
 /// Going over a part notes facts of its nodes alone.
 pub fn parts_note_their_nodes()
@@ -11,3 +13,17 @@ pub fn parts_note_their_nodes()
 pub fn expressions_are_noted()
     ensures { ExpressionsAreNoted }
 {}
+
+/// A fact is found by its number; so the program of a unit knows what typing found at each expression.
+pub fn expressions_are_known()
+    ensures facts { FactsAreFound }
+    ensures expressions { ExpressionsAreKnown }
+{}
+
+/// Values have the types that are noted of the expressions, without marks around them, of which they are.
+pub fn operands_have_their_types()
+    ensures values { ValuesHaveTheirTypes }
+    ensures operands { OperandsHaveTheirTypes }
+{
+    nodes_are_numbered();
+}

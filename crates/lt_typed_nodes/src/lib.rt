@@ -3,4 +3,6 @@
 
 mod laws;
 
-pub use laws::{expressions_are_noted, parts_note_their_nodes};
+pub use laws::{
+    expressions_are_known, expressions_are_noted, operands_have_their_types, parts_note_their_nodes,
+};
