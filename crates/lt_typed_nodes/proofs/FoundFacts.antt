@@ -1,14 +1,13 @@
 -- Facts are found by the numbers of their nodes.
-use Rattle.std.proofs.Common.{◌≡◌, refl, sym, ap, ◌∙◌, subst, ℕ, suc, ◌+◌, ◌<◌, ◌≤◌, List, [], ◌∷◌, ◌++◌, Bool, true, false, if◌then◌else◌, Option, Some, None, append_assoc, eqb, eq-eqb, arith}
+use Rattle.std.proofs.Common.{◌≡◌, refl, sym, ap, ◌∙◌, subst, ℕ, suc, ◌+◌, ◌<◌, ◌≤◌, List, [], ◌∷◌, ◌++◌, false, if◌then◌else◌, Some, append_assoc, eqb, eq-eqb, arith}
 use Rattle.std.proofs.lemmas.Bool.{ne_eqb}
 use Rattle.std.specs.List.{AllByRecursion}
 use Rattle.lt_tree.specs.Typing.Entities.{Known, Fact}
-use Rattle.lt_tree.specs.Typing.Steps.{Outcome, Goes}
+use Rattle.lt_tree.specs.Typing.Steps.{Goes}
 use Rattle.lt_tree.specs.Typing.Expressions.{Typed, Use, used, fact_of}
-use Rattle.lt_tree.specs.Typing.ExpressionTyping.{expression}
 use Rattle.lt_objectives.specs.Places.{fact_among}
-use Rattle.lt_typed_nodes.specs.Laws.{AreOfNodes, ExpressionsAreNoted, FactsAreFound, NotesBegunNodes, ExpressionsAreKnown}
-use Rattle.lt_typed_nodes.proofs.FactSteps.{all_joined, all_weaker, Notes, went, Whole, EndsAt, ended, entered}
+use Rattle.lt_typed_nodes.specs.Laws.{AreOfNodes, ExpressionsAreNoted, FactsAreFound, NotesBetween, NotesBegunNodes, BegunNodesAreNoted, ExpressionsAreKnown}
+use Rattle.lt_typed_nodes.proofs.FactSteps.{all_joined, all_weaker, went, Whole, EndsAt, ended, entered}
 use Rattle.lt_typed_nodes.proofs.NotedExpressions.{of_expression}
 
 -- ---- lists of facts
@@ -37,12 +36,18 @@ facts_are_found before more later fact lower greater =
 pub begun_inside : (known : Known) → NotesBegunNodes known → NotesBegunNodes (entered known)
 begun_inside known begun = all_weaker (λ (fact : Fact). fact.node < known.next) (λ (fact : Fact). fact.node < known.next + 1) (λ fact less. omega (arith, less)) known.facts begun
 
-pub begun_behind : {A : Type 0} {a : A} (known behind : Known) → Whole known (Goes a behind) → NotesBegunNodes known → NotesBegunNodes behind
-begun_behind known behind (went more le e all) begun =
-    subst (λ facts. AllByRecursion (λ (fact : Fact). fact.node < behind.next) facts) (sym e)
-    (all_joined (λ (fact : Fact). fact.node < behind.next) known.facts more
+begun_between : (known behind : Known) → known.next ≤ behind.next → NotesBetween known behind → NotesBegunNodes known → NotesBegunNodes behind
+begun_between known behind le noted begun =
+    subst (λ facts. AllByRecursion (λ (fact : Fact). fact.node < behind.next) facts) (sym noted.1)
+    (all_joined (λ (fact : Fact). fact.node < behind.next) known.facts noted.0
     (all_weaker (λ (fact : Fact). fact.node < known.next) (λ (fact : Fact). fact.node < behind.next) (λ fact less. omega (arith, less)) known.facts begun)
-    (all_weaker (λ (fact : Fact). (known.next ≤ fact.node) × (fact.node < behind.next)) (λ (fact : Fact). fact.node < behind.next) (λ fact p. p.1) more all))
+    (all_weaker (λ (fact : Fact). (known.next ≤ fact.node) × (fact.node < behind.next)) (λ (fact : Fact). fact.node < behind.next) (λ fact p. p.1) noted.0 noted.2))
+
+pub begun_behind : {A : Type 0} {a : A} (known behind : Known) → Whole known (Goes a behind) → NotesBegunNodes known → NotesBegunNodes behind
+begun_behind known behind (went more le e all) begun = begun_between known behind le (more, e, all) begun
+
+pub begun_nodes_are_noted : BegunNodesAreNoted
+begun_nodes_are_noted = ((λ model defined. tt), begun_inside, begun_between)
 
 -- ---- expressions
 

@@ -1,5 +1,5 @@
 -- Initialisers and declarations note facts of their nodes.
-use Rattle.std.proofs.Common.{◌≡◌, refl, ℕ, suc, ◌<◌, ◌≤◌, Bool, true, false, if◌then◌else◌, List, [], ◌∷◌, ◌++◌, length, slice_get, slice_set, Option, Some, None, arith}
+use Rattle.std.proofs.Common.{◌≡◌, refl, ℕ, suc, ◌<◌, Bool, true, false, if◌then◌else◌, List, [], ◌∷◌, ◌++◌, length, slice_get, slice_set, Option, Some, None, arith}
 use Rattle.std.specs.Prelude.{is_some}
 use Rattle.lt_tree.specs.declared.specifier.Storage.{Storage}
 use Rattle.lt_tree.specs.Tree as c

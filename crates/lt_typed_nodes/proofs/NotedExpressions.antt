@@ -8,7 +8,7 @@ use Rattle.lt_tree.specs.Typing.Constants.{constant_of}
 use Rattle.lt_tree.specs.Typing.Rules.{Rule, broken_if, unless, incomplete_type, bad_mark}
 use Rattle.lt_tree.specs.Typing.TypedTree.{before, after as behind}
 use Rattle.lt_tree.specs.Typing.Entities.{Known, Tagged, a_struct, an_enum, meaning_of, tag_here, tagged_in}
-use Rattle.lt_tree.specs.Typing.Steps.{Walk, ◌>>=◌, ◌>>◌, gives, here}
+use Rattle.lt_tree.specs.Typing.Steps.{Walk, ◌>>=◌, here}
 use Rattle.lt_tree.specs.Typing.Expressions.{Use, as_value, as_truth, as_place, as_callee, own_type}
 use Rattle.lt_tree.specs.Typing.Operations.{judge_name, judge_constant, judge_step, judge_size, judge_member, judge_arrow, judge_index, judge_call, judge_cast}
 use Rattle.lt_tree.specs.Typing.BinaryOperations.{judge_binary, judge_logical, judge_conditional, judge_assignment, judge_comma}

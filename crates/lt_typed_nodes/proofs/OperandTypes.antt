@@ -1,89 +1,25 @@
 -- The types that are noted of operands are those of their values.
-use Rattle.std.proofs.Common.{◌≡◌, refl, sym, ap, ◌∙◌, subst, ◌⊎◌, inl, inr, ℕ, suc, ◌+◌, ◌<◌, ◌≤◌, List, [], ◌∷◌, ◌++◌, length, Bool, true, false, if◌then◌else◌, Option, Some, None, append_assoc, arith}
-use Rattle.std.proofs.lemmas.Bool.{false≢true}
+use Rattle.std.proofs.Common.{◌≡◌, sym, ap, ◌∙◌, subst, ℕ, ◌+◌, List, [], ◌∷◌, ◌++◌, length, Option, Some, None, append_assoc, arith}
 use Rattle.std.proofs.lemmas.List.{length-append}
-use Rattle.lt_model.specs.declared.scalar.DataModel.{DataModel}
 use Rattle.lt_tree.specs.Tree as c
 use Rattle.lt_tree.specs.Nodes.{Node, in_expression, in_marks, in_mark}
-use Rattle.lt_tree.specs.Typing.Types.{CType, Void, Num, Pointer, Array, Struct, Function, Floating, Qualified, is_struct, is_array, is_pointer, unqualified, value_type}
+use Rattle.lt_tree.specs.Typing.Types.{CType, Void}
 use Rattle.lt_tree.specs.Typing.Rules.{Rule, least}
 use Rattle.lt_tree.specs.Typing.TypedTree as e
 use Rattle.lt_tree.specs.Typing.TypedTree.{Value, Place, type_of, type_at}
-use Rattle.lt_tree.specs.Typing.Constants.{Constancy}
 use Rattle.lt_tree.specs.Typing.Entities.{Known, Fact, Label}
-use Rattle.lt_tree.specs.Typing.Steps.{Outcome, Goes, Breaks, Walk, ◌>>=◌, gives, goes_on, unless_broken}
-use Rattle.lt_tree.specs.Typing.Expressions.{Typed, Form, a_value, a_place, a_designator, as_value, own_type, value_at, varies, as_it_is_read, used, fact_of, Judged, faults_of_any, finish}
+use Rattle.lt_tree.specs.Typing.Steps.{Outcome, Goes, Breaks, goes_on, unless_broken}
+use Rattle.lt_tree.specs.Typing.Expressions.{Typed, as_value, own_type, as_it_is_read, fact_of, Judged, faults_of_any, finish}
 use Rattle.lt_tree.specs.Typing.BinaryOperations.{last_of, judge_comma}
 use Rattle.lt_tree.specs.Typing.MarkRules.{label_of, judge_decide, judge_after, judge_marked}
 use Rattle.lt_tree.specs.Typing.ExpressionTyping.{expression, expressions, marks, mark}
 use Rattle.lt_tree_laws.specs.Typing.NodeNumbers.{GoesOver, PartsAreNumbered}
 use Rattle.lt_objectives.specs.Places.{value_part, last_value_part, fact_among}
-use Rattle.lt_typed_nodes.specs.Laws.{NotesBegunNodes, IsReadAs, ValuesHaveTheirTypes, OperandsHaveTheirTypes}
-use Rattle.lt_typed_nodes.proofs.FactSteps.{Notes, Whole, EndsAt, ended, broke_off, entered, whole}
-use Rattle.lt_typed_nodes.proofs.NotedExpressions.{of_expression, of_expressions, of_marks, of_mark}
+use Rattle.lt_typed_nodes.specs.Laws.{NotesBegunNodes, IsReadAs, OperandsHaveTheirTypes}
+use Rattle.lt_typed_nodes.proofs.FactSteps.{Whole, EndsAt, ended, broke_off, entered, whole}
+use Rattle.lt_typed_nodes.proofs.NotedExpressions.{of_expression, of_marks}
+use Rattle.lt_typed_nodes.proofs.ReadTypes.{values_have_their_types, read_twice}
 use Rattle.lt_typed_nodes.proofs.FoundFacts.{begun_inside, begun_behind, found_later}
-
--- ---- types
-
--- a type is read as itself, and as that of its values
-same_read : (t : CType) → IsReadAs t t
-same_read t = record { integer = refl; sign = λ m. refl; pointer = λ is. is; pointed = λ is. inl is }
-
-value_read : (t : CType) → IsReadAs t (value_type t)
-value_read (Array t n) = record { integer = refl; sign = λ m. refl; pointer = λ is. refl; pointed = λ is. inr refl }
-value_read Void = same_read Void
-value_read (Num s) = same_read (Num s)
-value_read (Pointer t) = same_read (Pointer t)
-value_read (Struct k) = same_read (Struct k)
-value_read (Function t ts dots) = same_read (Function t ts dots)
-value_read Floating = same_read Floating
-value_read (Qualified q t) = record { integer = refl; sign = λ m. refl; pointer = λ is. is; pointed = λ is. inl is }
-
-type_of_scalar : (whole : Bool) (t : CType) (place : Place) → type_of (if whole then e.Whole (unqualified t) place else e.Load (unqualified t) place) ≡ unqualified t
-type_of_scalar true t place = refl
-type_of_scalar false t place = refl
-
-type_of_value : (t : CType) (place : Place) → type_of (value_at t place) ≡ value_type t
-type_of_value (Array t n) place = refl
-type_of_value Void place = refl
-type_of_value (Num s) place = refl
-type_of_value (Pointer t) place = refl
-type_of_value (Struct k) place = refl
-type_of_value (Function t ts dots) place = refl
-type_of_value Floating place = refl
-type_of_value (Qualified q t) place = type_of_scalar (is_struct t) (Qualified q t) place
-
--- a place that is read
-type_of_read : (keeps : Bool) (place : Place) (x : Typed)
-    → own_type (if keeps then record x { form = a_value (value_at (type_at place) place) } else varies (value_at (type_at place) place)) ≡ value_type (type_at place)
-type_of_read true place x = type_of_value (type_at place) place
-type_of_read false place x = type_of_value (type_at place) place
-
--- an expression by its form
-abbrev with_form : Typed → Form → Typed
-with_form x form = record x { form = form }
-
-form_read : (x : Typed) (form : Form) → IsReadAs (own_type (with_form x form)) (own_type (as_it_is_read (with_form x form)))
-form_read x (a_value v) = same_read (type_of v)
-form_read x (a_place place) = subst (λ u. IsReadAs (type_at place) u) (sym (type_of_read (is_array (type_at place)) place (with_form x (a_place place)))) (value_read (type_at place))
-form_read x (a_designator name t) = same_read t
-
-pub values_have_their_types : ValuesHaveTheirTypes
-values_have_their_types x = form_read x x.form
-
--- what is read is read as it is
-read_twice_if : (keeps : Bool) (place : Place) (x : Typed)
-    → let once = if keeps then record x { form = a_value (value_at (type_at place) place) } else varies (value_at (type_at place) place) in own_type (as_it_is_read once) ≡ own_type once
-read_twice_if true place x = refl
-read_twice_if false place x = refl
-
-form_twice : (x : Typed) (form : Form) → own_type (as_it_is_read (as_it_is_read (with_form x form))) ≡ own_type (as_it_is_read (with_form x form))
-form_twice x (a_value v) = refl
-form_twice x (a_place place) = read_twice_if (is_array (type_at place)) place (with_form x (a_place place))
-form_twice x (a_designator name t) = refl
-
-read_twice : (x : Typed) → own_type (as_it_is_read (as_it_is_read x)) ≡ own_type (as_it_is_read x)
-read_twice x = form_twice x x.form
 
 -- ---- what is found
 
@@ -187,7 +123,7 @@ with_first x broke_last = broke_last
 behind_first : (n : ℕ) (first next : c.Expression) (rest : c.Expressions) (known : Known) (o : Outcome Typed) → Whole known o → GoesOver (in_expression first) known o → NotesBegunNodes known
     → ((k : Known) → NotesBegunNodes k → LastIsFound n k (c.an_expression next rest))
     → FoundLast (last_value_part n (known.next + length (in_expression first)) (c.an_expression next rest)).number
-      (goes_on o (λ x k. goes_on (expressions (c.an_expression next rest) k) (λ xs k. Goes (x ∷ xs) k)))
+    (goes_on o (λ x k. goes_on (expressions (c.an_expression next rest) k) (λ xs k. Goes (x ∷ xs) k)))
 behind_first n first next rest known (Goes x k) w over begun f =
     subst (λ m. FoundLast (last_value_part n m (c.an_expression next rest)).number (goes_on (expressions (c.an_expression next rest) k) (λ xs k. Goes (x ∷ xs) k))) over
     (with_first x (f k (begun_behind known k w begun)))
@@ -216,7 +152,7 @@ comma (c.an_expression first rest) known begun there = of_comma known.next there
 behind_marks : (ms : c.Marks) (value : c.Expression) (known : Known) (o : Outcome e.Marks) → Whole (entered known) o → GoesOver (in_marks ms) (entered known) o → NotesBegunNodes known
     → ((k : Known) → NotesBegunNodes k → FoundAt (value_part k.next value).number (expression value as_value k))
     → FoundAt (value_part (known.next + 1 + length (in_marks ms)) value).number
-      (goes_on o (λ typed k. goes_on (expression value as_value k) (λ x k. finish known.next as_value (judge_marked typed x) k)))
+    (goes_on o (λ typed k. goes_on (expression value as_value k) (λ x k. finish known.next as_value (judge_marked typed x) k)))
 behind_marks ms value known (Goes typed k) w over begun f =
     subst (λ n. FoundAt (value_part n value).number (goes_on (expression value as_value k) (λ x k. finish known.next as_value (judge_marked typed x) k))) over
     (of_marked known.next typed (f k (begun_behind (entered known) k w (begun_inside known begun))))

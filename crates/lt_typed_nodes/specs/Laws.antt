@@ -1,10 +1,10 @@
 -- What typing notes of expressions is of their nodes, and is found by their numbers.
-use Rattle.std.specs.Prelude.{◌≡◌, ◌⊎◌, ℕ, suc, ◌<◌, ◌≤◌, Bool, true, List, [], ◌∷◌, ◌++◌, Some}
+use Rattle.std.specs.Prelude.{◌≡◌, ◌⊎◌, ℕ, suc, ◌+◌, ◌<◌, ◌≤◌, Bool, true, List, [], ◌∷◌, ◌++◌, Some}
 use Rattle.std.specs.List.{AllByRecursion}
 use Rattle.lt_model.specs.declared.scalar.DataModel.{DataModel}
 use Rattle.lt_tree.specs.Tree as c
 use Rattle.lt_tree.specs.Typing.Types.{CType, is_integer, is_pointer, is_array}
-use Rattle.lt_tree.specs.Typing.Entities.{Known, Fact}
+use Rattle.lt_tree.specs.Typing.Entities.{Known, Fact, at_start}
 use Rattle.lt_tree.specs.Typing.Steps.{Outcome, Goes, Breaks}
 use Rattle.lt_tree.specs.Typing.Expressions.{Typed, Use, as_value, own_type, as_it_is_read, used, fact_of}
 use Rattle.lt_tree.specs.Typing.ExpressionTyping.{expression, mark}
@@ -21,10 +21,13 @@ use Rattle.lt_objectives.specs.Mutants.{is_signed_integer}
 abbrev pub AreOfNodes : (first behind : ℕ) → List Fact → Type 0
 AreOfNodes first behind facts = AllByRecursion (λ (fact : Fact). (first ≤ fact.node) × (fact.node < behind)) facts
 
--- Going over a part notes facts of its nodes alone, behind those that were there: numbers from the next node on, and before the one that follows the
--- part.
+-- Between two places of a walk facts are noted of the nodes that begin between them, behind those that were there.
+abbrev pub NotesBetween : (known behind : Known) → Type 0
+NotesBetween known behind = (more : List Fact) × (behind.facts ≡ known.facts ++ more) × AreOfNodes known.next behind.next more
+
+-- Going over a part notes facts of its nodes alone.
 abbrev pub NotesItsNodes : {A : Type 0} → Known → Outcome A → Type 0
-NotesItsNodes known (Goes a behind) = (more : List Fact) × (behind.facts ≡ known.facts ++ more) × AreOfNodes known.next behind.next more
+NotesItsNodes known (Goes a behind) = NotesBetween known behind
 NotesItsNodes known (Breaks rule node) = Unit {0}
 
 -- Each part does so, wherever it stands.
@@ -54,9 +57,16 @@ FactsAreFound =
     → AllByRecursion (λ (it : Fact). it.node < fact.node) before → AllByRecursion (λ (it : Fact). fact.node < it.node) more
     → fact_among (before ++ more ++ fact ∷ later) fact.node ≡ Some fact
 
--- All that is noted is of nodes that have begun. It is so at the start of a unit, and behind each part if it is so before.
+-- all that is noted is of nodes that have begun
 abbrev pub NotesBegunNodes : Known → Type 0
 NotesBegunNodes known = AllByRecursion (λ (fact : Fact). fact.node < known.next) known.facts
+
+-- It is so at the start of a unit, and where it is so at a place, also inside the node that begins there, and behind each part.
+abbrev pub BegunNodesAreNoted : Type 0
+BegunNodesAreNoted =
+    ((model : DataModel) (defined : List (List ℕ)) → NotesBegunNodes (at_start model defined))
+    × ((known : Known) → NotesBegunNodes known → NotesBegunNodes (record known { next = known.next + 1 }))
+    × ((known behind : Known) → known.next ≤ behind.next → NotesBetween known behind → NotesBegunNodes known → NotesBegunNodes behind)
 
 -- So the program of a unit knows of each expression, by the number of its node, what typing found there: what is noted later changes nothing of it.
 abbrev pub ExpressionsAreKnown : Type 0

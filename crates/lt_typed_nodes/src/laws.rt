@@ -1,6 +1,6 @@
 //! Laws of the typing of units; the functions do nothing.
 
-ghost use Rattle.lt_typed_nodes.specs.Laws.{PartsNoteTheirNodes, ExpressionsAreNoted, FactsAreFound, ExpressionsAreKnown, ValuesHaveTheirTypes, OperandsHaveTheirTypes};
+ghost use Rattle.lt_typed_nodes.specs.Laws.{PartsNoteTheirNodes, ExpressionsAreNoted, FactsAreFound, BegunNodesAreNoted, ExpressionsAreKnown, ValuesHaveTheirTypes, OperandsHaveTheirTypes};
 
 use lt_tree_laws::nodes_are_numbered;
 
@@ -17,6 +17,7 @@ pub fn expressions_are_noted()
 /// A fact is found by its number; so the program of a unit knows what typing found at each expression.
 pub fn expressions_are_known()
     ensures facts { FactsAreFound }
+    ensures begun_nodes { BegunNodesAreNoted }
     ensures expressions { ExpressionsAreKnown }
 {}
 

@@ -1,4 +1,5 @@
-use Rattle.lt_typed_nodes.proofs.OperandTypes.{values_have_their_types, operands_have_their_types}
+use Rattle.lt_typed_nodes.proofs.ReadTypes.{values_have_their_types}
+use Rattle.lt_typed_nodes.proofs.OperandTypes.{operands_have_their_types}
 use Rattle.lt_typed_nodes.proofs.laws.operands_have_their_types.Goals as goal
 
 pub returns-clause-values : goal.returns-clause-values
