@@ -5,3 +5,5 @@ pub mod NotedUnits
 pub mod FoundFacts
 pub mod ReadTypes
 pub mod OperandTypes
+pub mod ComingSteps
+pub mod ComingToOperands

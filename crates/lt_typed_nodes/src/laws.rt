@@ -1,6 +1,7 @@
 //! Laws of the typing of units; the functions do nothing.
 
 ghost use Rattle.lt_typed_nodes.specs.Laws.{PartsNoteTheirNodes, ExpressionsAreNoted, FactsAreFound, BegunNodesAreNoted, ExpressionsAreKnown, ValuesHaveTheirTypes, OperandsHaveTheirTypes};
+ghost use Rattle.lt_typed_nodes.specs.Coming.{OperandsAreComeTo};
 
 use lt_tree_laws::nodes_are_numbered;
 
@@ -28,3 +29,8 @@ pub fn operands_have_their_types()
 {
     nodes_are_numbered();
 }
+
+/// Where typing comes to an expression, in a unit whose typing goes on to its end, it comes to its operands.
+pub fn operands_are_come_to()
+    ensures { OperandsAreComeTo }
+{}
