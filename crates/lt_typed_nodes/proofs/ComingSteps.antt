@@ -1,13 +1,13 @@
 -- From a part to which typing comes to those of which it is made.
-use Rattle.std.proofs.Common.{◌≡◌, refl, subst, sym, ap, ◌∙◌, ℕ, ◌+◌, List, [], ◌∷◌, ◌++◌, Bool, Option, Some, None, append_assoc}
+use Rattle.std.proofs.Common.{◌≡◌, refl, subst, sym, ap, ◌∙◌, ℕ, List, [], ◌∷◌, ◌++◌, Bool, Option, Some, None, append_assoc}
 use Rattle.std.proofs.lemmas.List.{append-nil}
 use Rattle.lt_tree.specs.Typing.Rules.{Rule, least}
 use Rattle.lt_tree.specs.Typing.Entities.{Known, Frame, Fact}
 use Rattle.lt_tree.specs.Typing.Steps.{Outcome, Goes, Breaks, goes_on, unless_broken, settle, gives, left, marked_again}
 use Rattle.lt_tree.specs.Typing.Expressions.{Typed, Use, used, fact_of, Judged, faults_of_any, finish}
 use Rattle.lt_typed_nodes.specs.Laws.{NotesBegunNodes}
-use Rattle.lt_typed_nodes.specs.Coming.{ComesTo, Behind, entered}
-use Rattle.lt_typed_nodes.proofs.FactSteps.{Notes, went, broke, Whole, EndsAt, whole, unmarked_here, in_new_frame}
+use Rattle.lt_typed_nodes.specs.Coming.{ComesTo, entered, unmarked_here, in_new_block}
+use Rattle.lt_typed_nodes.proofs.FactSteps.{Notes, went, broke, Whole, EndsAt, whole}
 use Rattle.lt_typed_nodes.proofs.FoundFacts.{begun_inside, begun_behind}
 
 -- ---- what is noted behind
@@ -99,7 +99,20 @@ unmarked was known (Goes a k) it =
     record { begun = it.begun; found = a; behind = k; later = it.later; goes = refl; are = it.are ∙ ap (λ list. list ++ it.later) (sym (ap facts_behind it.goes)) }
 unmarked was known (Breaks rule node) it = absurd (breaks_not it.goes)
 
-pub in_frame : {A : Type 0} {facts : List Fact} (frames : List Frame) (known : Known) (o : Outcome A) → ComesTo facts known (left frames o) → ComesTo facts (in_new_frame known) o
-in_frame frames known (Goes a k) it =
-    record { begun = it.begun; found = a; behind = k; later = it.later; goes = refl; are = it.are ∙ ap (λ list. list ++ it.later) (sym (ap facts_behind it.goes)) }
-in_frame frames known (Breaks rule node) it = absurd (breaks_not it.goes)
+-- what is in other frames
+pub in_frames : {A : Type 0} {facts : List Fact} (frames : List Frame) (known inner : Known) (o : Outcome A) → NotesBegunNodes inner → ComesTo facts known (left frames o) → ComesTo facts inner o
+in_frames frames known inner (Goes a k) begun it =
+    record { begun = begun; found = a; behind = k; later = it.later; goes = refl; are = it.are ∙ ap (λ list. list ++ it.later) (sym (ap facts_behind it.goes)) }
+in_frames frames known inner (Breaks rule node) begun it = absurd (breaks_not it.goes)
+
+pub in_scope : {A : Type 0} {facts : List Fact} (known : Known) (o : Outcome A) → ComesTo facts known (goes_on (left known.frames o) (λ r. gives r.0)) → ComesTo facts (in_new_block known) o
+in_scope known o it = in_frames known.frames known (in_new_block known) o it.begun (first (left known.frames o) it (λ r k. none k))
+
+-- a node that is judged before what stands behind it
+pub judged : {A : Type 0} {facts : List Fact} {known : Known} (node : ℕ) (rules : List Rule) (o : Known → Outcome A)
+    → ComesTo facts known (goes_on (settle node rules known) (λ u k. o k)) → ComesTo facts known (o known)
+judged {A} {facts} {known} node rules o it = by (least rules) it
+  where
+    by : (rule : Option Rule) → ComesTo facts known (goes_on (unless_broken rule node known) (λ u k. o k)) → ComesTo facts known (o known)
+    by None it = it
+    by (Some rule) it = absurd (breaks_not it.goes)

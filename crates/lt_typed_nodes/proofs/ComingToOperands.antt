@@ -1,10 +1,10 @@
 -- Where typing comes to an expression it comes to its operands.
-use Rattle.std.proofs.Common.{◌≡◌, ℕ, false, List, [], ◌∷◌, ◌++◌}
+use Rattle.std.proofs.Common.{ℕ, false, List}
 use Rattle.lt_model.specs.declared.operator.Op.TheVariants as O
 use Rattle.lt_tree.specs.Tree as c
 use Rattle.lt_tree.specs.Typing.TypedTree.{before, after as afterwards}
 use Rattle.lt_tree.specs.Typing.Entities.{Known, Fact}
-use Rattle.lt_tree.specs.Typing.Steps.{Outcome, Goes, goes_on}
+use Rattle.lt_tree.specs.Typing.Steps.{goes_on}
 use Rattle.lt_tree.specs.Typing.Expressions.{Typed, Use, as_value, as_truth, as_place, as_callee, own_type, Judged, finish}
 use Rattle.lt_tree.specs.Typing.Operations.{judge_step, judge_size, judge_member, judge_arrow, judge_index, judge_call, judge_cast}
 use Rattle.lt_tree.specs.Typing.BinaryOperations.{judge_binary, judge_logical, judge_conditional, judge_assignment, judge_comma}
@@ -12,11 +12,11 @@ use Rattle.lt_tree.specs.Typing.MarkRules.{judge_decide, inside_mark, inside_aft
 use Rattle.lt_tree.specs.Typing.Specifying.{elsewhere}
 use Rattle.lt_tree.specs.Typing.Declarators.{type_name_faults}
 use Rattle.lt_tree.specs.Typing.NodeEnds.{judge_unary, operand_of, also}
-use Rattle.lt_tree.specs.Typing.ExpressionTyping.{expression, expressions, marks, specifiers, declarator}
-use Rattle.lt_typed_nodes.specs.Coming.{ComesTo, Behind, entered, ComesToIt, ComesToAll, ComesToOperands, ComesToEach, OperandsAreComeTo}
-use Rattle.lt_typed_nodes.proofs.FactSteps.{unmarked_here, whole}
+use Rattle.lt_tree.specs.Typing.ExpressionTyping.{expression, expressions}
+use Rattle.lt_typed_nodes.specs.Coming.{ComesTo, Behind, entered, ComesToIt, ComesToAll, ComesToOperands, ComesToEach, OperandsAreComeTo, unmarked_here}
+use Rattle.lt_typed_nodes.proofs.FactSteps.{whole}
 use Rattle.lt_typed_nodes.proofs.NotedExpressions.{of_expression, of_expressions, of_marks, of_specifiers, of_declarator}
-use Rattle.lt_typed_nodes.proofs.ComingSteps.{Grows, of_part, of_it, none, next, finished, first, behind, inside, unmarked}
+use Rattle.lt_typed_nodes.proofs.ComingSteps.{of_part, of_it, none, next, finished, first, behind, inside, unmarked}
 
 -- one operand
 one : {facts : List Fact} {known : Known} (node : ℕ) (role inner : Use) (it : c.Expression) (judge : Typed → Known → Judged)
@@ -57,9 +57,11 @@ to_operands facts known role (c.Cast s d target) comes =
 to_operands facts known role (c.Binary op left right) comes = two known.next role as_value as_value left right (judge_binary op) (inside comes)
 to_operands facts known role (c.Logical op left right) comes = two known.next role as_truth as_truth left right (λ x y k. judge_logical op x y) (inside comes)
 to_operands facts known role (c.Conditional test left right) comes = (
-  (first (expression test as_truth (entered known)) (inside comes)
-  (λ p k. next (of_it k (of_expression left as_value k)) (λ x k. next (of_it k (of_expression right as_value k)) (λ y k. finished known.next role (judge_conditional p x y k) k))),
-  λ p k is. (two known.next role as_value as_value left right (judge_conditional p) (behind _ (inside comes) (whole (entered known) (of_expression test as_truth (entered known))) p k is)).0),
+  (
+    first (expression test as_truth (entered known)) (inside comes)
+        (λ p k. next (of_it k (of_expression left as_value k)) (λ x k. next (of_it k (of_expression right as_value k)) (λ y k. finished known.next role (judge_conditional p x y k) k))),
+    λ p k is. (two known.next role as_value as_value left right (judge_conditional p) (behind _ (inside comes) (whole (entered known) (of_expression test as_truth (entered known))) p k is)).0,
+  ),
   λ p k is. (two known.next role as_value as_value left right (judge_conditional p) (behind _ (inside comes) (whole (entered known) (of_expression test as_truth (entered known))) p k is)).1,
 )
 to_operands facts known role (c.Assign op target value) comes = two known.next role as_place as_value target value (judge_assignment op) (inside comes)

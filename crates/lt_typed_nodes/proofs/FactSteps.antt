@@ -1,12 +1,13 @@
 -- How facts go on while a unit is typed.
-use Rattle.std.proofs.Common.{◌≡◌, refl, sym, ap, ◌∙◌, subst, ℕ, suc, ◌+◌, ◌<◌, ◌≤◌, List, [], ◌∷◌, ◌++◌, Bool, true, Option, Some, None, append_assoc, arith}
+use Rattle.std.proofs.Common.{◌≡◌, refl, sym, ap, ◌∙◌, subst, ℕ, suc, ◌+◌, ◌<◌, ◌≤◌, List, [], ◌∷◌, ◌++◌, Bool, Option, Some, None, append_assoc, arith}
 use Rattle.std.proofs.lemmas.List.{append-nil}
 use Rattle.std.specs.List.{AllByRecursion}
 use Rattle.lt_tree.specs.Typing.Rules.{Rule, least}
-use Rattle.lt_tree.specs.Typing.Entities.{Known, Frame, no_names, Fact, Label}
+use Rattle.lt_tree.specs.Typing.Entities.{Known, Frame, Fact, Label}
 use Rattle.lt_tree.specs.Typing.Steps.{Outcome, Goes, Breaks, goes_on, unless_broken, settle, gives, left, marked_again}
 use Rattle.lt_tree.specs.Typing.Expressions.{Typed, Use, used, fact_of, Judged, faults_of_any, finish}
 use Rattle.lt_typed_nodes.specs.Laws.{AreOfNodes, NotesItsNodes}
+use Rattle.lt_typed_nodes.specs.Coming.{in_new_block}
 
 -- ---- lists of facts
 
@@ -71,10 +72,6 @@ pub joined : {A B : Type 0} (known : Known) {o : Outcome A} {rest : A → Known 
 joined known w f = after w (λ a k le. lower le (f a k))
 
 -- ---- inside a node
-
--- where a node is known: here its parts begin
-abbrev pub entered : Known → Known
-entered known = record known { next = known.next + 1 }
 
 later : {A : Type 0} {low start : ℕ} {facts : List Fact} {o : Outcome A} → Notes low (start + 1) facts o → Notes low start facts o
 later (went more le e all) = went more (omega arith) e all
@@ -174,13 +171,6 @@ with_labels labels broke_off = broke_off
 
 -- ---- what notes nothing
 
--- where known is what stands in an expression without marks, or in a new scope
-abbrev pub unmarked_here : Known → Known
-unmarked_here known = record known { is_unmarked = true }
-
-abbrev pub in_new_frame : Known → Known
-in_new_frame known = record known { frames = no_names ∷ known.frames }
-
 pub unmarked : {A : Type 0} {low start : ℕ} {facts : List Fact} {o : Outcome A} (was : Bool) → Notes low start facts o → Notes low start facts (marked_again was o)
 unmarked was (went more le e all) = went more le e all
 unmarked was broke = broke
@@ -190,7 +180,7 @@ blocked frames (went more le e all) = went more le e all
 blocked frames broke = broke
 
 -- in a scope of its own
-pub scoped : {A : Type 0} (known : Known) {o : Outcome A} → Whole (in_new_frame known) o → Whole known (goes_on (left known.frames o) (λ r. gives r.0))
+pub scoped : {A : Type 0} (known : Known) {o : Outcome A} → Whole (in_new_block known) o → Whole known (goes_on (left known.frames o) (λ r. gives r.0))
 scoped known w = after (blocked known.frames w) (λ r k le. done k)
 
 -- a part of a node that begins here

@@ -7,7 +7,8 @@ use Rattle.lt_tree.specs.Typing.Steps.{Goes}
 use Rattle.lt_tree.specs.Typing.Expressions.{Typed, Use, used, fact_of}
 use Rattle.lt_objectives.specs.Places.{fact_among}
 use Rattle.lt_typed_nodes.specs.Laws.{AreOfNodes, ExpressionsAreNoted, FactsAreFound, NotesBetween, NotesBegunNodes, BegunNodesAreNoted, ExpressionsAreKnown}
-use Rattle.lt_typed_nodes.proofs.FactSteps.{all_joined, all_weaker, went, Whole, EndsAt, ended, entered}
+use Rattle.lt_typed_nodes.specs.Coming.{entered}
+use Rattle.lt_typed_nodes.proofs.FactSteps.{all_joined, all_weaker, went, Whole, EndsAt, ended}
 use Rattle.lt_typed_nodes.proofs.NotedExpressions.{of_expression}
 
 -- ---- lists of facts
@@ -35,6 +36,12 @@ facts_are_found before more later fact lower greater =
 
 pub begun_inside : (known : Known) → NotesBegunNodes known → NotesBegunNodes (entered known)
 begun_inside known begun = all_weaker (λ (fact : Fact). fact.node < known.next) (λ (fact : Fact). fact.node < known.next + 1) (λ fact less. omega (arith, less)) known.facts begun
+
+-- where as much is noted and the same node is next
+pub begun_as : (known other : Known) → other.next ≡ known.next → other.facts ≡ known.facts → NotesBegunNodes known → NotesBegunNodes other
+begun_as known other next facts begun =
+    subst (λ n. AllByRecursion (λ (fact : Fact). fact.node < n) other.facts) (sym next)
+    (subst (λ list. AllByRecursion (λ (fact : Fact). fact.node < known.next) list) (sym facts) begun)
 
 begun_between : (known behind : Known) → known.next ≤ behind.next → NotesBetween known behind → NotesBegunNodes known → NotesBegunNodes behind
 begun_between known behind le noted begun =

@@ -7,3 +7,5 @@ pub mod ReadTypes
 pub mod OperandTypes
 pub mod ComingSteps
 pub mod ComingToOperands
+pub mod ComingToItems
+pub mod KnownParts

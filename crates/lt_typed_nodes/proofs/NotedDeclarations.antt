@@ -17,8 +17,9 @@ use Rattle.lt_tree.specs.Typing.Declarators.{Declares}
 use Rattle.lt_tree.specs.Typing.Filling.{Run, Filling, opened, is_struct_of, is_character_array, is_too_long_for, letters_of, value_faults, text_in, filling_of, nothing_to_fill, list_faults}
 use Rattle.lt_tree.specs.Typing.InitialiserTyping.{Judges, literal_alone, filled_by, fill_value, value_initialiser, fill_text, initialiser_without_braces, filling_for, faults_of_list, initialiser, initialisers, with_length, whole_value, whole_text, whole_without_braces, listed_length, object_initialiser, initialiser_of_none}
 use Rattle.lt_tree.specs.Typing.Declaring.{Kind, a_type_name, a_function_name, an_object_of, kind_of, declaration_faults, with_declared, new_object, object_for, declare_object, length_faults}
-use Rattle.lt_tree.specs.Typing.DeclarationTyping.{no_object, started_object, declare, init_declarators, has_no_declarator, declaration_by}
-use Rattle.lt_typed_nodes.proofs.FactSteps.{Notes, Whole, entered, done, done_at, after, joined, node, part, judges, noted, whole, from_here}
+use Rattle.lt_tree.specs.Typing.DeclarationTyping.{no_object, started_object, declare, init_declarator, init_declarators, has_no_declarator, declaration_by}
+use Rattle.lt_typed_nodes.specs.Coming.{entered}
+use Rattle.lt_typed_nodes.proofs.FactSteps.{Notes, Whole, done, done_at, after, joined, node, part, judges, noted, whole, from_here}
 use Rattle.lt_typed_nodes.proofs.NotedExpressions.{of_expression, of_specifiers, of_declarator}
 
 -- ---- string literals
@@ -30,7 +31,7 @@ of_literal bytes known =
 
 -- ---- initialisers in lists
 
-of_fill_value : {at : ℕ} (is_static : Bool) (filling : Filling) (x : Typed) (runs : List Run) (known : Known)
+pub of_fill_value : {at : ℕ} (is_static : Bool) (filling : Filling) (x : Typed) (runs : List Run) (known : Known)
     → Notes at known.next known.facts (fill_value at is_static filling x known runs known)
 of_fill_value is_static filling x [] known = done known
 of_fill_value is_static filling x (run ∷ runs) known = after (judges (value_faults known is_static run.type x) known) (λ u k le. done k)
@@ -62,13 +63,13 @@ of_unbraced is_static filling e None known i = of_value is_static filling e know
 of_unbraced is_static filling e (Some bytes) known i = of_fill_text is_static filling e bytes (opened known is_character_array filling.left) known i
 
 mutual
-  of_initialiser : (it : c.Initialiser) (is_static : Bool) (filling : Filling) (known : Known) → Whole known (initialiser it is_static filling known)
+  pub of_initialiser : (it : c.Initialiser) (is_static : Bool) (filling : Filling) (known : Known) → Whole known (initialiser it is_static filling known)
   of_initialiser (c.Value e) is_static filling known = node known (λ i. of_unbraced is_static filling e (text_in e) (entered known) i)
   of_initialiser (c.Braces list) is_static filling known =
       node known (λ i. part (entered known) i (of_initialisers list is_static (filling_for (entered known) list filling.left) (entered known))
       (λ inner k i. after (judges (faults_of_list list inner filling.left) k) (λ u k le. done k)))
 
-  of_initialisers : (them : c.Initialisers) (is_static : Bool) (filling : Filling) (known : Known) → Whole known (initialisers them is_static filling known)
+  pub of_initialisers : (them : c.Initialisers) (is_static : Bool) (filling : Filling) (known : Known) → Whole known (initialisers them is_static filling known)
   of_initialisers c.no_initialisers is_static filling known = done known
   of_initialisers (c.an_initialiser first rest) is_static filling known = joined known (of_initialiser first is_static filling known) (λ next k. of_initialisers rest is_static next k)
 
@@ -115,11 +116,11 @@ of_no_object None known = done known
 of_no_object (Some i) known = after (of_initialiser_of_none i known) (λ u k le. done k)
 
 -- an object, a function and a name leave the number of the next node, and what is noted
-abbrev with_start_of : ℕ → Option Start → CType → Known → Option Object → Known
+abbrev pub with_start_of : ℕ → Option Start → CType → Known → Option Object → Known
 with_start_of n start t known None = known
 with_start_of n start t known (Some object) = record known { objects = slice_set known.objects n (record object { type = t; start = start }) }
 
-start_leaves : (n : ℕ) (start : Option Start) (t : CType) (known : Known) (found : Option Object)
+pub start_leaves : (n : ℕ) (start : Option Start) (t : CType) (known : Known) (found : Option Object)
     → ((with_start_of n start t known found).next ≡ known.next) × ((with_start_of n start t known found).facts ≡ known.facts)
 start_leaves n start t known None = (refl, refl)
 start_leaves n start t known (Some object) = (refl, refl)
@@ -136,7 +137,7 @@ declared_leaves name t known (Some u) = (refl, refl)
 pub function_leaves : (name : List ℕ) (t : CType) (known : Known) → ((with_declared name t known).next ≡ known.next) × ((with_declared name t known).facts ≡ known.facts)
 function_leaves name t known = declared_leaves name t known (declared_among name known.declared)
 
-of_started_object : (life : Life) (n : ℕ) (i : Option c.Initialiser) (known : Known) → Whole known (started_object life n i known)
+pub of_started_object : (life : Life) (n : ℕ) (i : Option c.Initialiser) (known : Known) → Whole known (started_object life n i known)
 of_started_object life n None known = done known
 of_started_object life n (Some i) known =
     after (of_object_initialiser i (is_static life) (type_of_object known n) length_faults known)
@@ -150,7 +151,7 @@ of_object_for : (life : Life) (at : ℕ) (name : List ℕ) (t : CType) (found : 
 of_object_for life at name t None known = done _
 of_object_for life at name t (Some n) known = of_linked_or_new (is_linked life) life at name t n known
 
-of_declare_object : (life : Life) (is_register : Bool) (at : ℕ) (name : List ℕ) (t : CType) (known : Known) → Whole known (declare_object life is_register at name t known)
+pub of_declare_object : (life : Life) (is_register : Bool) (at : ℕ) (name : List ℕ) (t : CType) (known : Known) → Whole known (declare_object life is_register at name t known)
 of_declare_object life is_register at name t known = after (of_object_for life at name t (linked_object name known) known) (λ n k le. done _)
 
 of_declare : (kind : Kind) (at : ℕ) (name : List ℕ) (t : CType) (i : Option c.Initialiser) (known : Known) → Whole known (declare kind at name t i known)
@@ -160,7 +161,7 @@ of_declare a_function_name at name t i known =
     let same = function_leaves name t known in from_here known there same.0 same.1 (of_no_object i there)
 of_declare (an_object_of life is_register) at name t i known = joined known (of_declare_object life is_register at name t known) (λ n k. of_started_object life n i k)
 
-abbrev declare_if_named : Specified → Declares → Option c.Initialiser → Known → Option (List ℕ) → Walk (List Local)
+abbrev pub declare_if_named : Specified → Declares → Option c.Initialiser → Known → Option (List ℕ) → Walk (List Local)
 declare_if_named s declared i known None = no_object i
 declare_if_named s declared i known (Some name) = declare (kind_of known s.storage declared.type) declared.node name declared.type i
 
@@ -169,12 +170,13 @@ of_declare_if_named : (s : Specified) (declared : Declares) (name : Option (List
 of_declare_if_named s declared None i known = of_no_object i known
 of_declare_if_named s declared (Some name) i known = of_declare (kind_of known s.storage declared.type) declared.node name declared.type i known
 
-of_init_declarators : (s : Specified) (them : List c.InitDeclarator) (known : Known) → Whole known (init_declarators s them known)
+pub of_init_declarator : (s : Specified) (d : c.InitDeclarator) (known : Known) → Whole known (init_declarator s d known)
+of_init_declarator s d known =
+    joined known (of_declarator d.declarator s false (declaration_faults s.storage (is_some d.initialiser)) known) (λ declared k. of_declare_if_named s declared declared.name d.initialiser k)
+
+pub of_init_declarators : (s : Specified) (them : List c.InitDeclarator) (known : Known) → Whole known (init_declarators s them known)
 of_init_declarators s [] known = done known
-of_init_declarators s (d ∷ ds) known =
-    joined known (joined known (of_declarator d.declarator s false (declaration_faults s.storage (is_some d.initialiser)) known)
-    (λ declared k. of_declare_if_named s declared declared.name d.initialiser k))
-    (λ first k. after (of_init_declarators s ds k) (λ rest k le. done k))
+of_init_declarators s (d ∷ ds) known = joined known (of_init_declarator s d known) (λ first k. after (of_init_declarators s ds k) (λ rest k le. done k))
 
 pub of_declaration_by : (effective : Option Storage → Option Storage) (d : c.Declaration) (known : Known) → Whole known (declaration_by effective d known)
 of_declaration_by effective d known =

@@ -17,7 +17,8 @@ use Rattle.lt_tree.specs.Typing.Specifying.{OpenStruct, Specified, is_register, 
 use Rattle.lt_tree.specs.Typing.Declarators.{Built, Declares, all_faults, is_written, setting_in_sizeof, type_name_faults, parameter_faults, binds_parameter, member_faults, with_member, has_width}
 use Rattle.lt_tree.specs.Typing.NodeEnds.{text_object, text_at, judge_unary, operand_of, also, end_of_declarator, enter_if, is_no_declarator, alone_faults}
 use Rattle.lt_tree.specs.Typing.ExpressionTyping.{expression, expressions, maybe, marks, mark, bindings, specifiers, type_specifiers, type_specifier, members, member_declarators, enumerators, declarator, parts, parameters, parameter_list}
-use Rattle.lt_typed_nodes.proofs.FactSteps.{Notes, Whole, EndsAt, entered, unmarked_here, in_new_frame, done, done_at, after, joined, node, part, rest_of, judges, at_node, whole, piece, operand, finished, with_labels, unmarked, scoped}
+use Rattle.lt_typed_nodes.specs.Coming.{entered, unmarked_here, in_new_block}
+use Rattle.lt_typed_nodes.proofs.FactSteps.{Notes, Whole, EndsAt, done, done_at, after, joined, node, part, rest_of, judges, at_node, whole, piece, operand, finished, with_labels, unmarked, scoped}
 
 -- ---- what notes nothing
 
@@ -199,7 +200,7 @@ mutual
   of_parts (c.Array length rest) t is_definition is_outermost known =
       joined known (of_maybe length known) (λ count k. after (of_parts rest t false false k) (λ inner k le. done k))
   of_parts (c.Function them rest) t is_definition is_outermost known =
-      joined known (scoped known (of_parameters them is_definition (in_new_frame known))) (λ found k. after (of_parts rest t false false k) (λ inner k le. done k))
+      joined known (scoped known (of_parameters them is_definition (in_new_block known))) (λ found k. after (of_parts rest t false false k) (λ inner k le. done k))
 
   of_parameters : (them : c.Parameters) (is_definition : Bool) (known : Known) → Whole known (parameters them is_definition known)
   of_parameters c.Unstated is_definition known = done known

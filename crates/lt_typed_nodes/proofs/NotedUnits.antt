@@ -13,29 +13,30 @@ use Rattle.lt_tree.specs.Typing.DeclarationTyping.{declaration, effective_in_for
 use Rattle.lt_tree.specs.Typing.StatementTyping.{Around, in_a_loop, in_a_switch, test_faults, optional_test_faults, optional_expression, optional_test, for_start, switch_type, Seen, is_new_case, with_case, case_value, labels, return_faults, statement, items, cases}
 use Rattle.lt_tree.specs.Typing.UnitTyping.{around_body, frame_of, external, externals}
 use Rattle.lt_typed_nodes.specs.Laws.{PartsNoteTheirNodes}
-use Rattle.lt_typed_nodes.proofs.FactSteps.{Whole, as_said, entered, unmarked_here, in_new_frame, done, after, joined, node, part, rest_of, judges, whole, unmarked, blocked, scoped, from_here, inner}
+use Rattle.lt_typed_nodes.specs.Coming.{entered, unmarked_here, in_new_block}
+use Rattle.lt_typed_nodes.proofs.FactSteps.{Whole, as_said, done, after, joined, node, part, rest_of, judges, whole, unmarked, blocked, scoped, from_here, inner}
 use Rattle.lt_typed_nodes.proofs.NotedExpressions.{of_expression, of_mark, of_specifiers, of_declarator}
 use Rattle.lt_typed_nodes.proofs.NotedDeclarations.{of_object_initialiser, function_leaves, of_declaration_by}
 
 -- ---- parts of statements
 
-of_declaration : (d : c.Declaration) (known : Known) → Whole known (declaration d known)
+pub of_declaration : (d : c.Declaration) (known : Known) → Whole known (declaration d known)
 of_declaration d known = of_declaration_by (λ class. class) d known
 
-of_optional : (it : Option c.Expression) (known : Known) → Whole known (optional_expression it known)
+pub of_optional : (it : Option c.Expression) (known : Known) → Whole known (optional_expression it known)
 of_optional None known = done known
 of_optional (Some it) known = after (whole known (of_expression it as_value known)) (λ x k le. done k)
 
-of_optional_test : (it : Option c.Expression) (known : Known) → Whole known (optional_test it known)
+pub of_optional_test : (it : Option c.Expression) (known : Known) → Whole known (optional_test it known)
 of_optional_test None known = done known
 of_optional_test (Some it) known = after (whole known (of_expression it as_truth known)) (λ x k le. done k)
 
-of_start : (start : c.ForStart) (known : Known) → Whole known (for_start start known)
+pub of_start : (start : c.ForStart) (known : Known) → Whole known (for_start start known)
 of_start c.Nothing known = done known
 of_start (c.First it) known = after (whole known (of_expression it as_value known)) (λ x k le. done k)
 of_start (c.Declares d) known = after (of_declaration_by effective_in_for d known) (λ it k le. done k)
 
-of_labels : (them : List c.Label) (s : Option Scalar) (seen : Seen) (known : Known) → Whole known (labels them s seen known)
+pub of_labels : (them : List c.Label) (s : Option Scalar) (seen : Seen) (known : Known) → Whole known (labels them s seen known)
 of_labels [] s seen known = done known
 of_labels (c.Case it ∷ rest) s seen known =
     node known (λ i. part (entered known) i (unmarked known.is_unmarked (whole (unmarked_here (entered known)) (of_expression it as_value (unmarked_here (entered known)))))
@@ -50,31 +51,31 @@ of_labels (c.Default ∷ rest) s seen known =
 mutual
   pub of_statement : (it : c.Statement) (around : Around) (known : Known) → Whole known (statement it around known)
   of_statement (c.Compound list) around known =
-      node known (λ i. part (entered known) i (scoped (entered known) (of_items list around (in_new_frame (entered known)))) (λ found k i. done k))
+      node known (λ i. part (entered known) i (scoped (entered known) (of_items list around (in_new_block (entered known)))) (λ found k i. done k))
   of_statement (c.Evaluates it) around known = node known (λ i. part (entered known) i (whole (entered known) (of_expression it as_value (entered known))) (λ x k i. done k))
   of_statement c.Null around known = node known (λ i. done (entered known))
   of_statement (c.If test body) around known =
-      let start = in_new_frame (entered known) in
-      node known (λ i. after (blocked known.frames (part start i (whole start (of_expression test as_truth start)) (λ x k i. part k i (scoped k (of_statement body around (in_new_frame k)))
+      let start = in_new_block (entered known) in
+      node known (λ i. after (blocked known.frames (part start i (whole start (of_expression test as_truth start)) (λ x k i. part k i (scoped k (of_statement body around (in_new_block k)))
       (λ first k i. after (judges (test_faults x) k) (λ u k le. done k))))) (λ r k le. done k))
   of_statement (c.IfElse test body other) around known =
-      let start = in_new_frame (entered known) in
-      node known (λ i. after (blocked known.frames (part start i (whole start (of_expression test as_truth start)) (λ x k i. part k i (scoped k (of_statement body around (in_new_frame k)))
-      (λ first k i. part k i (scoped k (of_statement other around (in_new_frame k))) (λ second k i. after (judges (test_faults x) k) (λ u k le. done k)))))) (λ r k le. done k))
+      let start = in_new_block (entered known) in
+      node known (λ i. after (blocked known.frames (part start i (whole start (of_expression test as_truth start)) (λ x k i. part k i (scoped k (of_statement body around (in_new_block k)))
+      (λ first k i. part k i (scoped k (of_statement other around (in_new_block k))) (λ second k i. after (judges (test_faults x) k) (λ u k le. done k)))))) (λ r k le. done k))
   of_statement (c.While test body) around known =
-      let start = in_new_frame (entered known) in
-      node known (λ i. after (blocked known.frames (part start i (whole start (of_expression test as_truth start)) (λ x k i. part k i (scoped k (of_statement body (in_a_loop around) (in_new_frame k)))
+      let start = in_new_block (entered known) in
+      node known (λ i. after (blocked known.frames (part start i (whole start (of_expression test as_truth start)) (λ x k i. part k i (scoped k (of_statement body (in_a_loop around) (in_new_block k)))
       (λ first k i. after (judges (test_faults x) k) (λ u k le. done k))))) (λ r k le. done k))
   of_statement (c.Do body test) around known =
-      let start = in_new_frame (entered known) in
-      node known (λ i. after (blocked known.frames (part start i (scoped start (of_statement body (in_a_loop around) (in_new_frame start))) (λ first k i. part k i (whole k (of_expression test as_truth k))
+      let start = in_new_block (entered known) in
+      node known (λ i. after (blocked known.frames (part start i (scoped start (of_statement body (in_a_loop around) (in_new_block start))) (λ first k i. part k i (whole k (of_expression test as_truth k))
       (λ x k i. after (judges (test_faults x) k) (λ u k le. done k))))) (λ r k le. done k))
   of_statement (c.For begin test step body) around known =
-      let start = in_new_frame (entered known) in
+      let start = in_new_block (entered known) in
       node known (λ i. after (blocked known.frames (part start i (of_start begin start) (λ b k i. part k i (of_optional_test test k) (λ x k i. part k i (of_optional step k)
-      (λ y k i. part k i (scoped k (of_statement body (in_a_loop around) (in_new_frame k))) (λ first k i. after (judges (b.faults ++ optional_test_faults x) k) (λ u k le. done k))))))) (λ r k le. done k))
+      (λ y k i. part k i (scoped k (of_statement body (in_a_loop around) (in_new_block k))) (λ first k i. after (judges (b.faults ++ optional_test_faults x) k) (λ u k le. done k))))))) (λ r k le. done k))
   of_statement (c.Switch operand list) around known =
-      let start = in_new_frame (entered known) in
+      let start = in_new_block (entered known) in
       node known (λ i. after (blocked known.frames (part start i (whole start (of_expression operand as_truth start))
       (λ x k i. part k i (of_cases list (switch_type k.model x) (record { values = []; has_default = false }) (in_a_switch around) k)
       (λ found k i. after (judges (test_faults x ++ unless (is_integer (own_type x)) bad_case) k) (λ u k le. done k))))) (λ r k le. done k))
@@ -92,15 +93,15 @@ mutual
   of_items (c.a_label first rest) around known =
       node known (λ i. part (entered known) i (of_mark first (entered known)) (λ m k i. part k i (of_items rest around k) (λ others k i. done k)))
 
-  of_cases : (them : c.Cases) (s : Option Scalar) (seen : Seen) (around : Around) (known : Known) → Whole known (cases them s seen around known)
+  pub of_cases : (them : c.Cases) (s : Option Scalar) (seen : Seen) (around : Around) (known : Known) → Whole known (cases them s seen around known)
   of_cases c.no_cases s seen around known = done known
   of_cases (c.a_case list first rest) s seen around known =
-      joined known (of_labels list s seen known) (λ it k. joined k (scoped k (of_statement first around (in_new_frame k))) (λ body k. after (of_cases rest s it.seen around k) (λ others k le. done k)))
+      joined known (of_labels list s seen known) (λ it k. joined k (scoped k (of_statement first around (in_new_block k))) (λ body k. after (of_cases rest s it.seen around k) (λ others k le. done k)))
 
 -- ---- units
 
 -- where a function is declared, and its body is in a scope of its own
-abbrev with_body : List ℕ → CType → Frame → Known → Known
+abbrev pub with_body : List ℕ → CType → Frame → Known → Known
 with_body name t frame known = let there = bind_name name a_function (with_declared name t known) in record there { frames = frame ∷ there.frames }
 
 pub of_external : (it : c.External) (known : Known) → Whole known (external it known)

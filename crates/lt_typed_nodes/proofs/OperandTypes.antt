@@ -16,7 +16,8 @@ use Rattle.lt_tree.specs.Typing.ExpressionTyping.{expression, expressions, marks
 use Rattle.lt_tree_laws.specs.Typing.NodeNumbers.{GoesOver, PartsAreNumbered}
 use Rattle.lt_objectives.specs.Places.{value_part, last_value_part, fact_among}
 use Rattle.lt_typed_nodes.specs.Laws.{NotesBegunNodes, IsReadAs, OperandsHaveTheirTypes}
-use Rattle.lt_typed_nodes.proofs.FactSteps.{Whole, EndsAt, ended, broke_off, entered, whole}
+use Rattle.lt_typed_nodes.specs.Coming.{entered}
+use Rattle.lt_typed_nodes.proofs.FactSteps.{Whole, EndsAt, ended, broke_off, whole}
 use Rattle.lt_typed_nodes.proofs.NotedExpressions.{of_expression, of_marks}
 use Rattle.lt_typed_nodes.proofs.ReadTypes.{values_have_their_types, read_twice}
 use Rattle.lt_typed_nodes.proofs.FoundFacts.{begun_inside, begun_behind, found_later}

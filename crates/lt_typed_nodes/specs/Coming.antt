@@ -1,15 +1,16 @@
 -- Where typing comes to in a unit whose typing goes on to its end: from an expression to its parts.
-use Rattle.std.specs.Prelude.{◌≡◌, ◌+◌, true, false, List, ◌++◌}
+use Rattle.std.specs.Prelude.{◌≡◌, ◌+◌, true, false, List, ◌∷◌, ◌++◌, Some}
 use Rattle.lt_tree.specs.Tree as c
-use Rattle.lt_tree.specs.Typing.Entities.{Known, Fact}
+use Rattle.lt_tree.specs.Typing.Entities.{Known, Fact, no_names}
 use Rattle.lt_tree.specs.Typing.Steps.{Outcome, Goes}
-use Rattle.lt_tree.specs.Typing.Expressions.{Use, as_value, as_truth, as_place, as_callee}
+use Rattle.lt_tree.specs.Typing.Expressions.{Typed, Use, as_value, as_truth, as_place, as_callee, own_type, used, fact_of}
 use Rattle.lt_tree.specs.Typing.MarkRules.{inside_mark, inside_after}
 use Rattle.lt_tree.specs.Typing.Specifying.{elsewhere}
 use Rattle.lt_tree.specs.Typing.Declarators.{type_name_faults}
 use Rattle.lt_tree.specs.Typing.NodeEnds.{operand_of}
 use Rattle.lt_tree.specs.Typing.ExpressionTyping.{expression, expressions, marks, specifiers, declarator}
-use Rattle.lt_typed_nodes.specs.Laws.{NotesBegunNodes}
+use Rattle.lt_objectives.specs.Places.{value_part, fact_among}
+use Rattle.lt_typed_nodes.specs.Laws.{NotesBegunNodes, IsReadAs}
 
 -- Typing comes to a part where this is known, and goes on behind it. Of these facts, which the program of the unit has in the end, the first are those
 -- that are noted by then.
@@ -28,6 +29,13 @@ Behind {A} o holds = (found : A) (behind : Known) → o ≡ Goes found behind �
 -- where a node is known: here its parts begin
 abbrev pub entered : Known → Known
 entered known = record known { next = known.next + 1 }
+
+-- where known is what stands in an expression without marks, or in a new block
+abbrev pub unmarked_here : Known → Known
+unmarked_here known = record known { is_unmarked = true }
+
+abbrev pub in_new_block : Known → Known
+in_new_block known = record known { frames = no_names ∷ known.frames }
 
 -- typing comes to an expression that is used so, and to expressions
 abbrev pub ComesToIt : List Fact → Known → Use → c.Expression → Type 0
@@ -56,7 +64,7 @@ ComesToOperands facts known role (c.PostDec target) = ComesToOne facts known as_
 ComesToOperands facts known role (c.PreInc target) = ComesToOne facts known as_place target
 ComesToOperands facts known role (c.PreDec target) = ComesToOne facts known as_place target
 ComesToOperands facts known role (c.Unary op operand) = ComesToOne facts known (operand_of op) operand
-ComesToOperands facts known role (c.SizeofExpr operand) = ComesToIt facts (record (entered known) { is_unmarked = true }) as_place operand
+ComesToOperands facts known role (c.SizeofExpr operand) = ComesToIt facts (unmarked_here (entered known)) as_place operand
 ComesToOperands facts known role (c.Cast s d operand) =
     Behind (specifiers s elsewhere (entered known)) (λ it k. Behind (declarator d it false (λ name known b. type_name_faults b) k) (λ t k. ComesToIt facts k as_value operand))
 ComesToOperands facts known role (c.Binary op left right) = ComesToTwo facts known as_value as_value left right
@@ -81,3 +89,12 @@ abbrev pub OperandsAreComeTo : Type 0
 OperandsAreComeTo =
     ((facts : List Fact) (known : Known) (role : Use) (it : c.Expression) → ComesToIt facts known role it → ComesToOperands facts known role it)
     × ((facts : List Fact) (known : Known) (them : c.Expressions) → ComesToAll facts known them → ComesToEach facts known them)
+
+-- The program knows of an expression to which typing comes what was found there; and of an operand, by the number of its value part, of which type its
+-- value is.
+abbrev pub WhatIsComeToIsKnown : Type 0
+WhatIsComeToIsKnown =
+    ((facts : List Fact) (known : Known) (role : Use) (it : c.Expression) (there : ComesToIt facts known role it)
+    → (y : Typed) × (there.found ≡ used role y) × (fact_among facts known.next ≡ Some (fact_of known.next y)))
+    × ((facts : List Fact) (known : Known) (it : c.Expression) (there : ComesToIt facts known as_value it)
+    → (fact : Fact) × (fact_among facts (value_part known.next it).number ≡ Some fact) × IsReadAs fact.type (own_type there.found))

@@ -1,7 +1,8 @@
 //! Laws of the typing of units; the functions do nothing.
 
 ghost use Rattle.lt_typed_nodes.specs.Laws.{PartsNoteTheirNodes, ExpressionsAreNoted, FactsAreFound, BegunNodesAreNoted, ExpressionsAreKnown, ValuesHaveTheirTypes, OperandsHaveTheirTypes};
-ghost use Rattle.lt_typed_nodes.specs.Coming.{OperandsAreComeTo};
+ghost use Rattle.lt_typed_nodes.specs.Coming.{OperandsAreComeTo, WhatIsComeToIsKnown};
+ghost use Rattle.lt_typed_nodes.specs.ComingItems.{UnitsAreComeTo, ExternalsAreComeTo, DeclarationsAreComeTo, InitialisersAreComeTo, StatementsAreComeTo};
 
 use lt_tree_laws::nodes_are_numbered;
 
@@ -30,7 +31,16 @@ pub fn operands_have_their_types()
     nodes_are_numbered();
 }
 
-/// Where typing comes to an expression, in a unit whose typing goes on to its end, it comes to its operands.
-pub fn operands_are_come_to()
-    ensures { OperandsAreComeTo }
-{}
+/// Typing comes to the externals of a unit that has a program, and where it comes to a part it comes to those of which
+/// that is made; the program knows what was found there.
+pub fn parts_are_come_to()
+    ensures units { UnitsAreComeTo }
+    ensures externals { ExternalsAreComeTo }
+    ensures declarations { DeclarationsAreComeTo }
+    ensures initialisers { InitialisersAreComeTo }
+    ensures statements { StatementsAreComeTo }
+    ensures operands { OperandsAreComeTo }
+    ensures known { WhatIsComeToIsKnown }
+{
+    nodes_are_numbered();
+}
