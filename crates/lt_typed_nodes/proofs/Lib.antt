@@ -9,3 +9,4 @@ pub mod ComingSteps
 pub mod ComingToOperands
 pub mod ComingToItems
 pub mod KnownParts
+pub mod Constants

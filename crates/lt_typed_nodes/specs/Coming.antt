@@ -10,7 +10,7 @@ use Rattle.lt_tree.specs.Typing.Declarators.{type_name_faults}
 use Rattle.lt_tree.specs.Typing.NodeEnds.{operand_of}
 use Rattle.lt_tree.specs.Typing.ExpressionTyping.{expression, expressions, marks, specifiers, declarator}
 use Rattle.lt_objectives.specs.Places.{value_part, fact_among}
-use Rattle.lt_typed_nodes.specs.Laws.{NotesBegunNodes, IsReadAs}
+use Rattle.lt_typed_nodes.specs.Laws.{NotesBegunNodes, StaysConstant, IsReadAs}
 
 -- Typing comes to a part where this is known, and goes on behind it. Of these facts, which the program of the unit has in the end, the first are those
 -- that are noted by then.
@@ -90,11 +90,11 @@ OperandsAreComeTo =
     ((facts : List Fact) (known : Known) (role : Use) (it : c.Expression) → ComesToIt facts known role it → ComesToOperands facts known role it)
     × ((facts : List Fact) (known : Known) (them : c.Expressions) → ComesToAll facts known them → ComesToEach facts known them)
 
--- The program knows of an expression to which typing comes what was found there; and of an operand, by the number of its value part, of which type its
--- value is.
+-- The program knows of an expression to which typing comes what was found there, and what constant it is, if it is one; and of an operand, by the number
+-- of its value part, of which type its value is.
 abbrev pub WhatIsComeToIsKnown : Type 0
 WhatIsComeToIsKnown =
     ((facts : List Fact) (known : Known) (role : Use) (it : c.Expression) (there : ComesToIt facts known role it)
-    → (y : Typed) × (there.found ≡ used role y) × (fact_among facts known.next ≡ Some (fact_of known.next y)))
+    → (y : Typed) × (there.found ≡ used role y) × (fact_among facts known.next ≡ Some (fact_of known.next y)) × StaysConstant there.found.constancy y.erased)
     × ((facts : List Fact) (known : Known) (it : c.Expression) (there : ComesToIt facts known as_value it)
     → (fact : Fact) × (fact_among facts (value_part known.next it).number ≡ Some fact) × IsReadAs fact.type (own_type there.found))

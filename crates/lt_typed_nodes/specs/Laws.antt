@@ -4,6 +4,7 @@ use Rattle.std.specs.List.{AllByRecursion}
 use Rattle.lt_model.specs.declared.scalar.DataModel.{DataModel}
 use Rattle.lt_tree.specs.Tree as c
 use Rattle.lt_tree.specs.Typing.Types.{CType, is_integer, is_pointer, is_array}
+use Rattle.lt_tree.specs.Typing.Constants.{Constancy, varying}
 use Rattle.lt_tree.specs.Typing.Entities.{Known, Fact, at_start}
 use Rattle.lt_tree.specs.Typing.Steps.{Outcome, Goes, Breaks}
 use Rattle.lt_tree.specs.Typing.Expressions.{Typed, Use, as_value, own_type, as_it_is_read, used, fact_of}
@@ -74,6 +75,16 @@ ExpressionsAreKnown =
     (it : c.Expression) (role : Use) (known behind : Known) (x : Typed) (later : List Fact)
     → NotesBegunNodes known → expression it role known ≡ Goes x behind
     → (y : Typed) × (x ≡ used role y) × (fact_among (behind.facts ++ later) known.next ≡ Some (fact_of known.next y))
+
+-- ---- constants
+
+-- If the first is a constant, so is the second, with the same value.
+abbrev pub StaysConstant : Constancy → Constancy → Type 0
+StaysConstant c d = (c ≡ varying) ⊎ (c ≡ d)
+
+-- An expression that is a constant with its marks is so without them.
+abbrev pub ConstantsStay : Type 0
+ConstantsStay = (it : c.Expression) (role : Use) (known behind : Known) (x : Typed) → expression it role known ≡ Goes x behind → StaysConstant x.constancy x.erased
 
 -- ---- types of operands
 

@@ -1,6 +1,6 @@
 //! Laws of the typing of units; the functions do nothing.
 
-ghost use Rattle.lt_typed_nodes.specs.Laws.{PartsNoteTheirNodes, ExpressionsAreNoted, FactsAreFound, BegunNodesAreNoted, ExpressionsAreKnown, ValuesHaveTheirTypes, OperandsHaveTheirTypes};
+ghost use Rattle.lt_typed_nodes.specs.Laws.{PartsNoteTheirNodes, ExpressionsAreNoted, FactsAreFound, BegunNodesAreNoted, ExpressionsAreKnown, ConstantsStay, ValuesHaveTheirTypes, OperandsHaveTheirTypes};
 ghost use Rattle.lt_typed_nodes.specs.Coming.{OperandsAreComeTo, WhatIsComeToIsKnown};
 ghost use Rattle.lt_typed_nodes.specs.ComingItems.{UnitsAreComeTo, ExternalsAreComeTo, DeclarationsAreComeTo, InitialisersAreComeTo, StatementsAreComeTo};
 
@@ -21,6 +21,11 @@ pub fn expressions_are_known()
     ensures facts { FactsAreFound }
     ensures begun_nodes { BegunNodesAreNoted }
     ensures expressions { ExpressionsAreKnown }
+{}
+
+/// An expression that is a constant with its marks is so without them, as is noted of it.
+pub fn constants_stay()
+    ensures { ConstantsStay }
 {}
 
 /// Values have the types that are noted of the expressions, without marks around them, of which they are.

@@ -4,6 +4,6 @@
 mod laws;
 
 pub use laws::{
-    expressions_are_known, expressions_are_noted, operands_have_their_types, parts_are_come_to,
-    parts_note_their_nodes,
+    constants_stay, expressions_are_known, expressions_are_noted, operands_have_their_types,
+    parts_are_come_to, parts_note_their_nodes,
 };
