@@ -62,7 +62,7 @@ ComesToDeclared facts known it d =
 
 -- ---- statements
 
--- behind an expression, in a block of its own, a statement
+-- to a statement that is a block of its own
 abbrev pub ComesToStatement : List Fact → Known → Around → c.Statement → Type 0
 ComesToStatement facts known around it = ComesTo facts (in_new_block known) (statement it around (in_new_block known))
 
