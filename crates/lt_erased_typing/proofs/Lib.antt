@@ -1,0 +1,12 @@
+mod Going
+mod Constants
+mod Operands
+mod Ends
+mod Conditions
+mod Operators
+mod BinaryOperators
+mod TypeNames
+mod Marks
+mod Commas
+mod Expressions
+mod Whole

@@ -1,0 +1,132 @@
+-- Type names whose types are known, and whose lengths are the same without marks.
+use Rattle.std.proofs.Common.{◌≡◌, ℕ, List, [], ◌∷◌, Option, Some, None, Bool, true, false, refl, sym, ap, ◌∙◌, subst}
+use Rattle.std.proofs.lemmas.Bool.{false≢true}
+use Rattle.std.specs.Prelude.{◌++◌, if◌then◌else◌, is_some, unwrap_or}
+use Rattle.lt_tree.specs.Tree as c
+use Rattle.lt_tree.specs.Erasure.{erased_types, erased_type, erased_specifiers}
+use Rattle.lt_tree.specs.Typing.Types.{CType, Pointer, Array, qualified, is_integer}
+use Rattle.lt_tree.specs.Typing.Constants.{Constancy, number, address}
+use Rattle.lt_tree.specs.Typing.Entities.{Known, Label, Tagged, a_struct, an_enum, tagged_in}
+use Rattle.lt_tree.specs.Typing.Steps.{Goes}
+use Rattle.lt_tree.specs.Typing.Expressions.{Typed, own_type, Judged}
+use Rattle.lt_tree.specs.Typing.Specifying.{Naming, Setting, alone, in_sizeof, elsewhere, is_alone, beside_words, struct_tagged, Specified, specified}
+use Rattle.lt_tree.specs.Typing.Declarators.{Built, built, Declares, declares, all_faults, type_name_faults, is_written, setting_in_sizeof, length_from, length_in, length_or_none, array_of, array_faults}
+use Rattle.lt_tree.specs.Typing.NodeEnds.{also, end_of_declarator}
+use Rattle.lt_tree.specs.Typing.ExpressionTyping.{type_specifiers, type_specifier, specifiers}
+use Rattle.lt_erased_typing.specs.Erasable.{AreKnown, AreKnownTypes, IsKnownType}
+use Rattle.lt_erased_typing.proofs.Going.{IsBeside, beside, Follows, goes, last}
+use Rattle.lt_erased_typing.proofs.Constants.{seen}
+use Rattle.lt_erased_typing.proofs.Operands.{BareValue, Bare, BareJudged, value_type_same}
+use Rattle.lt_erased_typing.proofs.Ends.{left_empty, right_empty, empty_both, settled}
+
+-- ---- specifiers
+
+pub written_somewhere : (name : Option (List ℕ)) (ps : c.Parts) → is_alone (setting_in_sizeof (c.declarator name ps)) ≡ false
+written_somewhere name ps = by (is_written name ps)
+  where
+    by : (b : Bool) → is_alone (if b then elsewhere else in_sizeof) ≡ false
+    by true = refl
+    by false = refl
+
+words_aside : (words : c.Words) (setting : Setting) → is_alone setting ≡ false → is_alone (beside_words words setting) ≡ false
+words_aside words alone h = absurd (false≢true (sym h))
+words_aside words in_sizeof h = refl
+words_aside words elsewhere h = refl
+
+-- the same comes of both
+abbrev pub AreSame : {A : Type 0} → A → A → Type 0
+AreSame a b = b ≡ a
+
+module _ {known : Known} {labels : List Label} where
+  struct_same : {k j : Known} (tag : List ℕ) (found : Option Tagged) → is_some found ≡ true → IsBeside known labels k j → Follows known labels (AreSame {A = Naming}) (struct_tagged tag found k) (struct_tagged tag found j)
+  struct_same tag None h b = absurd (false≢true h)
+  struct_same tag (Some (a_struct n)) h b = goes refl b
+  struct_same tag (Some (an_enum is_complete)) h b = goes refl b
+
+  type_same : {k j : Known} (it : c.TypeSpecifier) (setting : Setting) → is_alone setting ≡ false → IsKnownType k it → IsBeside known labels k j
+      → Follows known labels (AreSame {A = Naming}) (type_specifier it setting k) (type_specifier (erased_type it) setting j)
+  type_same (c.Basic type) setting a h b = goes refl b
+  type_same (c.Word word) setting a h b = goes refl b
+  type_same (c.StructTag tag) alone a h b = absurd (false≢true (sym a))
+  type_same (c.StructTag tag) in_sizeof a h beside = struct_same tag (tagged_in tag known.frames) h beside
+  type_same (c.StructTag tag) elsewhere a h beside = struct_same tag (tagged_in tag known.frames) h beside
+  type_same (c.Struct tag list) setting a h b = absurd h
+  type_same (c.EnumTag tag) setting a h beside = goes refl beside
+  type_same (c.Enum tag list) setting a h b = absurd h
+  type_same (c.Named name) setting a h beside = goes refl beside
+
+  known_still : {k j : Known} (types : c.TypeSpecifiers) {l i : Known} → AreKnownTypes k types → IsBeside known labels k j → IsBeside known labels l i → AreKnownTypes l types
+  known_still types h beside beside = h
+
+  types_same : {k j : Known} (them : c.TypeSpecifiers) (setting : Setting) → is_alone setting ≡ false → AreKnownTypes k them → IsBeside known labels k j
+      → Follows known labels (AreSame {A = List Naming}) (type_specifiers them setting k) (type_specifiers (erased_types them) setting j)
+  types_same c.no_types setting a h b = goes refl b
+  types_same (c.a_type first rest) setting a h b =
+      last (type_same first setting a h.0 b) (λ x y k j e s. last (types_same rest setting a (known_still rest h.1 b s) s) (λ xs ys k j f s. goes (ap (λ it. it ∷ ys) e ∙ ap (λ it. x ∷ it) f) s))
+
+  pub specifiers_same : {k j : Known} (it : c.Specifiers) (setting : Setting) → is_alone setting ≡ false → AreKnown k it → IsBeside known labels k j
+      → Follows known labels (AreSame {A = Specified}) (specifiers it setting k) (specifiers (erased_specifiers it) setting j)
+  specifiers_same (c.specifiers words types) setting a h b = last (types_same types (beside_words words setting) (words_aside words setting a) h b) (λ xs ys k j e s. goes (ap (specified words) e) s)
+
+-- ---- lengths
+
+abbrev length_of : CType → Constancy → Option ℕ
+length_of t c = elim c [ number z ↦ (if is_integer t then Some (length_from z) else None) | _ ↦ None ]
+
+length_seen : (t : CType) (c : Constancy) → length_of t (seen c) ≡ length_of t c
+length_seen t (address object offset) = refl
+length_seen t _ = refl
+
+-- a length is the same without its marks
+pub length_same : {x y : Typed} → BareValue x y → x.constancy ≡ x.erased → length_in y ≡ length_in x
+length_same {x} {y} p h =
+    ap (λ t. length_of t y.constancy) (value_type_same p)
+    ∙ sym (length_seen (own_type x) y.constancy) ∙ ap (length_of (own_type x)) (p.constancy.sees.bare ∙ ap seen (sym h)) ∙ length_seen (own_type x) x.constancy
+
+abbrev pub AreSameLengths : Option Typed → Option Typed → Type 0
+AreSameLengths n m = (is_outermost : Bool) → length_or_none is_outermost m ≡ length_or_none is_outermost n
+
+-- ---- declarators
+
+-- where the first breaks no rule, the second is of the same type and breaks none
+abbrev pub AreBuiltAlike : Built → Built → Type 0
+AreBuiltAlike x y = x.faults ≡ [] → (y.faults ≡ []) × (y.type ≡ x.type)
+
+abbrev pub DeclareAlike : Declares → Declares → Type 0
+DeclareAlike x y = x.faults ≡ [] → (y.faults ≡ []) × (y.type ≡ x.type)
+
+pub pointers_alike : (qualifiers : c.Qualifiers) (x y : Built) → AreBuiltAlike x y → AreBuiltAlike (built (qualified qualifiers (Pointer x.type)) x.faults) (built (qualified qualifiers (Pointer y.type)) y.faults)
+pointers_alike qualifiers x y h = λ r. ((h r).0, ap (λ t. qualified qualifiers (Pointer t)) (h r).1)
+
+names_by : (it : Specified) (x y : Built) → AreBuiltAlike x y → all_faults it x (type_name_faults x) ≡ [] → (all_faults it y (type_name_faults y) ≡ []) × (y.type ≡ x.type)
+names_by it x y h r =
+    let front = left_empty (it.faults ++ x.faults) (type_name_faults x) r in
+    let both = h (right_empty it.faults x.faults front) in (
+      empty_both (it.faults ++ y.faults) (type_name_faults y) (empty_both it.faults y.faults (left_empty it.faults x.faults front) both.0) (lengths y.type x.type both.1 (right_empty (it.faults ++ x.faults) (type_name_faults x) r)),
+      both.1,
+    )
+  where
+    lengths : (t u : CType) → t ≡ u → type_name_faults (built u []) ≡ [] → type_name_faults (built t []) ≡ []
+    lengths t u e g = ap (λ it. type_name_faults (built it [])) e ∙ g
+
+module _ {known : Known} {labels : List Label} where
+  pub arrays_alike : {k j : Known} {n m : Option ℕ} (x y : Built) → IsBeside known labels k j → m ≡ n → AreBuiltAlike x y → AreBuiltAlike (array_of k n x) (array_of j m y)
+  arrays_alike {n = n} {m = m} x y beside e h = λ r.
+      let front = left_empty (array_faults known.structs n x.type) x.faults r in
+      let both = h (right_empty (array_faults known.structs n x.type) x.faults r) in (
+        empty_both (array_faults known.structs m y.type) y.faults (ap (λ it. array_faults known.structs it y.type) e ∙ ap (array_faults known.structs n) both.1 ∙ front) both.0,
+        ap (λ it. Array y.type (unwrap_or it 0)) e ∙ ap (λ t. Array t (unwrap_or n 0)) both.1,
+      )
+
+  pub written_alike : {k j : Known} (it : Specified) (name : Option (List ℕ)) (n m : ℕ) (x y : Built) → AreBuiltAlike x y → IsBeside known labels k j
+      → Follows known labels DeclareAlike (end_of_declarator (Some n) name x (all_faults it x (type_name_faults x)) k) (end_of_declarator (Some m) name y (all_faults it y (type_name_faults y)) j)
+  written_alike it name n m x y h b =
+      settled (λ u k. Goes (declares n name x []) k) (λ u k. Goes (declares m name y []) k) n m (all_faults it x (type_name_faults x)) (all_faults it y (type_name_faults y))
+      (λ r. let both = names_by it x y h r in (both.0, goes (λ g. (refl, both.1)) b))
+
+-- a rule of the type name, and those of the operator
+pub also_bare : (f g : CType → Judged) (x y : Declares) → DeclareAlike x y → ((t : CType) → BareJudged (f t) (g t)) → BareJudged (also x.faults (f x.type)) (also y.faults (g y.type))
+also_bare f g x y h d = λ r.
+    let both = h (left_empty x.faults (f x.type).faults r) in
+    let ends = d x.type (right_empty x.faults (f x.type).faults r) in
+    subst (λ t. (y.faults ++ (g t).faults ≡ []) × Bare (f x.type).typed (g t).typed) (sym both.1) (empty_both y.faults (g x.type).faults both.0 ends.0, ends.1)

@@ -1,0 +1,37 @@
+-- That pure expressions are typed without their marks as they are with them.
+use Rattle.std.specs.Prelude.{◌≡◌, ℕ, true, List}
+use Rattle.lt_model.specs.declared.operator.Op.{Op}
+use Rattle.lt_tree.specs.Tree as c
+use Rattle.lt_tree.specs.Erasure.{erased}
+use Rattle.lt_tree.specs.Typing.Entities.{Known, Label, Fact}
+use Rattle.lt_tree.specs.Typing.Steps.{Goes}
+use Rattle.lt_tree.specs.Typing.Expressions.{Typed, as_value, as_truth, own_type}
+use Rattle.lt_tree.specs.Typing.ExpressionTyping.{expression}
+use Rattle.lt_objectives.specs.Objectives.{is_core}
+use Rattle.lt_erased_typing.specs.Erasable.{CanBeErased, at, entered}
+
+-- Where the typing of an expression goes on, marks of which can be taken off, so does the typing of the expression without its marks: with the same type,
+-- and it finds nothing but facts.
+abbrev pub PureExpressionsAreTypedWithoutMarks : Type 0
+PureExpressionsAreTypedWithoutMarks =
+    (known next : Known) (e : c.Expression) (x : Typed) → CanBeErased as_value known e → expression e as_value known ≡ Goes x next
+    → (y : Typed) × (n : ℕ) × (facts : List Fact) × (expression (erased e) as_value known ≡ Goes y (record known { next = n; facts = facts })) × (own_type y ≡ own_type x)
+
+-- So it does where other labels and facts are known, and nodes have other numbers.
+abbrev pub TheyAreTypedBesideOtherMarks : Type 0
+TheyAreTypedBesideOtherMarks =
+    (known next : Known) (e : c.Expression) (x : Typed) → CanBeErased as_value known e → expression e as_value known ≡ Goes x next
+    → (n : ℕ) (labels : List Label) (facts : List Fact)
+    → (y : Typed) × (m : ℕ) × (others : List Fact) × (expression (erased e) as_value (at known n labels facts) ≡ Goes y (at known m labels others)) × (own_type y ≡ own_type x)
+
+-- The operands of an operator have their types without marks too.
+abbrev pub OperandsKeepTheirTypes : Type 0
+OperandsKeepTheirTypes =
+    (known next last : Known) (op : Op) (left right : c.Expression) (x y : Typed) → CanBeErased as_value known (c.Binary op left right)
+    → expression left as_value (entered known) ≡ Goes x next → expression right as_value next ≡ Goes y last
+    → (z w : Typed) (k j : Known) → expression (erased left) as_value (entered known) ≡ Goes z k → expression (erased right) as_value k ≡ Goes w j
+    → (own_type z ≡ own_type x) × (own_type w ≡ own_type y)
+
+-- Where its truth is used, an expression that isn't behind marks is typed as where its value is.
+abbrev pub TruthsAreTypedAsValues : Type 0
+TruthsAreTypedAsValues = (known : Known) (e : c.Expression) → is_core e ≡ true → expression e as_truth known ≡ expression e as_value known

@@ -1,0 +1,2 @@
+pub mod Erasable
+pub mod Laws

@@ -1,0 +1,19 @@
+//! Laws of the definitions; the functions do nothing.
+
+ghost use Rattle.lt_erased_typing.specs.Laws.{OperandsKeepTheirTypes, PureExpressionsAreTypedWithoutMarks, TheyAreTypedBesideOtherMarks, TruthsAreTypedAsValues};
+
+/// A pure expression is typed without its marks where it is typed with them, if they hide nothing from an operator.
+pub fn pure_expressions_are_typed_without_marks()
+    ensures here { PureExpressionsAreTypedWithoutMarks }
+    ensures beside_other_marks { TheyAreTypedBesideOtherMarks }
+{}
+
+/// The operands of an operator have the same types without their marks.
+pub fn operands_keep_their_types()
+    ensures { OperandsKeepTheirTypes }
+{}
+
+/// An expression that isn't behind marks is typed alike where its truth or its value is used.
+pub fn truths_are_typed_as_values()
+    ensures { TruthsAreTypedAsValues }
+{}

@@ -1,0 +1,8 @@
+// Pure expressions are typed without their marks: `specs/Erasable.antt` says where marks can be taken off, `specs/Laws.antt` what typing makes of what is left.
+#![tactic(auto)]
+
+mod laws;
+
+pub use laws::{
+    operands_keep_their_types, pure_expressions_are_typed_without_marks, truths_are_typed_as_values,
+};
