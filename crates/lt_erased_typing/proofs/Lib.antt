@@ -10,3 +10,4 @@ mod Marks
 mod Commas
 mod Expressions
 mod Whole
+mod Examples

@@ -1,2 +1,3 @@
 pub mod Erasable
+pub mod Examples
 pub mod Laws

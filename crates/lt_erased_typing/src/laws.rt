@@ -1,5 +1,6 @@
 //! Laws of the definitions; the functions do nothing.
 
+ghost use Rattle.lt_erased_typing.specs.Examples.{MarksHideOperands};
 ghost use Rattle.lt_erased_typing.specs.Laws.{OperandsKeepTheirTypes, PureExpressionsAreTypedWithoutMarks, TheyAreTypedBesideOtherMarks, TruthsAreTypedAsValues};
 
 /// A pure expression is typed without its marks where it is typed with them, if they hide nothing from an operator.
@@ -16,4 +17,9 @@ pub fn operands_keep_their_types()
 /// An expression that isn't behind marks is typed alike where its truth or its value is used.
 pub fn truths_are_typed_as_values()
     ensures { TruthsAreTypedAsValues }
+{}
+
+/// Texts that are typed with marks, and not without them, or with another type.
+pub fn marks_hide_operands()
+    ensures { MarksHideOperands }
 {}

@@ -4,5 +4,6 @@
 mod laws;
 
 pub use laws::{
-    operands_keep_their_types, pure_expressions_are_typed_without_marks, truths_are_typed_as_values,
+    marks_hide_operands, operands_keep_their_types, pure_expressions_are_typed_without_marks,
+    truths_are_typed_as_values,
 };
