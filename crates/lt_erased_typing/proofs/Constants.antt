@@ -33,9 +33,20 @@ pub record Sees (c d p : Constancy) : Type 0 where
   pub bare : seen p ≡ seen d
   pub hidden : (seen c ≡ seen d) ⊎ (seen c ≡ varying)
 
+-- an integer's constancy
+abbrev pub is_integral : Constancy → Bool
+is_integral (number z) = true
+is_integral faulty = true
+is_integral varying = true
+is_integral _ = false
+
+pub integral_seen : (c : Constancy) → is_integral c ≡ true → seen c ≡ c
+integral_seen (address object offset) h = absurd (false≢true h)
+integral_seen _ h = refl
+
 -- an integer isn't an address, and a pointer no number
 pub record IsOf (t : CType) (c : Constancy) : Type 0 where
-  pub integer : is_integer t ≡ true → seen c ≡ c
+  pub integer : is_integer t ≡ true → is_integral c ≡ true
   pub pointer : is_pointer t ≡ true → is_form c ≡ false
 
 -- ---- operators that don't see addresses
@@ -93,15 +104,15 @@ applied_varies m op s null_constant = refl
 applied_varies m op s null_address = refl
 applied_varies m op s (address object offset) = refl
 
-fault_plain : (r : Result ℤ Ub) → seen (value_or_fault r) ≡ value_or_fault r
+fault_plain : (r : Result ℤ Ub) → is_integral (value_or_fault r) ≡ true
 fault_plain (Ok z) = refl
 fault_plain (Err kind) = refl
 
-form_plain : (b : Bool) → seen (if b then faulty else varying) ≡ (if b then faulty else varying)
+form_plain : (b : Bool) → is_integral (if b then faulty else varying) ≡ true
 form_plain true = refl
 form_plain false = refl
 
-applied_plain : (m : DataModel) (op : Op) (s : Scalar) (a b : Constancy) → seen (applied m op s a b) ≡ applied m op s a b
+applied_plain : (m : DataModel) (op : Op) (s : Scalar) (a b : Constancy) → is_integral (applied m op s a b) ≡ true
 applied_plain m op s (number a) (number b) = fault_plain _
 applied_plain m op s (number a) varying = refl
 applied_plain m op s (number a) faulty = refl
@@ -114,7 +125,7 @@ applied_plain m op s null_constant b = refl
 applied_plain m op s null_address b = refl
 applied_plain m op s (address object offset) b = refl
 
-converted_plain : (m : DataModel) (s : Scalar) (c : Constancy) → seen (converted m s c) ≡ converted m s c
+converted_plain : (m : DataModel) (s : Scalar) (c : Constancy) → is_integral (converted m s c) ≡ true
 converted_plain m s (number z) = refl
 converted_plain m s faulty = refl
 converted_plain m s varying = refl
@@ -122,7 +133,7 @@ converted_plain m s null_constant = refl
 converted_plain m s null_address = refl
 converted_plain m s (address object offset) = refl
 
-negated_plain : (c : Constancy) → seen (negated c) ≡ negated c
+negated_plain : (c : Constancy) → is_integral (negated c) ≡ true
 negated_plain (number z) = refl
 negated_plain faulty = refl
 negated_plain varying = refl
@@ -130,8 +141,7 @@ negated_plain null_constant = refl
 negated_plain null_address = refl
 negated_plain (address object offset) = refl
 
--- an integer's constancy
-number_of : (t : CType) {c : Constancy} → is_pointer t ≡ false → seen c ≡ c → IsOf t c
+number_of : (t : CType) {c : Constancy} → is_pointer t ≡ false → is_integral c ≡ true → IsOf t c
 number_of t h e = record { integer = λ i. e; pointer = λ p. absurd (false≢true (sym h ∙ p)) }
 
 module _ (m : DataModel) (s : Scalar) where
@@ -182,11 +192,11 @@ connected_varies settled null_constant = refl
 connected_varies settled null_address = refl
 connected_varies settled (address object offset) = refl
 
-settled_plain : (b : Bool) (c d : Constancy) → seen (if b then negated c else negated d) ≡ (if b then negated c else negated d)
+settled_plain : (b : Bool) (c d : Constancy) → is_integral (if b then negated c else negated d) ≡ true
 settled_plain true c d = negated_plain c
 settled_plain false c d = negated_plain d
 
-connected_plain : (settled : ℤ → Bool) (a b : Constancy) → seen (connected settled a b) ≡ connected settled a b
+connected_plain : (settled : ℤ → Bool) (a b : Constancy) → is_integral (connected settled a b) ≡ true
 connected_plain settled (number z) (number y) = settled_plain (settled z) (negated (number z)) (negated (number y))
 connected_plain settled (number z) faulty = settled_plain (settled z) (negated (number z)) (negated faulty)
 connected_plain settled (number z) varying = refl
@@ -255,7 +265,7 @@ pointer_seen : (t : CType) (c : Constancy) → seen (constancy_as_pointer t (see
 pointer_seen t (address object offset) = refl
 pointer_seen t _ = refl
 
-truth_plain : (c : Constancy) (m : DataModel) → seen (constancy_as_number m S.Bool c) ≡ constancy_as_number m S.Bool c
+truth_plain : (c : Constancy) (m : DataModel) → is_integral (constancy_as_number m S.Bool c) ≡ true
 truth_plain varying m = refl
 truth_plain faulty m = refl
 truth_plain (number z) m = refl
@@ -263,7 +273,7 @@ truth_plain null_constant m = refl
 truth_plain null_address m = refl
 truth_plain (address object offset) m = refl
 
-number_plain : (m : DataModel) (s : Scalar) (c : Constancy) → seen (constancy_as_number m s c) ≡ constancy_as_number m s c
+number_plain : (m : DataModel) (s : Scalar) (c : Constancy) → is_integral (constancy_as_number m s c) ≡ true
 number_plain m s (number z) = refl
 number_plain m s faulty = refl
 number_plain m S.Bool c = truth_plain c m

@@ -20,7 +20,7 @@ use Rattle.lt_tree.specs.Typing.Specifying.{Specified, elsewhere}
 use Rattle.lt_tree.specs.Typing.Declarators.{Built, built, type_name_faults, setting_in_sizeof}
 use Rattle.lt_tree.specs.Typing.ExpressionTyping.{expression, expressions, maybe, marks, parts, specifiers, declarator}
 use Rattle.lt_erased_typing.specs.Erasable.{CanBeErased, CanEachBeErased, CanLengthsBeErased, CanPartsBeErased, CanLengthBeErased, Behind, entered}
-use Rattle.lt_erased_typing.proofs.Going.{IsBeside, beside, Follows, goes, breaks, bind, last, only, around, so, entered_beside, entered_first, found_beside, constant_beside, constant_walk, also_behind, behind_anything}
+use Rattle.lt_erased_typing.proofs.Going.{IsBeside, beside, Follows, goes, breaks, bind, last, only, around, so, entered_beside, entered_first, found_beside, constant_beside, constant_walk, behind_anything}
 use Rattle.lt_erased_typing.proofs.Operands.{BareValue, BareAs}
 use Rattle.lt_erased_typing.proofs.Ends.{finished, finished_alone, labelled, label_beside, stops, unfinished}
 use Rattle.lt_erased_typing.proofs.Going as going
@@ -164,8 +164,8 @@ mutual
       bind (of_expression first as_value refl b h.0) h.1 (λ x y k j p s g. last (of_expressions rest s g) (λ xs ys k j ps s. goes (one_bare p ps) s))
 
   of_maybe : {known : Known} {labels : List Label} {k j : Known} (it : c.Maybe) → IsBeside known labels k j → CanLengthBeErased k it → Follows known labels AreSameLengths (maybe it k) (maybe (erased_maybe it) j)
-  of_maybe c.absent b h = goes (λ o. refl) b
-  of_maybe (c.present it) b h = last (constant_walk b (also_behind (of_expression it as_value refl (constant_beside b) h.0) h.1)) (λ x y k j p s. goes (λ o. length_same p.0 p.1) s)
+  of_maybe c.absent b h = goes (λ o l. refl) b
+  of_maybe (c.present it) b h = last (constant_walk b (of_expression it as_value refl (constant_beside b) h)) (λ x y k j p s. goes (λ o l. length_same p l) s)
 
   of_parts : {known : Known} {labels : List Label} {k j : Known} (them : c.Parts) (t : CType) (is_outermost : Bool) → IsBeside known labels k j → CanPartsBeErased k them
       → Follows known labels AreBuiltAlike (parts them t false is_outermost k) (parts (erased_parts them) t false is_outermost j)

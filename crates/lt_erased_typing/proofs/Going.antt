@@ -73,11 +73,6 @@ module _ {known : Known} {labels : List Label} where
   constant_walk beside (goes r s) = goes r (unmarked_beside s)
   constant_walk beside breaks = breaks
 
-  -- what holds of what the first goes to
-  pub also_behind : {A B : Type 0} {R : A → B → Type 0} {P : A → Type 0} {o : Outcome A} {p : Outcome B} → Follows known labels R o p → Behind o (λ a k. P a) → Follows known labels (λ a b. R a b × P a) o p
-  also_behind (goes r s) h = goes (r, h) s
-  also_behind breaks h = breaks
-
   -- more numbers on one side
   pub entered_first : {k j : Known} → IsBeside known labels k j → IsBeside known labels (entered k) j
   entered_first beside = beside

@@ -21,7 +21,7 @@ use Rattle.lt_tree.specs.Typing.Expressions.{Form, Typed, Use, constant, placed,
 use Rattle.lt_tree.specs.Typing.Operations.{judge_name, judge_constant, judge_plus, judge_minus, judge_complement, judge_not, judge_address_of, judge_dereference, judge_member, judge_arrow, judge_part, judge_index, judge_size, judge_cast, object_named, lives_from_the_start, constant_address, target_in, member_in, pointer_among, other_among, element_size, object_size, is_callee}
 use Rattle.lt_tree.specs.Typing.NodeEnds.{judge_unary, operand_of}
 use Rattle.lt_erased_typing.proofs.Going.{IsBeside, beside}
-use Rattle.lt_erased_typing.proofs.Constants.{seen, Sees, IsOf, sees_itself, sees_plain, converted_sees, converted_is, from_zero_sees, turned_sees, applied_is, negated_sees, negated_is, conversion_varies, conversion_is, pointer_sees, moved_seen, zero_more}
+use Rattle.lt_erased_typing.proofs.Constants.{seen, integral_seen, Sees, IsOf, sees_itself, sees_plain, converted_sees, converted_is, from_zero_sees, turned_sees, applied_is, negated_sees, negated_is, conversion_varies, conversion_is, pointer_sees, moved_seen, zero_more}
 use Rattle.lt_erased_typing.proofs.Operands.{AreValues, values, ArePlaces, places, BareValue, BarePlace, Bare, a_bare_value, a_bare_place, BareTruth, BareAs, BareJudged, value_type_same, type_same, lvalue_same, register_same, kin_pointer, bare_valued}
 use Rattle.lt_erased_typing.proofs.Ends.{unless_true, true_unless}
 use Rattle.lt_erased_typing.proofs.Conditions.{cast_integer, cast_more, and_first, and_second, both_true}
@@ -256,7 +256,7 @@ module _ {x y : Typed} where
       by : (b : Bool) → is_integer (unqualified t) ≡ b → Sees (constancy_to m (unqualified t) x.constancy) (constancy_to m (unqualified t) x.erased) (constancy_to m (unqualified t) y.constancy)
       by true i =
           let n = cast_integer t (own_type x) x.constancy h i in
-          sees_plain (constancy_to m (unqualified t)) (conversion_varies m (unqualified t)) (p.constancy.marked.integer n) (p.constancy.erasure.integer n) (p.constancy.bare.integer n) p.constancy.sees
+          sees_plain (constancy_to m (unqualified t)) (conversion_varies m (unqualified t)) (integral_seen x.constancy (p.constancy.marked.integer n)) (integral_seen x.erased (p.constancy.erasure.integer n)) (integral_seen y.constancy (p.constancy.bare.integer n)) p.constancy.sees
       by false i = pointer_sees m (unqualified t) i p.constancy.sees
 
 module _ {known : Known} {labels : List Label} {x y : Typed} where

@@ -1,23 +1,25 @@
 -- Type names whose types are known, and whose lengths are the same without marks.
-use Rattle.std.proofs.Common.{◌≡◌, ℕ, List, [], ◌∷◌, Option, Some, None, Bool, true, false, refl, sym, ap, ◌∙◌, subst}
+use Rattle.std.proofs.Common.{◌≡◌, ℕ, List, [], ◌∷◌, Option, Some, None, Bool, true, false, refl, sym, ap, ◌∙◌, subst, inl, inr}
 use Rattle.std.proofs.lemmas.Bool.{false≢true}
-use Rattle.std.specs.Prelude.{◌++◌, if◌then◌else◌, is_some, unwrap_or}
+use Rattle.std.specs.Prelude.{◌⊎◌, ◌++◌, if◌then◌else◌, is_some, unwrap_or}
 use Rattle.lt_tree.specs.Tree as c
 use Rattle.lt_tree.specs.Erasure.{erased_types, erased_type, erased_specifiers}
-use Rattle.lt_tree.specs.Typing.Types.{CType, Pointer, Array, qualified, is_integer}
-use Rattle.lt_tree.specs.Typing.Constants.{Constancy, number, address}
+use Rattle.lt_tree.specs.Typing.Types.{CType, Pointer, Array, qualified, is_integer, is_function}
+use Rattle.lt_tree.specs.Typing.Extents.{Structs, has_too_many_cells}
+use Rattle.lt_tree.specs.Typing.Constants.{Constancy, number, varying, address}
+use Rattle.lt_tree.specs.Typing.Rules.{broken_if, unless, incomplete_type, function_as_value, bad_length}
 use Rattle.lt_tree.specs.Typing.Entities.{Known, Label, Tagged, a_struct, an_enum, tagged_in}
 use Rattle.lt_tree.specs.Typing.Steps.{Goes}
 use Rattle.lt_tree.specs.Typing.Expressions.{Typed, own_type, Judged}
 use Rattle.lt_tree.specs.Typing.Specifying.{Naming, Setting, alone, in_sizeof, elsewhere, is_alone, beside_words, struct_tagged, Specified, specified}
-use Rattle.lt_tree.specs.Typing.Declarators.{Built, built, Declares, declares, all_faults, type_name_faults, is_written, setting_in_sizeof, length_from, length_in, length_or_none, array_of, array_faults}
+use Rattle.lt_tree.specs.Typing.Declarators.{Built, built, Declares, declares, all_faults, type_name_faults, is_written, setting_in_sizeof, length_from, length_in, length_or_none, array_of, array_faults, is_length, is_incomplete}
 use Rattle.lt_tree.specs.Typing.NodeEnds.{also, end_of_declarator}
 use Rattle.lt_tree.specs.Typing.ExpressionTyping.{type_specifiers, type_specifier, specifiers}
 use Rattle.lt_erased_typing.specs.Erasable.{AreKnown, AreKnownTypes, IsKnownType}
 use Rattle.lt_erased_typing.proofs.Going.{IsBeside, beside, Follows, goes, last}
 use Rattle.lt_erased_typing.proofs.Constants.{seen}
 use Rattle.lt_erased_typing.proofs.Operands.{BareValue, Bare, BareJudged, value_type_same}
-use Rattle.lt_erased_typing.proofs.Ends.{left_empty, right_empty, empty_both, settled}
+use Rattle.lt_erased_typing.proofs.Ends.{left_empty, right_empty, empty_both, settled, unless_true}
 
 -- ---- specifiers
 
@@ -43,7 +45,7 @@ module _ {known : Known} {labels : List Label} where
   struct_same tag (Some (a_struct n)) h b = goes refl b
   struct_same tag (Some (an_enum is_complete)) h b = goes refl b
 
-  type_same : {k j : Known} (it : c.TypeSpecifier) (setting : Setting) → is_alone setting ≡ false → IsKnownType k it → IsBeside known labels k j
+  type_same : {k j : Known} (it : c.TypeSpecifier) (setting : Setting) → is_alone setting ≡ false → IsKnownType k.frames it → IsBeside known labels k j
       → Follows known labels (AreSame {A = Naming}) (type_specifier it setting k) (type_specifier (erased_type it) setting j)
   type_same (c.Basic type) setting a h b = goes refl b
   type_same (c.Word word) setting a h b = goes refl b
@@ -55,16 +57,16 @@ module _ {known : Known} {labels : List Label} where
   type_same (c.Enum tag list) setting a h b = absurd h
   type_same (c.Named name) setting a h beside = goes refl beside
 
-  known_still : {k j : Known} (types : c.TypeSpecifiers) {l i : Known} → AreKnownTypes k types → IsBeside known labels k j → IsBeside known labels l i → AreKnownTypes l types
+  known_still : {k j : Known} (types : c.TypeSpecifiers) {l i : Known} → AreKnownTypes k.frames types → IsBeside known labels k j → IsBeside known labels l i → AreKnownTypes l.frames types
   known_still types h beside beside = h
 
-  types_same : {k j : Known} (them : c.TypeSpecifiers) (setting : Setting) → is_alone setting ≡ false → AreKnownTypes k them → IsBeside known labels k j
+  types_same : {k j : Known} (them : c.TypeSpecifiers) (setting : Setting) → is_alone setting ≡ false → AreKnownTypes k.frames them → IsBeside known labels k j
       → Follows known labels (AreSame {A = List Naming}) (type_specifiers them setting k) (type_specifiers (erased_types them) setting j)
   types_same c.no_types setting a h b = goes refl b
   types_same (c.a_type first rest) setting a h b =
       last (type_same first setting a h.0 b) (λ x y k j e s. last (types_same rest setting a (known_still rest h.1 b s) s) (λ xs ys k j f s. goes (ap (λ it. it ∷ ys) e ∙ ap (λ it. x ∷ it) f) s))
 
-  pub specifiers_same : {k j : Known} (it : c.Specifiers) (setting : Setting) → is_alone setting ≡ false → AreKnown k it → IsBeside known labels k j
+  pub specifiers_same : {k j : Known} (it : c.Specifiers) (setting : Setting) → is_alone setting ≡ false → AreKnown k.frames it → IsBeside known labels k j
       → Follows known labels (AreSame {A = Specified}) (specifiers it setting k) (specifiers (erased_specifiers it) setting j)
   specifiers_same (c.specifiers words types) setting a h b = last (types_same types (beside_words words setting) (words_aside words setting a) h b) (λ xs ys k j e s. goes (ap (specified words) e) s)
 
@@ -77,16 +79,28 @@ length_seen : (t : CType) (c : Constancy) → length_of t (seen c) ≡ length_of
 length_seen t (address object offset) = refl
 length_seen t _ = refl
 
--- a length is the same without its marks
-pub length_same : {x y : Typed} → BareValue x y → x.constancy ≡ x.erased → length_in y ≡ length_in x
-length_same {x} {y} p h =
-    ap (λ t. length_of t y.constancy) (value_type_same p)
-    ∙ sym (length_seen (own_type x) y.constancy) ∙ ap (length_of (own_type x)) (p.constancy.sees.bare ∙ ap seen (sym h)) ∙ length_seen (own_type x) x.constancy
+-- a length that is a constant is the same without its marks
+pub length_same : {x y : Typed} → BareValue x y → is_length (length_in x) ≡ true → length_in y ≡ length_in x
+length_same {x} {y} p h = by p.constancy.sees.hidden
+  where
+    by : (seen x.constancy ≡ seen x.erased) ⊎ (seen x.constancy ≡ varying) → length_in y ≡ length_in x
+    by (inl e) =
+        ap (λ t. length_of t y.constancy) (value_type_same p)
+        ∙ sym (length_seen (own_type x) y.constancy) ∙ ap (length_of (own_type x)) (p.constancy.sees.bare ∙ sym e) ∙ length_seen (own_type x) x.constancy
+    by (inr e) = absurd (false≢true (ap (λ c. is_length (length_of (own_type x) c)) (sym e) ∙ ap is_length (length_seen (own_type x) x.constancy) ∙ h))
 
 abbrev pub AreSameLengths : Option Typed → Option Typed → Type 0
-AreSameLengths n m = (is_outermost : Bool) → length_or_none is_outermost m ≡ length_or_none is_outermost n
+AreSameLengths n m = (is_outermost : Bool) → is_length (length_or_none is_outermost n) ≡ true → length_or_none is_outermost m ≡ length_or_none is_outermost n
 
 -- ---- declarators
+
+constant_length : (structs : Structs) (n : Option ℕ) (t : CType) → array_faults structs n t ≡ [] → is_length n ≡ true
+constant_length structs n t h =
+    let incomplete = broken_if incomplete_type (is_incomplete structs t) in
+    let function = broken_if function_as_value (is_function t) in
+    let large = broken_if bad_length (has_too_many_cells structs (Array t (unwrap_or n 0))) in
+    let front = unless (is_length n) bad_length in
+    unless_true (is_length n) bad_length (left_empty front incomplete (left_empty (front ++ incomplete) function (left_empty (front ++ incomplete ++ function) large h)))
 
 -- where the first breaks no rule, the second is of the same type and breaks none
 abbrev pub AreBuiltAlike : Built → Built → Type 0
@@ -110,9 +124,10 @@ names_by it x y h r =
     lengths t u e g = ap (λ it. type_name_faults (built it [])) e ∙ g
 
 module _ {known : Known} {labels : List Label} where
-  pub arrays_alike : {k j : Known} {n m : Option ℕ} (x y : Built) → IsBeside known labels k j → m ≡ n → AreBuiltAlike x y → AreBuiltAlike (array_of k n x) (array_of j m y)
-  arrays_alike {n = n} {m = m} x y beside e h = λ r.
+  pub arrays_alike : {k j : Known} {n m : Option ℕ} (x y : Built) → IsBeside known labels k j → (is_length n ≡ true → m ≡ n) → AreBuiltAlike x y → AreBuiltAlike (array_of k n x) (array_of j m y)
+  arrays_alike {n = n} {m = m} x y beside f h = λ r.
       let front = left_empty (array_faults known.structs n x.type) x.faults r in
+      let e = f (constant_length known.structs n x.type front) in
       let both = h (right_empty (array_faults known.structs n x.type) x.faults r) in (
         empty_both (array_faults known.structs m y.type) y.faults (ap (λ it. array_faults known.structs it y.type) e ∙ ap (array_faults known.structs n) both.1 ∙ front) both.0,
         ap (λ it. Array y.type (unwrap_or it 0)) e ∙ ap (λ t. Array t (unwrap_or n 0)) both.1,

@@ -2,7 +2,7 @@
 use Rattle.std.specs.Prelude.{◌≡◌, ℕ, ◌+◌, true, false, List, is_some}
 use Rattle.lt_tree.specs.Tree as c
 use Rattle.lt_tree.specs.Typing.Constants.{null_constant}
-use Rattle.lt_tree.specs.Typing.Entities.{Known, Label, Fact, tagged_in}
+use Rattle.lt_tree.specs.Typing.Entities.{Known, Label, Fact, Frame, tagged_in}
 use Rattle.lt_tree.specs.Typing.Steps.{Outcome, Goes, Breaks}
 use Rattle.lt_tree.specs.Typing.Expressions.{Typed, Use, as_value, as_truth, as_place, as_callee}
 use Rattle.lt_tree.specs.Typing.MarkRules.{inside_mark, inside_after}
@@ -45,18 +45,18 @@ ShowsNull x = x.erased ≡ null_constant → x.constancy ≡ null_constant
 -- ---- type names
 
 -- no struct and no enum is declared, not even by its tag alone
-abbrev pub IsKnownType : Known → c.TypeSpecifier → Type 0
-IsKnownType known (c.Struct _ _) = ⊥
-IsKnownType known (c.Enum _ _) = ⊥
-IsKnownType known (c.StructTag tag) = is_some (tagged_in tag known.frames) ≡ true
-IsKnownType known _ = Unit {0}
+abbrev pub IsKnownType : List Frame → c.TypeSpecifier → Type 0
+IsKnownType frames (c.Struct _ _) = ⊥
+IsKnownType frames (c.Enum _ _) = ⊥
+IsKnownType frames (c.StructTag tag) = is_some (tagged_in tag frames) ≡ true
+IsKnownType frames _ = Unit {0}
 
-abbrev pub AreKnownTypes : Known → c.TypeSpecifiers → Type 0
-AreKnownTypes known c.no_types = Unit {0}
-AreKnownTypes known (c.a_type first rest) = IsKnownType known first × AreKnownTypes known rest
+abbrev pub AreKnownTypes : List Frame → c.TypeSpecifiers → Type 0
+AreKnownTypes frames c.no_types = Unit {0}
+AreKnownTypes frames (c.a_type first rest) = IsKnownType frames first × AreKnownTypes frames rest
 
-abbrev pub AreKnown : Known → c.Specifiers → Type 0
-AreKnown known (c.specifiers words types) = AreKnownTypes known types
+abbrev pub AreKnown : List Frame → c.Specifiers → Type 0
+AreKnown frames (c.specifiers words types) = AreKnownTypes frames types
 
 -- ---- expressions
 
@@ -71,9 +71,9 @@ abbrev mutual
   CanBeErased role known (c.Unary op operand) = CanBeErased (operand_of op) (entered known) operand
   CanBeErased role known (c.SizeofExpr operand) = CanBeErased as_place (unmarked (entered known)) operand
   CanBeErased role known (c.SizeofType s d) =
-      AreKnown known s × Behind (specifiers s (setting_in_sizeof d) (entered known)) (λ it next. CanLengthsBeErased next d)
+      AreKnown known.frames s × Behind (specifiers s (setting_in_sizeof d) (entered known)) (λ it next. CanLengthsBeErased next d)
   CanBeErased role known (c.Cast s d operand) =
-      AreKnown known s
+      AreKnown known.frames s
       × Behind (specifiers s elsewhere (entered known)) (λ it next. CanLengthsBeErased next d
       × Behind (declarator d it false (λ name known b. type_name_faults b) next) (λ type last. CanBeErased as_value last operand))
   CanBeErased role known (c.Binary op left right) = CanBeErased as_value (entered known) left × Behind (expression left as_value (entered known)) (λ x next. CanBeErased as_value next right)
@@ -113,7 +113,6 @@ abbrev mutual
   CanPartsBeErased known (c.Array length rest) = CanLengthBeErased known length × Behind (maybe length known) (λ n next. CanPartsBeErased next rest)
   CanPartsBeErased known (c.Function parameters rest) = ⊥
 
-  -- a length is the same constant without its marks
   pub CanLengthBeErased : Known → c.Maybe → Type 0
   CanLengthBeErased known c.absent = Unit {0}
-  CanLengthBeErased known (c.present e) = CanBeErased as_value (unmarked known) e × Behind (expression e as_value (unmarked known)) (λ x next. x.constancy ≡ x.erased)
+  CanLengthBeErased known (c.present e) = CanBeErased as_value (unmarked known) e

@@ -8,6 +8,7 @@ use Rattle.lt_tree.specs.Typing.Steps.{Goes}
 use Rattle.lt_tree.specs.Typing.Expressions.{Typed, as_value, as_truth, own_type}
 use Rattle.lt_tree.specs.Typing.ExpressionTyping.{expression}
 use Rattle.lt_objectives.specs.Objectives.{is_core}
+use Rattle.lt_erased_typing.specs.Plain.{HasScalarRegisters, IsPlain}
 use Rattle.lt_erased_typing.specs.Erasable.{CanBeErased, at, entered}
 
 -- Where the typing of an expression goes on, marks of which can be taken off, so does the typing of the expression without its marks: with the same type,
@@ -35,3 +36,7 @@ OperandsKeepTheirTypes =
 -- Where its truth is used, an expression that isn't behind marks is typed as where its value is.
 abbrev pub TruthsAreTypedAsValues : Type 0
 TruthsAreTypedAsValues = (known : Known) (e : c.Expression) → is_core e ≡ true → expression e as_truth known ≡ expression e as_value known
+
+-- Marks can be taken off expressions that are plain, where registers are scalars.
+abbrev pub PlainExpressionsCanBeErased : Type 0
+PlainExpressionsCanBeErased = (known : Known) (e : c.Expression) → HasScalarRegisters known → IsPlain known.frames e → CanBeErased as_value known e

@@ -1,3 +1,4 @@
 pub mod Erasable
+pub mod Plain
 pub mod Examples
 pub mod Laws
