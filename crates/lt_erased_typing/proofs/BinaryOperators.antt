@@ -60,18 +60,16 @@ module _ {x y v w : Typed} (p : BareValue x y) (q : BareValue v w) where
   operands_more structs O.Ge = rw (value_type_same p) (rw (value_type_same q) (λ h. h))
   operands_more structs _ = rw (value_type_same p) (rw (value_type_same q) (λ h. h))
 
+  integers_by : (known : Known) (op : Op) (s r : Scalar)
+      → BareValue (valued (e.Arithmetic (result_type op s) op s (converted_to (Num s) (value_in x)) (converted_to (Num r) (value_in v))) (operated known.model op s r x.constancy v.constancy) (operated known.model op s r x.erased v.erased))
+      (valued (e.Arithmetic (result_type op s) op s (converted_to (Num s) (value_in y)) (converted_to (Num r) (value_in w))) (operated known.model op s r y.constancy w.constancy) (operated known.model op s r y.erased w.erased))
+  integers_by known op s r = bare_valued refl (record { sees = operated_sees known.model op s r p.constancy.sees q.constancy.sees; marked = is x.constancy v.constancy; erasure = is x.erased v.erased; bare = is y.constancy w.constancy })
+    where
+      is : (c d : Constancy) → IsOf (result_type op s) (operated known.model op s r c d)
+      is c d = applied_is known.model s (result_type op s) op (converted known.model s c) (converted known.model r d) (result_no_pointer (is_relation op || is_equality op) s)
+
   integers_bare : (known : Known) (op : Op) → BareValue (on_integers known op x v) (on_integers known op y w)
-  integers_bare known op =
-      let s = operation_type known op x v in
-      let r = right_type known op x v in
-      let is : (c d : Constancy) → IsOf (result_type op s) (operated known.model op s r c d) =
-      λ c d. applied_is known.model s (result_type op s) op (converted known.model s c) (converted known.model r d) (result_no_pointer (is_relation op || is_equality op) s) in
-      rw (value_type_same p) (rw (value_type_same q) (bare_valued refl (record {
-        sees = operated_sees known.model op s r p.constancy.sees q.constancy.sees;
-        marked = is x.constancy v.constancy;
-        erasure = is x.erased v.erased;
-        bare = is y.constancy w.constancy;
-      })))
+  integers_bare known op = rw (value_type_same p) (rw (value_type_same q) (integers_by known op (operation_type known op x v) (right_type known op x v)))
 
   moved_bare : (known : Known) (op : Op) → (is_pointer (own_type x) ≡ true) ⊎ (is_pointer (own_type v) ≡ true) → BareValue (moved known op x v) (moved known op y w)
   moved_bare known op h =

@@ -177,6 +177,26 @@ cast_integer t u c h i = by (is_void t) (integer_no_void t whole) (is_integer t)
     by false h false true k false g = absurd (false≢true (sym k))
     by false h false false k false g = absurd (false≢true g)
 
+-- a cast of what is no pointer to a pointer is one of 0
+pub cast_zero : (t u : CType) (c : Constancy) → can_be_cast t u c ≡ true → is_pointer (unqualified t) ≡ true → is_pointer u ≡ false → is_zero c ≡ true
+cast_zero t u c h p q = by (is_void t) (pointer_no_void t whole) (is_integer t) (pointer_no_integer t whole) (is_integer u) (is_pointer u) q h
+  where
+    whole : is_pointer t ≡ true
+    whole = sym (unqualified_pointer t) ∙ p
+
+    last : (a b : Bool) → (a && b && is_zero c) ≡ true → is_zero c ≡ true
+    last a b g = and_second (a && b) (is_zero c) g
+
+    by : (v : Bool) → v ≡ false → (i : Bool) → i ≡ false → (b r : Bool) → r ≡ false → v || (i && b) || (is_pointer t && r) || (is_pointer t && b && is_zero c) ≡ true → is_zero c ≡ true
+    by true h i j b r k g = absurd (false≢true (sym h))
+    by false h true j b r k g = absurd (false≢true (sym j))
+    by false h false j b true k g = absurd (false≢true (sym k))
+    by false h false j b false k g = front (is_pointer t) g
+      where
+        front : (a : Bool) → (a && false) || (a && b && is_zero c) ≡ true → is_zero c ≡ true
+        front true f = last true b f
+        front false f = absurd (false≢true f)
+
 pub cast_more : (t u : CType) (c d : Constancy) → (is_zero c ≡ true → is_zero d ≡ true) → can_be_cast t u c ≡ true → can_be_cast t u d ≡ true
 cast_more t u c d z h = by (is_void t || are_integers t u || (is_pointer t && is_pointer u)) (is_pointer t && is_integer u) (is_zero c) (is_zero d) z h
   where

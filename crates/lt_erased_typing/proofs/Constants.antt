@@ -9,7 +9,7 @@ use Rattle.lt_model.specs.declared.operator.Op.{Op}
 use Rattle.lt_model.specs.declared.operator.Op.TheVariants as O
 use Rattle.lt_model.specs.declared.operator.Ub.{Ub}
 use Rattle.lt_tree.specs.Typing.Types.{CType, Void, Num, Pointer, is_integer, is_pointer, same}
-use Rattle.lt_tree.specs.Typing.Constants.{Constancy, varying, faulty, number, null_constant, null_address, address, is_form, is_zero, is_null_constant, value_or_fault, converted, applied, operated, negated, connected, chosen, moved_to, moved_by}
+use Rattle.lt_tree.specs.Typing.Constants.{Constancy, varying, faulty, number, null_constant, null_address, address, is_form, is_zero, is_null_constant, value_or_fault, converted, applied, operated, negated, connected, chosen, is_true, moved_to, moved_by}
 use Rattle.lt_tree.specs.Typing.Expressions.{constancy_to, constancy_as_number, constancy_as_pointer, null_of}
 
 abbrev pub seen : Constancy → Constancy
@@ -234,21 +234,22 @@ never : (b : Bool) (c : Constancy) → (if b && false then c else varying) ≡ v
 never true c = refl
 never false c = refl
 
-chosen_second : (c d : Constancy) → chosen c varying d ≡ varying
-chosen_second varying d = refl
-chosen_second faulty d = refl
-chosen_second (number z) d = refl
-chosen_second null_constant d = refl
-chosen_second null_address d = refl
-chosen_second (address object offset) d = refl
+-- a choice from what is of no constant form is of none
+pub chosen_second : (a b c : Constancy) → is_form b ≡ false → chosen a b c ≡ varying
+chosen_second (number z) b c h = ap (λ f. if f && is_form c then (if is_true z then b else c) else varying) h
+chosen_second faulty b c h = ap (λ f. if f && is_form c then faulty else varying) h
+chosen_second varying b c h = refl
+chosen_second null_constant b c h = refl
+chosen_second null_address b c h = refl
+chosen_second (address object offset) b c h = refl
 
-chosen_third : (c d : Constancy) → chosen c d varying ≡ varying
-chosen_third varying d = refl
-chosen_third faulty d = never (is_form d) faulty
-chosen_third (number z) d = never (is_form d) _
-chosen_third null_constant d = refl
-chosen_third null_address d = refl
-chosen_third (address object offset) d = refl
+pub chosen_third : (a b c : Constancy) → is_form c ≡ false → chosen a b c ≡ varying
+chosen_third (number z) b c h = ap (λ f. if is_form b && f then (if is_true z then b else c) else varying) h ∙ never (is_form b) (if is_true z then b else c)
+chosen_third faulty b c h = ap (λ f. if is_form b && f then faulty else varying) h ∙ never (is_form b) faulty
+chosen_third varying b c h = refl
+chosen_third null_constant b c h = refl
+chosen_third null_address b c h = refl
+chosen_third (address object offset) b c h = refl
 
 -- ---- conversions
 
@@ -317,8 +318,8 @@ chosen_sees m t {b} {c} {d} {k} {n} {q} {u} {v} {w} h g f = record {
     by : (seen b ≡ seen k) ⊎ (seen b ≡ varying) → (seen c ≡ seen n) ⊎ (seen c ≡ varying) → (seen d ≡ seen q) ⊎ (seen d ≡ varying)
         → (seen (constancy_to m t (chosen b c d)) ≡ seen (constancy_to m t (chosen k n q))) ⊎ (seen (constancy_to m t (chosen b c d)) ≡ varying)
     by (inr i) j l = inr (varies (sym (chosen_seen b c d) ∙ ap (λ it. chosen it (seen c) (seen d)) i))
-    by (inl i) (inr j) l = inr (varies (sym (chosen_seen b c d) ∙ ap (λ it. chosen (seen b) it (seen d)) j ∙ chosen_second (seen b) (seen d)))
-    by (inl i) (inl j) (inr l) = inr (varies (sym (chosen_seen b c d) ∙ ap (chosen (seen b) (seen c)) l ∙ chosen_third (seen b) (seen c)))
+    by (inl i) (inr j) l = inr (varies (sym (chosen_seen b c d) ∙ ap (λ it. chosen (seen b) it (seen d)) j ∙ chosen_second (seen b) varying (seen d) refl))
+    by (inl i) (inl j) (inr l) = inr (varies (sym (chosen_seen b c d) ∙ ap (chosen (seen b) (seen c)) l ∙ chosen_third (seen b) (seen c) varying refl))
     by (inl i) (inl j) (inl l) = inl (ap (λ it. seen (constancy_to m t it)) (sym (chosen_seen b c d) ∙ ap (λ it. chosen it (seen c) (seen d)) i ∙ ap (λ it. chosen (seen k) it (seen d)) j ∙ ap (chosen (seen k) (seen n)) l ∙ chosen_seen k n q))
 
 -- a cast to another type than an integer's

@@ -20,17 +20,16 @@ use Rattle.lt_tree.specs.Typing.Specifying.{Specified, elsewhere}
 use Rattle.lt_tree.specs.Typing.Declarators.{Built, built, type_name_faults, setting_in_sizeof}
 use Rattle.lt_tree.specs.Typing.ExpressionTyping.{expression, expressions, maybe, marks, parts, specifiers, declarator}
 use Rattle.lt_erased_typing.specs.Erasable.{CanBeErased, CanEachBeErased, CanLengthsBeErased, CanPartsBeErased, CanLengthBeErased, Behind, entered}
-use Rattle.lt_erased_typing.proofs.Going.{IsBeside, beside, Follows, goes, breaks, bind, last, only, around, so, entered_beside, entered_first, found_beside, constant_beside, constant_walk, behind_anything}
+use Rattle.lt_erased_typing.proofs.Going.{IsBeside, Follows, goes, bind, last, only, around, came, entered_beside, entered_first, found_beside, constant_beside, constant_walk, behind_anything}
 use Rattle.lt_erased_typing.proofs.Operands.{BareValue, BareAs}
 use Rattle.lt_erased_typing.proofs.Ends.{finished, finished_alone, labelled, label_beside, stops, unfinished}
-use Rattle.lt_erased_typing.proofs.Going as going
 use Rattle.lt_erased_typing.proofs.Operators.{name_bare, constant_bare, unary_bare, size_bare, size_same, member_bare, arrow_bare, index_bare, cast_bare}
 use Rattle.lt_erased_typing.proofs.BinaryOperators.{binary_bare, logical_bare, conditional_bare, comma_bare, BareEach, none_bare, one_bare}
 use Rattle.lt_erased_typing.proofs.TypeNames.{specifiers_same, written_somewhere, length_same, AreSameLengths, AreBuiltAlike, DeclareAlike, pointers_alike, arrays_alike, written_alike, also_bare}
 use Rattle.lt_erased_typing.proofs.Marks.{marks_value, marks_truth, after_value, after_truth, decide_truth, decides_a_truth}
 use Rattle.lt_erased_typing.proofs.Commas.{IsJoined, two_lists, one_list, joined, both_lists, EndAlike, end_alike, alike_behind}
 
-operand_no_callee : (op : UnaryOp) → is_callee (operand_of op) ≡ false
+pub operand_no_callee : (op : UnaryOp) → is_callee (operand_of op) ≡ false
 operand_no_callee unary.AddressOf = refl
 operand_no_callee unary.Not = refl
 operand_no_callee unary.Dereference = refl
@@ -144,16 +143,16 @@ mutual
   of_expression {k = k} (c.Decide operand when_true when_false tag) as_truth n b h =
       around (of_expression operand as_truth refl (entered_first b) h) (behind_anything (expression operand as_truth (entered k)))
       (λ x y l i p s u. labelled (finished_alone k.next as_truth (judge_decide as_truth x when_true when_false tag l) y (decide_truth when_true when_false tag l p) s)
-      (λ z a t q. going.came q (label_beside ((a.labels ++ label_of when_true tag [] ∷ []) ++ label_of when_false tag [] ∷ []) t)))
+      (λ z a t q. came q (label_beside ((a.labels ++ label_of when_true tag [] ∷ []) ++ label_of when_false tag [] ∷ []) t)))
   of_expression (c.Decide operand when_true when_false tag) as_callee n b h = absurd (false≢true (sym n))
   of_expression {k = k} (c.After operand id tag) as_value n b h =
       around (of_expression operand as_value refl (entered_first b) h.0) h.1
       (λ x y l i p s r. labelled (finished_alone k.next as_value (judge_after as_value x id tag l) y (λ q. after_value id tag l p r) s)
-      (λ z a t q. going.came q (label_beside (a.labels ++ label_of id tag [] ∷ []) t)))
+      (λ z a t q. came q (label_beside (a.labels ++ label_of id tag [] ∷ []) t)))
   of_expression {k = k} (c.After operand id tag) as_truth n b h =
       around (of_expression operand as_truth refl (entered_first b) h.0) h.1
       (λ x y l i p s r. labelled (finished_alone k.next as_truth (judge_after as_truth x id tag l) y (λ q. after_truth id tag l p) s)
-      (λ z a t q. going.came q (label_beside (a.labels ++ label_of id tag [] ∷ []) t)))
+      (λ z a t q. came q (label_beside (a.labels ++ label_of id tag [] ∷ []) t)))
   of_expression {k = k} (c.After operand id tag) as_place n b h = only (expression operand as_place (entered k)) h.1 (λ x i r. absurd r)
   of_expression (c.After operand id tag) as_callee n b h = absurd (false≢true (sym n))
 

@@ -58,10 +58,6 @@ module _ {known : Known} {labels : List Label} where
       by (Breaks rule node) d = breaks
   around breaks h l = breaks
 
-  pub so : {A B : Type 0} {R Q : A → B → Type 0} {o : Outcome A} {p : Outcome B} → ((a : A) (b : B) → R a b → Q a b) → Follows known labels R o p → Follows known labels Q o p
-  so f (goes {a} {b} r s) = goes (f a b r) s
-  so f breaks = breaks
-
   unmarked_beside : {k j : Known} → IsBeside (unmarked known) labels k j → IsBeside known labels (record k { is_unmarked = known.is_unmarked }) (record j { is_unmarked = known.is_unmarked })
   unmarked_beside beside = beside
 

@@ -10,4 +10,7 @@ mod Marks
 mod Commas
 mod Expressions
 mod Whole
+mod Shows
+mod PlainWalks
+mod PlainExpressions
 mod Examples

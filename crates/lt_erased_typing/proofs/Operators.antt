@@ -128,6 +128,11 @@ module _ {x y : Typed} where
   address_by (a_bare_value h) l = absurd (values_no_lvalue x h.form l)
   address_by (a_bare_place h) l = h
 
+  -- what has an address isn't seen as a constant
+  pub address_marked : Bare x y → (judge_address_of x).faults ≡ [] → seen x.constancy ≡ varying
+  unfolding judge_address_of
+  address_marked p h = (address_by p (and_first (is_lvalue x) (not x.is_register) (unless_true (is_lvalue x && not x.is_register) bad_address h))).marked
+
   address_of_bare : Bare x y → BareJudged (judge_address_of x) (judge_address_of y)
   unfolding judge_address_of
   address_of_bare p = λ h.
@@ -143,7 +148,7 @@ module _ {x y : Typed} where
       free true h = absurd (false≢true h)
       free false h = refl
 
-address_seen : (c : Constancy) → seen (constant_address c) ≡ varying
+pub address_seen : (c : Constancy) → seen (constant_address c) ≡ varying
 address_seen (address object offset) = refl
 address_seen _ = refl
 
@@ -181,11 +186,11 @@ size_same t beside = λ h. (h, a_bare_value (bare_number _ _))
 
 -- ---- members and elements
 
-abbrev behind : Placed → Constancy → Constancy
+abbrev pub behind : Placed → Constancy → Constancy
 behind member (address object offset) = address object (offset + member.offset)
 behind member _ = varying
 
-behind_seen : (member : Placed) (c : Constancy) → seen (behind member c) ≡ varying
+pub behind_seen : (member : Placed) (c : Constancy) → seen (behind member c) ≡ varying
 behind_seen member (address object offset) = refl
 behind_seen member _ = refl
 

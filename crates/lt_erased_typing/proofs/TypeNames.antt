@@ -30,7 +30,7 @@ written_somewhere name ps = by (is_written name ps)
     by true = refl
     by false = refl
 
-words_aside : (words : c.Words) (setting : Setting) → is_alone setting ≡ false → is_alone (beside_words words setting) ≡ false
+pub words_aside : (words : c.Words) (setting : Setting) → is_alone setting ≡ false → is_alone (beside_words words setting) ≡ false
 words_aside words alone h = absurd (false≢true (sym h))
 words_aside words in_sizeof h = refl
 words_aside words elsewhere h = refl

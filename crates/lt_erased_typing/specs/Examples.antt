@@ -1,5 +1,5 @@
 -- Texts that are typed with marks, and not without them, or with another type.
-use Rattle.std.specs.Prelude.{◌≡◌, ℕ, true, false, List, [], ◌∷◌, codes, Some, None}
+use Rattle.std.specs.Prelude.{ℕ, true, false, List, [], ◌∷◌, codes, Some, None}
 use Rattle.lt_model.specs.declared.operator.Op.TheVariants as op
 use Rattle.lt_model.specs.declared.scalar.Scalar.TheVariants as S
 use Rattle.lt_model.specs.declared.scalar.DataModel.TheVariants.{Lp64}

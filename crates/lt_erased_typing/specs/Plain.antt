@@ -1,5 +1,5 @@
 -- Expressions whose marks hide nothing from operators, as their text shows.
-use Rattle.std.specs.Prelude.{◌≡◌, ℕ, ◌||◌, Bool, true, false, List, Option, Some}
+use Rattle.std.specs.Prelude.{◌≡◌, ℕ, ◌||◌, Bool, true, false, List, Some}
 use Rattle.lt_tree.specs.declared.expression.UnaryOp.{UnaryOp}
 use Rattle.lt_tree.specs.declared.expression.UnaryOp.TheVariants as unary
 use Rattle.lt_tree.specs.Tree as c

@@ -1,7 +1,7 @@
 //! Laws of the definitions; the functions do nothing.
 
 ghost use Rattle.lt_erased_typing.specs.Examples.{MarksHideOperands};
-ghost use Rattle.lt_erased_typing.specs.Laws.{OperandsKeepTheirTypes, PureExpressionsAreTypedWithoutMarks, TheyAreTypedBesideOtherMarks, TruthsAreTypedAsValues};
+ghost use Rattle.lt_erased_typing.specs.Laws.{OperandsKeepTheirTypes, PlainExpressionsCanBeErased, PureExpressionsAreTypedWithoutMarks, TheyAreTypedBesideOtherMarks, TruthsAreTypedAsValues};
 
 /// A pure expression is typed without its marks where it is typed with them, if they hide nothing from an operator.
 pub fn pure_expressions_are_typed_without_marks()
@@ -17,6 +17,11 @@ pub fn operands_keep_their_types()
 /// An expression that isn't behind marks is typed alike where its truth or its value is used.
 pub fn truths_are_typed_as_values()
     ensures { TruthsAreTypedAsValues }
+{}
+
+/// Marks can be taken off expressions that show by their text that marks hide nothing.
+pub fn plain_expressions_can_be_erased()
+    ensures { PlainExpressionsCanBeErased }
 {}
 
 /// Texts that are typed with marks, and not without them, or with another type.

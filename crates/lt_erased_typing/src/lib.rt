@@ -4,6 +4,6 @@
 mod laws;
 
 pub use laws::{
-    marks_hide_operands, operands_keep_their_types, pure_expressions_are_typed_without_marks,
-    truths_are_typed_as_values,
+    marks_hide_operands, operands_keep_their_types, plain_expressions_can_be_erased,
+    pure_expressions_are_typed_without_marks, truths_are_typed_as_values,
 };
