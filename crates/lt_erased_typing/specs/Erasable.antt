@@ -1,4 +1,4 @@
--- Where marks can be taken off an expression that only reads and declares nothing: no operator sees less through them than without them.
+-- Where marks can be taken off an expression: it only reads, declares nothing, and its marks hide nothing from an operator.
 use Rattle.std.specs.Prelude.{◌≡◌, ℕ, ◌+◌, true, false, List, is_some}
 use Rattle.lt_tree.specs.Tree as c
 use Rattle.lt_tree.specs.Typing.Constants.{null_constant}
@@ -31,7 +31,7 @@ unmarked known = record known { is_unmarked = true }
 abbrev pub FindsLabels : Known → Known → Type 0
 FindsLabels known next = next ≡ at known next.next next.labels next.facts
 
--- What a mark may stand in front of: of a struct no member is taken through it, and no array is declared `register`.
+-- What stands behind a mark and is used so: no member is taken of it, and it is no array that is declared `register`.
 abbrev pub IsSeen : Use → Typed → Type 0
 IsSeen as_value x = x.is_register ≡ false
 IsSeen as_truth x = Unit {0}
@@ -61,7 +61,7 @@ AreKnown frames (c.specifiers words types) = AreKnownTypes frames types
 -- ---- expressions
 
 abbrev mutual
-  -- In an expression that is used so, where this is known: no operator changes something, calls something or is a string literal.
+  -- That marks can be taken off an expression that is used so, where this is known: each part is judged with what is known there, behind those before it.
   pub CanBeErased : Use → Known → c.Expression → Type 0
   CanBeErased role known (c.Name name) = Unit {0}
   CanBeErased role known (c.Constant text) = Unit {0}
