@@ -9,7 +9,7 @@ mod TypeNames
 mod Marks
 mod Commas
 mod Expressions
-mod Whole
+pub mod Whole
 mod Shows
 mod PlainWalks
 mod PlainExpressions
