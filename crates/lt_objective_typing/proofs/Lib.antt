@@ -7,4 +7,5 @@ mod Growing
 mod Parts
 mod Old
 mod Places
+mod Marked
 mod Ids

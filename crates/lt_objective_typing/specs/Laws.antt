@@ -5,6 +5,7 @@ use Rattle.lt_model.specs.declared.scalar.DataModel.{DataModel}
 use Rattle.lt_model.specs.declared.operator.Op.{Op}
 use Rattle.lt_tree.specs.declared.expression.LogicalOp.{LogicalOp}
 use Rattle.lt_tree.specs.Tree as c
+use Rattle.lt_tree.specs.Erasure.{erased}
 use Rattle.lt_tree.specs.Purity.{is_pure}
 use Rattle.lt_tree.specs.Typing.Types.{CType, is_integer, is_pointer, is_scalar}
 use Rattle.lt_tree.specs.Typing.MarkRules.{greatest_written_id}
@@ -15,9 +16,10 @@ use Rattle.lt_tree.specs.Typing.ExpressionTyping.{expression}
 use Rattle.lt_objectives.specs.declared.criteria.Criterion.{Criterion}
 use Rattle.lt_objectives.specs.Decisions.{negation, inequality, clause_list, conjunctions, active_clauses}
 use Rattle.lt_objectives.specs.Mutants.{is_signed_integer, pointer_relations, relations, with_others, absolute_mutants, arithmetic_mutants, connector_mutants, relational_mutants}
-use Rattle.lt_objectives.specs.Objectives.{Form, all_at, domains, at_test}
+use Rattle.lt_objectives.specs.Objectives.{Form, all_at, domains, at_test, is_core}
 use Rattle.lt_objectives.specs.Marked.{ids_of, numbered, labels}
 use Rattle.lt_mark_typing.specs.Beside.{is_used}
+use Rattle.lt_erased_typing.specs.Erasable.{CanBeErased}
 use Rattle.lt_mark_typing.specs.Placed.{AreNewLabels, IsThere}
 
 -- all of these are predicates where this is known
@@ -73,6 +75,17 @@ ObjectivesHavePredicates =
     × ArePredicates new used known (differences_from e (connector_mutants e))
     × ((t u : CType) → (is_integer t && is_integer u ≡ true → TakesIntegers known e)
     → ArePredicates new used known (differences_from e (arithmetic_mutants t u e)) × ArePredicates new used known (differences_from e (relational_mutants t u e)))
+
+-- So it is where an expression is typed whose marks can be taken off: the objectives at it have predicates, which are made of it without its marks.
+abbrev pub MarkedExpressionsHavePredicates : Type 0
+MarkedExpressionsHavePredicates =
+    (new : ℕ → Bool) (used : List ℕ) (known next : Known) (e : c.Expression) (x : Typed)
+    → is_core e ≡ true → is_pure (erased e) ≡ true → CanBeErased as_value known e → expression e as_value known ≡ Goes x next
+    → (is_scalar (own_type x) ≡ true → (criterion : Criterion) (decision clause : Option ℕ) (k : ℕ) → ArePredicates new used known (map (λ it. it.predicate) (at_test criterion decision clause k (erased e))))
+    × ((model : DataModel) (t : CType) → (is_signed_integer model t ≡ true → is_integer (own_type x) ≡ true) → ArePredicates new used known (differences_from (erased e) (absolute_mutants model t (erased e))))
+    × ArePredicates new used known (differences_from (erased e) (connector_mutants (erased e)))
+    × ((t u : CType) → (is_integer t && is_integer u ≡ true → TakesIntegers known e)
+    → ArePredicates new used known (differences_from (erased e) (arithmetic_mutants t u (erased e))) × ArePredicates new used known (differences_from (erased e) (relational_mutants t u (erased e))))
 
 -- ids that are used behind labels with so many ids from this one on: those before, and these
 abbrev pub AddsIds : (used after : List ℕ) → (id count : ℕ) → Type 0

@@ -1,0 +1,5 @@
+use Rattle.lt_objective_typing.proofs.Marked.{of_marked}
+use Rattle.lt_objective_typing.proofs.laws.marked_expressions_have_predicates.Goals as goal
+
+pub returns : goal.returns
+returns c = of_marked
