@@ -1,39 +1,49 @@
 -- Which answer is due, and that no two are.
 use Rattle.std.proofs.Common.{◌≡◌, ◌⊎◌, ℕ, List, [], ◌∷◌, ◌++◌, Option, Some, None, option_to_list, refl, sym, subst, inl, inr}
 use Rattle.lt_outside.specs.Shelf.{Files}
-use Rattle.lt_command.specs.Plan.{Plan, ReplayPlan, replay, convert}
+use Rattle.lt_command.specs.Plan.{Plan, ReplayPlan, AnnotatePlan, replay, convert, annotate}
 use Rattle.lt_answers.specs.Laws.{Laws}
 use Rattle.lt_answers.specs.Replays.{Sources, IsReplay, Refuses, IsConversion}
 use Rattle.lt_answers.specs.Entries.{IsNoCoverage}
-use Rattle.lt_answers.specs.Answers.{IsDue, due_miss, due_refusal, due_text, Misses, later_file, IsRead, AreRead, FirstIsRead, GaveIf, names_of, IsTextIn, IsRefused, IsSame, IsOutside, IsText, Gave, GaveAll, ReadEnds, Ends, PutEnds}
+use Rattle.lt_answers.specs.Annotations.{IsAnnotation, RefusesAnnotation}
+use Rattle.lt_answers.specs.Answers.{IsDue, due_miss, due_refusal, due_text, Misses, later_file, FirstIsRead, GaveIf, names_of, IsTextIn, IsRefused, IsSame, IsOutside, IsText, Gave, GaveAll, ReadEnds, Ends, PutEnds}
 use Rattle.lt_answers.specs.declared.status.Status.{Status}
 use Rattle.lt_answers.specs.declared.status.Status.TheVariants.{Done, Refused, Usage, Absent, TooLong, ReadFault, WriteFault, NoMemory}
 use Rattle.lt_answers.specs.declared.status.Refusal.{Refusal}
-use Rattle.lt_answers.proofs.Same.{same_itself, same_of, same_why}
-use Rattle.lt_answers.proofs.Missing.{misses_once, same_sources, same_read, replay_not_missed, conversion_not_missed, none_missed, first_missed}
+use Rattle.lt_answers.proofs.Same.{same_of, same_why}
+use Rattle.lt_answers.proofs.Missing.{misses_once, same_sources, same_read, replay_not_missed, file_not_missed, none_missed, first_missed}
 use Rattle.lt_answers.proofs.Once.{refused_once, replayed_or_refused, no_coverage_once, coverage_or_none}
+use Rattle.lt_answers.proofs.Annotated.{annotation_refused_once, annotated_or_refused}
 
 -- ---- no two are due
 
 missed_or_text : (files : Files) (plan : Plan) (s : Status) (out : List ℕ) → Misses files (names_of plan) s → IsTextIn files plan out → ⊥
 missed_or_text files (replay asked) s out m t = replay_not_missed files asked t.0 s t.1 m
-missed_or_text files (convert file) s out m t = conversion_not_missed files file t.0 s t.1 m
+missed_or_text files (convert file) s out m t = file_not_missed files file t.0 s t.1 m
+missed_or_text files (annotate asked) s out m t = file_not_missed files asked.file t.0 s t.1 m
 
 missed_or_refused : (files : Files) (plan : Plan) (s : Status) (why : Refusal) → Misses files (names_of plan) s → IsRefused files plan why → ⊥
 missed_or_refused files (replay asked) s why m t = replay_not_missed files asked t.0 s t.1 m
-missed_or_refused files (convert file) s why m t = conversion_not_missed files file t.0 s t.1 m
+missed_or_refused files (convert file) s why m t = file_not_missed files file t.0 s t.1 m
+missed_or_refused files (annotate asked) s why m t = file_not_missed files asked.file t.0 s t.1 m
 
 refused_same : (laws : Laws) (files : Files) (plan : Plan) (why other : Refusal) → IsRefused files plan why → IsRefused files plan other → IsSame (Refused why) (Refused other)
 refused_same laws files (replay asked) why other h k =
     refused_once laws h.0 why other h.2 (subst (λ from. Refuses from other) (sym (same_sources files asked h.0 k.0 h.1 k.1)) k.2)
 refused_same laws files (convert file) why other h k =
     same_why why other (no_coverage_once laws h.0 why other h.2 (subst (λ bytes. IsNoCoverage bytes other) (sym (same_read h.1 k.1)) k.2))
+refused_same laws files (annotate asked) why other h k =
+    annotation_refused_once laws asked.model asked.criteria h.0 why other h.2
+    (subst (λ bytes. RefusesAnnotation asked.model asked.criteria bytes other) (sym (same_read h.1 k.1)) k.2)
 
 text_or_refused : (laws : Laws) (files : Files) (plan : Plan) (out : List ℕ) (why : Refusal) → IsTextIn files plan out → IsRefused files plan why → ⊥
 text_or_refused laws files (replay asked) out why h k =
     replayed_or_refused laws h.0 out why h.2 (subst (λ from. Refuses from why) (sym (same_sources files asked h.0 k.0 h.1 k.1)) k.2)
 text_or_refused laws files (convert file) out why h k =
     coverage_or_none laws h.0 h.2.table why h.2.stands (subst (λ bytes. IsNoCoverage bytes why) (sym (same_read h.1 k.1)) k.2)
+text_or_refused laws files (annotate asked) out why h k =
+    annotated_or_refused laws asked.model asked.criteria h.0 out why h.2
+    (subst (λ bytes. RefusesAnnotation asked.model asked.criteria bytes why) (sym (same_read h.1 k.1)) k.2)
 
 at_missed : (files : Files) (plan : Plan) (s t : Status) → Misses files (names_of plan) s → IsDue files plan t → IsSame s t
 at_missed files plan s t m (due_miss n) = same_of s t (misses_once files (names_of plan) s t m n)
@@ -91,6 +101,16 @@ conversion_refused (Some files) file bytes why g h = due_refusal (bytes, g, h)
 pub conversion_text : (told : Option Files) (file bytes out : List ℕ) → Gave told file bytes → IsConversion bytes out → IsText told (convert file) out
 conversion_text None file bytes out g h = tt
 conversion_text (Some files) file bytes out g h = (bytes, g, h)
+
+pub annotation_refused : (told : Option Files) (asked : AnnotatePlan) (bytes : List ℕ) (why : Refusal) → Gave told asked.file bytes
+    → RefusesAnnotation asked.model asked.criteria bytes why → Ends told (annotate asked) (Refused why)
+annotation_refused None asked bytes why g h = tt
+annotation_refused (Some files) asked bytes why g h = due_refusal (bytes, g, h)
+
+pub annotation_text : (told : Option Files) (asked : AnnotatePlan) (bytes out : List ℕ) → Gave told asked.file bytes
+    → IsAnnotation asked.model asked.criteria bytes out → IsText told (annotate asked) out
+annotation_text None asked bytes out g h = tt
+annotation_text (Some files) asked bytes out g h = (bytes, g, h)
 
 -- what reading and understanding end with is due, where the shelf tells
 pub due_of_ends : (told : Option Files) (plan : Plan) (files : Files) (status : Status) → Ends told plan status → told ≡ Some files → IsOutside status ⊎ IsDue files plan status

@@ -1,4 +1,5 @@
 mod Same
 pub mod Missing
 mod Once
+pub mod Annotated
 pub mod Due

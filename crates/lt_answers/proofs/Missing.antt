@@ -1,9 +1,9 @@
 -- What files say once, they say always.
-use Rattle.std.proofs.Common.{◌≡◌, ◌<◌, ◌≤◌, ℕ, List, [], ◌∷◌, ◌++◌, length, Option, Some, None, refl, sym, ap, ◌∙◌, subst, arith, option_to_list}
+use Rattle.std.proofs.Common.{◌≡◌, ℕ, List, [], ◌∷◌, ◌++◌, length, Option, Some, None, refl, sym, ap, ◌∙◌, subst, arith, option_to_list}
 use Rattle.std.specs.Prelude.{IfSome}
 use Rattle.lt_outside.specs.Shelf.{Files, MayStop}
 use Rattle.lt_outside.specs.declared.shelf.ReadStop.TheVariants.{Failed, TooLong as TooLongRead}
-use Rattle.lt_command.specs.Plan.{Plan, ReplayPlan, replay, convert}
+use Rattle.lt_command.specs.Plan.{ReplayPlan, replay}
 use Rattle.lt_answers.specs.Replays.{Sources}
 use Rattle.lt_answers.specs.Answers.{IsRead, IsLong, Misses, no_file, long_file, later_file, IsReadIf, AreRead, names_of, most_bytes, ReadEnds}
 use Rattle.lt_answers.specs.declared.status.Status.{Status}
@@ -75,8 +75,9 @@ replay_not_missed files asked from s r m =
     last_read files asked.cover from.cover s r.cover
     (if_read files asked.entry from.entry (option_to_list asked.cover) s r.entry (at_later_file s r.suite (at_later_file s r.file m)))
 
-pub conversion_not_missed : (files : Files) (file bytes : List ℕ) (s : Status) → IsRead files file bytes → Misses files (names_of (convert file)) s → ⊥
-conversion_not_missed files file bytes s r m = none_missed files s (at_later_file s r m)
+-- the only file of a command
+pub file_not_missed : (files : Files) (file bytes : List ℕ) (s : Status) → IsRead files file bytes → Misses files (file ∷ []) s → ⊥
+file_not_missed files file bytes s r m = none_missed files s (at_later_file s r m)
 
 -- ---- the same files
 

@@ -1,14 +1,14 @@
 -- Each stage of a replay says one thing: what it gives is one, or its refusal is, and never both.
-use Rattle.std.proofs.Common.{◌≡◌, ◌⊎◌, ◌<◌, ◌≤◌, ℕ, true, false, List, [], length, slice_get, Option, Some, None, refl, sym, ap, ◌∙◌, subst, arith, inl, inr}
+use Rattle.std.proofs.Common.{◌≡◌, ◌⊎◌, ◌<◌, ◌≤◌, ℕ, true, false, List, [], slice_get, Option, Some, None, refl, sym, ap, ◌∙◌, subst, inl, inr}
 use Rattle.std.proofs.Math.Nat.{eq-or-lt_of_le}
 use Rattle.std.proofs.lemmas.Bool.{cases_lt}
 use Rattle.lt_model.specs.declared.scalar.DataModel.{DataModel}
 use Rattle.lt_token.specs.Tokens.{Token, no_token, unsupported_word}
-use Rattle.lt_token.specs.Answer.{Answer, IsAnswer, lexed, refused, too_nested}
+use Rattle.lt_token.specs.Answer.{IsAnswer, lexed, refused, too_nested}
 use Rattle.lt_tree.specs.Tree.{Unit as SourceUnit}
 use Rattle.lt_tree.specs.Units.{Derives}
 use Rattle.lt_tree.specs.Typing.Rules.{Rule, number_of}
-use Rattle.lt_tree.specs.Typing.Programs.{Program, typed, broken}
+use Rattle.lt_tree.specs.Typing.Programs.{Program, broken}
 use Rattle.lt_tree.specs.Typing.UnitTyping.{IsProgramOf, BreaksFirst, typing}
 use Rattle.lt_entry.specs.Conditions.{may_be_entry, scope_behind}
 use Rattle.lt_entry.specs.Specifications.{Specification, IsDefault, IsLastEntry, HasNoEntry, line_number, specification_in}
@@ -19,18 +19,18 @@ use Rattle.lt_cover.specs.Coverage.Text.{IsCoverText}
 use Rattle.lt_cover.specs.Coverage.Merge.{IsMerge, AgreeAt, IsLeastMixed, IsLeastDiffering, label_keys, hyper_keys}
 use Rattle.lt_replayed.specs.Replayed.{IsCoverage}
 use Rattle.lt_answers.specs.Laws.{Laws}
-use Rattle.lt_answers.specs.Programs.{Spells, SpellsNone, no_token_there, word_not_supported, nests_too_deeply, derives_none, IsPlaceIn, IsProgram, HasNoProgram, spells_none, breaks_rule}
+use Rattle.lt_answers.specs.Programs.{Spells, SpellsNone, no_token_there, word_not_supported, nests_too_deeply, derives_none, IsProgram, HasNoProgram, spells_none, breaks_rule}
 use Rattle.lt_answers.specs.Entries.{Specifies, SpecifiesNone, bad_line, no_entry, IsNoSuite, bad_suite_line, IsOld, IsNoOld, IsNoCoverage, bad_row}
-use Rattle.lt_answers.specs.Replays.{Sources, HasProgram, HasSpecification, HasSuite, HasCoverage, IsMerged, IsCovered, IsReplay, IsConversion, AreMixed, mixed_label, mixed_hyper, mixed_test, Refuses, no_program, no_specification, no_suite, no_old, mixed}
+use Rattle.lt_answers.specs.Replays.{Sources, HasProgram, HasSpecification, HasSuite, HasCoverage, IsMerged, IsReplay, AreMixed, mixed_label, mixed_hyper, mixed_test, Refuses, no_program, no_specification, no_suite, no_old, mixed}
 use Rattle.lt_answers.specs.Answers.{IsSame}
 use Rattle.lt_answers.specs.declared.status.Status.TheVariants.{Refused}
 use Rattle.lt_answers.specs.declared.status.Refusal.{Refusal}
-use Rattle.lt_answers.specs.declared.status.Refusal.TheVariants.{Lex, Unsupported, TooNested, Syntax, Typing, NoEntry, Spec, Suite as SuiteRefusal, Cover, Mixed, MixedHyper, MixedTest}
+use Rattle.lt_answers.specs.declared.status.Refusal.TheVariants.{Lex, Unsupported, TooNested, Syntax, Typing, Spec, Suite as SuiteRefusal, Cover, Mixed, MixedHyper, MixedTest}
 use Rattle.lt_answers.proofs.Same.{same_why}
 
 -- ---- the unit that a text spells
 
-spells_once : (laws : Laws) (text : List ℕ) (u v : SourceUnit) (s p : List ℕ) → Spells text u s → Spells text v p → (u ≡ v) × (s ≡ p)
+pub spells_once : (laws : Laws) (text : List ℕ) (u v : SourceUnit) (s p : List ℕ) → Spells text u s → Spells text v p → (u ≡ v) × (s ≡ p)
 spells_once laws text u v s p h k =
     let same : lexed h.tokens ≡ lexed k.tokens = laws.answers text (lexed h.tokens) (lexed k.tokens) h.lexes k.lexes in
     let tokens : h.tokens ≡ k.tokens = cc in
@@ -106,7 +106,7 @@ none_spelled_once laws text why other (derives_none {tokens = tokens} {at = at} 
 same_typing : (model : DataModel) (u : SourceUnit) (p q : Program) → IsProgramOf model u p → IsProgramOf model u q → p ≡ q
 same_typing model u p q h k = cc
 
-programs_once : (laws : Laws) (model : DataModel) (text : List ℕ) (p q : Program) → IsProgram model text p → IsProgram model text q → p ≡ q
+pub programs_once : (laws : Laws) (model : DataModel) (text : List ℕ) (p q : Program) → IsProgram model text p → IsProgram model text q → p ≡ q
 programs_once laws model text p q h k =
     let units = spells_once laws text h.unit k.unit h.spots k.spots h.spells k.spells in
     same_typing model h.unit p q h.typed (subst (λ u. IsProgramOf model u q) (sym units.0) k.typed)
@@ -114,7 +114,7 @@ programs_once laws model text p q h k =
 typed_or_broken : (model : DataModel) (u : SourceUnit) (p : Program) (rule : Rule) (node : ℕ) → IsProgramOf model u p → BreaksFirst model u rule node → ⊥
 typed_or_broken model u p rule node h k = cc
 
-program_or_none : (laws : Laws) (model : DataModel) (text : List ℕ) (p : Program) (why : Refusal) → IsProgram model text p → HasNoProgram model text why → ⊥
+pub program_or_none : (laws : Laws) (model : DataModel) (text : List ℕ) (p : Program) (why : Refusal) → IsProgram model text p → HasNoProgram model text why → ⊥
 program_or_none laws model text p why h (spells_none n) = spells_or_none laws text h.unit h.spots why h.spells n
 program_or_none laws model text p why h (breaks_rule {unit = unit} {spots = spots} {rule = rule} {node = node} s b at) =
     let units = spells_once laws text h.unit unit h.spots spots h.spells s in
@@ -137,7 +137,7 @@ at_rule laws model text unit spots rule node at other s b e (breaks_rule {unit =
     let place : at ≡ at' = same_place spots spots' node node' at at' units.1 same.1 e e' in
     let rules : rule ≡ rule' = same.0 in cc
 
-no_program_once : (laws : Laws) (model : DataModel) (text : List ℕ) (why other : Refusal) → HasNoProgram model text why → HasNoProgram model text other → IsSame (Refused why) (Refused other)
+pub no_program_once : (laws : Laws) (model : DataModel) (text : List ℕ) (why other : Refusal) → HasNoProgram model text why → HasNoProgram model text other → IsSame (Refused why) (Refused other)
 no_program_once laws model text why other (spells_none n) (spells_none m) = none_spelled_once laws text why other n m
 no_program_once laws model text why other (spells_none n) (breaks_rule {unit = unit} {spots = spots} s b e) = absurd (spells_or_none laws text unit spots why s n)
 no_program_once laws model text why other (breaks_rule {unit = unit} {spots = spots} {rule = rule} {node = node} {at = at} s b e) h =

@@ -1,10 +1,10 @@
 -- Answers that are one, and answers that differ.
-use Rattle.std.proofs.Common.{◌≡◌, ℕ, List, refl, sym, subst}
+use Rattle.std.proofs.Common.{◌≡◌, refl, subst}
 use Rattle.lt_answers.specs.Answers.{IsSame}
 use Rattle.lt_answers.specs.declared.status.Status.{Status}
 use Rattle.lt_answers.specs.declared.status.Status.TheVariants.{Done, Refused, Usage, Absent, TooLong, ReadFault, WriteFault, NoMemory}
 use Rattle.lt_answers.specs.declared.status.Refusal.{Refusal}
-use Rattle.lt_answers.specs.declared.status.Refusal.TheVariants.{Lex, Unsupported, TooNested, Syntax, Typing, NoEntry, Spec, Suite, Cover, Mixed, MixedHyper, MixedTest}
+use Rattle.lt_answers.specs.declared.status.Refusal.TheVariants.{Lex, Unsupported, TooNested, Syntax, Typing, NoEntry, Spec, Suite, Cover, Mixed, MixedHyper, MixedTest, LabelIds, Grown}
 
 pub same_refusal : (why : Refusal) → IsSame (Refused why) (Refused why)
 same_refusal (Lex at) = refl
@@ -19,6 +19,8 @@ same_refusal (Cover row) = refl
 same_refusal (Mixed id) = refl
 same_refusal (MixedHyper id) = refl
 same_refusal (MixedTest name) = refl
+same_refusal LabelIds = refl
+same_refusal (Grown nest) = refl
 
 pub same_itself : (s : Status) → IsSame s s
 same_itself Done = refl

@@ -3,11 +3,12 @@ use Rattle.std.specs.Prelude.{◌≡◌, ◌<◌, ◌≤◌, ◌⊎◌, ℕ, Lis
 use Rattle.lt_outside.specs.Count.{raised, Rose}
 use Rattle.lt_outside.specs.Shelf.{Files}
 use Rattle.lt_outside.specs.Sink.{Appends, AppendsPart}
-use Rattle.lt_command.specs.Plan.{Plan, ReplayPlan, replay, convert}
+use Rattle.lt_command.specs.Plan.{Plan, ReplayPlan, replay, convert, annotate}
 use Rattle.lt_answers.specs.Entries.{IsNoCoverage}
 use Rattle.lt_answers.specs.Replays.{Sources, IsReplay, IsConversion, Refuses}
+use Rattle.lt_answers.specs.Annotations.{IsAnnotation, RefusesAnnotation}
 use Rattle.lt_answers.specs.declared.status.Status.{Status}
-use Rattle.lt_answers.specs.declared.status.Status.TheVariants.{Done, Refused, Usage, Absent, TooLong, ReadFault, WriteFault, NoMemory}
+use Rattle.lt_answers.specs.declared.status.Status.TheVariants.{Done, Refused, Absent, TooLong, ReadFault, WriteFault, NoMemory}
 use Rattle.lt_answers.specs.declared.status.Refusal.{Refusal}
 use Rattle.lt_answers.specs.declared.status.Refusal.TheVariants.{Syntax}
 
@@ -33,6 +34,7 @@ pub record IsLong (files : Files) (name : List ℕ) (len : ℕ) : Type 0 where
 abbrev pub names_of : Plan → List (List ℕ)
 names_of (replay asked) = asked.file ∷ asked.suite ∷ option_to_list asked.entry ++ option_to_list asked.cover
 names_of (convert file) = file ∷ []
+names_of (annotate asked) = asked.file ∷ []
 
 -- The first of these names that has no file, or too long a one, is told.
 pub data Misses (files : Files) : List (List ℕ) → Status → Type 0 where
@@ -73,11 +75,13 @@ pub record AreRead (files : Files) (asked : ReplayPlan) (from : Sources) : Type 
 abbrev pub IsTextIn : Files → Plan → List ℕ → Type 0
 IsTextIn files (replay asked) out = (from : Sources) × AreRead files asked from × IsReplay from out
 IsTextIn files (convert file) out = (bytes : List ℕ) × IsRead files file bytes × IsConversion bytes out
+IsTextIn files (annotate asked) out = (bytes : List ℕ) × IsRead files asked.file bytes × IsAnnotation asked.model asked.criteria bytes out
 
 -- The refusal of a command, where all its files are read.
 abbrev pub IsRefused : Files → Plan → Refusal → Type 0
 IsRefused files (replay asked) why = (from : Sources) × AreRead files asked from × Refuses from why
 IsRefused files (convert file) why = (bytes : List ℕ) × IsRead files file bytes × IsNoCoverage bytes why
+IsRefused files (annotate asked) why = (bytes : List ℕ) × IsRead files asked.file bytes × RefusesAnnotation asked.model asked.criteria bytes why
 
 -- The answer that is due over these files, faults and want of memory aside.
 pub data IsDue (files : Files) (plan : Plan) : Status → Type 0 where

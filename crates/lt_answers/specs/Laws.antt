@@ -1,6 +1,6 @@
 -- What the parts of a command promise of their definitions, by which at most one answer is due.
 use Rattle.lt_outside.specs.Shelf.{Files}
-use Rattle.lt_token.specs.Laws.{AtMostOneAnswer}
+use Rattle.lt_token.specs.Laws.{AtMostOneReading, AtMostOneAnswer}
 use Rattle.lt_tree.specs.Units.{UnitsAreOne}
 use Rattle.lt_entry.specs.Laws.{TextsSayOneSpecification, TextsSayOneSuite}
 use Rattle.lt_cover_laws.specs.Laws.{TextsStandForOneTable, MergesAreOne}
@@ -10,6 +10,7 @@ use Rattle.lt_answers.specs.Answers.{IsDue, IsSame}
 use Rattle.lt_answers.specs.declared.status.Status.{Status}
 
 pub record Laws : Type 0 where
+  pub readings : AtMostOneReading
   pub answers : AtMostOneAnswer
   pub units : UnitsAreOne
   pub specifications : TextsSayOneSpecification

@@ -1,4 +1,4 @@
--- What the two commands give: the text that is put, or the refusal that comes first.
+-- What `replay` and `convert` give: the text that is put, or the refusal that comes first.
 use Rattle.std.specs.Prelude.{◌≡◌, ℕ, List, Option, Some, None}
 use Rattle.lt_model.specs.declared.scalar.DataModel.{DataModel}
 use Rattle.lt_tree.specs.Typing.Programs.{Program}

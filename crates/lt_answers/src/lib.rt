@@ -1,5 +1,5 @@
-// What the commands `replay` and `convert` answer over the bytes of their files, as definitions: which refusal or which text is due, how a command
-// ends, and in which words; `specs/Answers.antt` says which answer is due.
+// What the commands `replay`, `convert` and `annotate` answer over the bytes of their files, as definitions: which refusal or which text is due,
+// how a command ends, and in which words; `specs/Answers.antt` says which answer is due.
 #![tactic(auto)]
 
 mod laws;

@@ -25,6 +25,10 @@ pub enum Refusal {
     Mixed(u32),
     MixedHyper(u32),
     MixedTest(Name),
+    /// An id of the labels would pass 2,147,483,647.
+    LabelIds,
+    /// The annotated text nests this deep, deeper than a text may.
+    Grown(u64),
 }
 
 /// How a command ends.

@@ -72,6 +72,16 @@ fn too_long(alloc: Global, name: &[u8], len: u64) -> Result<String, AllocError>
     Ok(text)
 }
 
+// That the annotated text nests too deeply.
+fn grown(alloc: Global, nest: u64) -> Result<String, AllocError>
+    ensures { IfOk result (λ t. string_bytes t ≡ codes "annotated text nests " ++ decimal nest ++ codes " deep") }
+{
+    let mut text = String::from_str(alloc, "annotated text nests ")?;
+    text.push_str(nest.to_string(alloc)?.as_str())?;
+    text.push_str(" deep")?;
+    Ok(text)
+}
+
 // Why a command was refused.
 fn refusal_message(alloc: Global, why: &Refusal) -> Result<String, AllocError>
     ensures { IfOk result (λ t. string_bytes t ≡ refusal_message why.now) }
@@ -89,6 +99,8 @@ fn refusal_message(alloc: Global, why: &Refusal) -> Result<String, AllocError>
         Refusal::Mixed(id) => numbered(alloc, "coverage of other label ", *id, ""),
         Refusal::MixedHyper(id) => numbered(alloc, "coverage of other hyperlabel ", *id, ""),
         Refusal::MixedTest(name) => named(alloc, "coverage of other test ", name.as_slice()),
+        Refusal::LabelIds => String::from_str(alloc, "ids of labels pass 2147483647"),
+        Refusal::Grown(nest) => grown(alloc, *nest),
     }
 }
 

@@ -1,6 +1,6 @@
--- The words of `replay` give `clap` what they say.
-use Rattle.std.proofs.Common.{◌≡◌, ℕ, suc, zero, ◌+◌, ◌++◌, ◌==◌, ◌&&◌, ◌||◌, ◌≤◌, ◌<◌, ◌⊎◌, inl, inr, Bool, true, false, not, List, [], ◌∷◌, length, take, drop, refl, ap, ap₂, sym, ◌∙◌, Option, Some, None, is_some, codes, subst, arith, rules, cond}
-use Rattle.std.specs.Prelude.{option_map, find, slice_get, if◌then◌else◌}
+-- The words of a command give `clap` what they say.
+use Rattle.std.proofs.Common.{◌≡◌, ℕ, suc, zero, ◌+◌, ◌++◌, ◌==◌, ◌&&◌, ◌≤◌, ◌⊎◌, inl, inr, Bool, true, false, not, List, [], ◌∷◌, length, take, drop, refl, ap, sym, ◌∙◌, Option, Some, None, codes, subst, arith}
+use Rattle.std.specs.Prelude.{option_map, slice_get}
 use Rattle.std.specs.List.{list_any, before_first, after_first, position_or_len}
 use Rattle.std.specs.Str.{bytes_eq}
 use Rattle.std.proofs.lemmas.Bool.{false≢true}
@@ -9,9 +9,8 @@ use Rattle.std.proofs.lemmas.Slice.Eq.{bytes_eq-Decides}
 use Rattle.clap.specs.Words.{Text}
 use Rattle.clap.specs.Lexer.{long_of}
 use Rattle.lt_command.specs.Parts.{Parts, Setting, add_option, add_positional, has_name, is_among, is_equals, is_joined, is_value, parts_of, parts_behind, stand_once, value_of, with_option}
-use Rattle.lt_command.specs.Plan.{replay_options}
 use Rattle.lt_command.proofs.Uses.{Fed, nothing, positional, joined, apart, Values, set_at}
-use Rattle.lt_command.proofs.Walking.{IsNoFile, IsOption, Named, name_for, option_named, plain_file, plain_suite, rules_read, same_text}
+use Rattle.lt_command.proofs.Walking.{Form, IsForm, IsNoFile, IsOption, name_for, same_text}
 
 -- the first of two values
 abbrev pub or_else : Option Text → Option Text → Option Text
@@ -34,18 +33,19 @@ pub record AreFresh (k : ℕ) (f : Values) (p : Parts) : Type 0 where
   pub file : k ≤ 1 → f (codes "FILE") ≡ None
   pub suite : k ≤ 2 → f (codes "SUITE") ≡ None
 
-pub record Feeds (words : List Text) (k : ℕ) (f : Values) (p : Parts) : Type 0 where
+pub record Feeds (form : Form) (words : List Text) (k : ℕ) (f : Values) (p : Parts) : Type 0 where
   pub said : Values
-  pub fed : Fed rules_read k f words said
+  pub fed : Fed form.arguments form.past k f words said
   pub options : (id : Text) → IsNoFile id → said id ≡ or_else (f id) (value_of (name_for id) p.options)
   pub file : said (codes "FILE") ≡ or_else (f (codes "FILE")) (file_in k p.positionals)
   pub suite : said (codes "SUITE") ≡ or_else (f (codes "SUITE")) (suite_in k p.positionals)
 
-abbrev pub FeedAt : List Text → Parts → Type 0
-FeedAt words p = (k : ℕ) (f : Values) → 1 ≤ k → k + length p.positionals ≡ 3 → stand_once replay_options p.options ≡ true → AreFresh k f p → Feeds words k f p
+abbrev pub FeedAt : Form → List Text → Parts → Type 0
+FeedAt form words p =
+    (k : ℕ) (f : Values) → 1 ≤ k → k + length p.positionals ≡ form.past → stand_once form.names p.options ≡ true → AreFresh k f p → Feeds form words k f p
 
-abbrev Feed : List Text → Type 0
-Feed words = (p : Parts) → parts_of words ≡ Some p → FeedAt words p
+abbrev Feed : Form → List Text → Type 0
+Feed form words = (p : Parts) → parts_of words ≡ Some p → FeedAt form words p
 
 abbrev no_parts : Parts
 no_parts = record { positionals = []; options = [] }
@@ -54,22 +54,33 @@ or_none : (o : Option Text) → o ≡ or_else o None
 or_none None = refl
 or_none (Some v) = refl
 
-feed_nothing : FeedAt [] no_parts
-feed_nothing k f low count once fresh = at_three k count
-  where
-    at_three : (k : ℕ) → k + 0 ≡ 3 → Feeds [] k f no_parts
-    at_three k count = let three : 3 ≡ k = omega arith in subst (λ (n : ℕ). Feeds [] n f no_parts) three (record {
+no_file_in : (k : ℕ) → file_in k [] ≡ None
+no_file_in zero = refl
+no_file_in (suc zero) = refl
+no_file_in (suc (suc k)) = refl
+
+no_suite_in : (k : ℕ) → suite_in k [] ≡ None
+no_suite_in zero = refl
+no_suite_in (suc zero) = refl
+no_suite_in (suc (suc zero)) = refl
+no_suite_in (suc (suc (suc k))) = refl
+
+feed_nothing : (form : Form) → FeedAt form [] no_parts
+feed_nothing form k f low count once fresh =
+    let is_past : form.past ≡ k = omega arith in
+    record {
       said = f;
-      fed = nothing;
+      fed = subst (λ (n : ℕ). Fed form.arguments form.past n f [] f) is_past nothing;
       options = λ id no_file. or_none (f id);
-      file = or_none _;
-      suite = or_none _;
-    })
+      file = or_none _ ∙ ap (or_else (f (codes "FILE"))) (sym (no_file_in k));
+      suite = or_none _ ∙ ap (or_else (f (codes "SUITE"))) (sym (no_suite_in k));
+    }
 
 -- one more positional
-feed_positional : (b : ℕ) (bytes : Text) (rest : List Text) (q : Parts) → (b == 45) ≡ false → FeedAt rest q → FeedAt ((b ∷ bytes) ∷ rest) (add_positional (b ∷ bytes) q)
-feed_positional b bytes rest q no_dash below zero f low count once fresh = absurd (omega arith)
-feed_positional b bytes rest q no_dash below (suc zero) f low count once fresh =
+feed_positional : (form : Form) → IsForm form → (b : ℕ) (bytes : Text) (rest : List Text) (q : Parts) → (b == 45) ≡ false → FeedAt form rest q
+    → FeedAt form ((b ∷ bytes) ∷ rest) (add_positional (b ∷ bytes) q)
+feed_positional form is b bytes rest q no_dash below zero f low count once fresh = absurd (omega arith)
+feed_positional form is b bytes rest q no_dash below (suc zero) f low count once fresh =
     let none : f (codes "FILE") ≡ None = fresh.file (omega arith) in
     let more = below 2 (set_at f (codes "FILE") (b ∷ bytes)) (omega arith) (omega arith) once (record {
       options = λ id no_file. rw no_file.file (fresh.options id no_file);
@@ -78,12 +89,13 @@ feed_positional b bytes rest q no_dash below (suc zero) f low count once fresh =
     }) in
     record {
       said = more.said;
-      fed = positional plain_file no_dash refl none refl more.fed;
+      fed = positional is.file.plain no_dash is.file.index none refl more.fed;
       options = λ id no_file. more.options id no_file ∙ rw no_file.file refl;
       file = more.file ∙ rw none refl;
       suite = more.suite;
     }
-feed_positional b bytes rest q no_dash below (suc (suc zero)) f low count once fresh =
+feed_positional form is b bytes rest q no_dash below (suc (suc zero)) f low count once fresh =
+    let suite = is.suite (omega arith) in
     let none : f (codes "SUITE") ≡ None = fresh.suite (omega arith) in
     let more = below 3 (set_at f (codes "SUITE") (b ∷ bytes)) (omega arith) (omega arith) once (record {
       options = λ id no_file. rw no_file.suite (fresh.options id no_file);
@@ -92,12 +104,12 @@ feed_positional b bytes rest q no_dash below (suc (suc zero)) f low count once f
     }) in
     record {
       said = more.said;
-      fed = positional plain_suite no_dash refl none refl more.fed;
+      fed = positional suite.plain no_dash suite.index none refl more.fed;
       options = λ id no_file. more.options id no_file ∙ rw no_file.suite refl;
       file = more.file;
       suite = more.suite ∙ rw none refl;
     }
-feed_positional b bytes rest q no_dash below (suc (suc (suc k))) f low count once fresh = absurd (omega arith)
+feed_positional form is b bytes rest q no_dash below (suc (suc (suc k))) f low count once fresh = absurd (omega (arith, is.past))
 
 -- ---- one more option
 
@@ -121,27 +133,29 @@ absent_value name (o ∷ options) h = go (has_name name o) refl h (absent_value 
     go true t h rest = let bad : true ≡ false = rw t at h in cc
     go false t h rest = rw t (rest (rw t at h))
 
-Step : Text → Text → List Text → List Text → Type 0
-Step id v words rest = (k : ℕ) (f g : Values) → f id ≡ None → Fed rules_read k (set_at f id v) rest g → Fed rules_read k f words g
+Step : Form → Text → Text → List Text → List Text → Type 0
+Step form id v words rest =
+    (k : ℕ) (f g : Values) → f id ≡ None → Fed form.arguments form.past k (set_at f id v) rest g → Fed form.arguments form.past k f words g
 
-feed_option_of : (id v : Text) (words rest : List Text) (q : Parts) → IsOption id → FeedAt rest q → Step id v words rest → FeedAt words (add_option (name_for id) v q)
+feed_option_of : (form : Form) (id v : Text) (words rest : List Text) (q : Parts) → IsOption form.arguments id → FeedAt form rest q → Step form id v words rest
+    → FeedAt form words (add_option (name_for id) v q)
 unfolding Step
-feed_option_of id v words rest q o below step k f low count once fresh =
+feed_option_of form id v words rest q o below step k f low count once fresh =
     let itself : bytes_eq id id ≡ true = (bytes_eq-Decides id id).1 refl in
-    let parts = all_three (is_among (name_for id) replay_options) (list_any (has_name (name_for id)) q.options) (stand_once replay_options q.options) once in
+    let parts = all_three (is_among (name_for id) form.names) (list_any (has_name (name_for id)) q.options) (stand_once form.names q.options) once in
     let absent = absent_value (name_for id) q.options parts.second in
-    let none : f id ≡ None = elim (fresh.options id o.no_file) [ inl h ↦ absurd (some_none v (rw itself at h)) | inr h ↦ h ] in
+    let none : f id ≡ None = elim (fresh.options id o.word.no_file) [ inl h ↦ absurd (some_none v (rw itself at h)) | inr h ↦ h ] in
     let more = below k (set_at f id v) low count parts.third (record {
       options = λ other no_file. fresh_at other (bytes_eq id other) refl absent (fresh.options other no_file);
-      file = λ h. rw o.file (fresh.file h);
-      suite = λ h. rw o.suite (fresh.suite h);
+      file = λ h. rw o.word.file (fresh.file h);
+      suite = λ h. rw o.word.suite (fresh.suite h);
     }) in
     record {
       said = more.said;
       fed = step k f more.said none more.fed;
       options = λ other no_file. said_at other (bytes_eq id other) refl none (more.said other) (more.options other no_file);
-      file = more.file ∙ rw o.file refl;
-      suite = more.suite ∙ rw o.suite refl;
+      file = more.file ∙ rw o.word.file refl;
+      suite = more.suite ∙ rw o.word.suite refl;
     }
   where
     some_none : (v : Text) → Some v ≡ None → ⊥
@@ -160,13 +174,13 @@ feed_option_of id v words rest q o below step k f low count once fresh =
         rw (other_none, t) (rw t at h)
     said_at other false t none said h = rw t (rw t at h)
 
-feed_option : (name v : Text) (words rest : List Text) (q : Parts) → FeedAt rest q
-    → ((id : Text) → IsOption id → name ≡ name_for id → Step id v words rest) → FeedAt words (add_option name v q)
-feed_option name v words rest q below step k f low count once fresh =
-    let parts = all_three (is_among name replay_options) (list_any (has_name name) q.options) (stand_once replay_options q.options) once in
-    let n = option_named name parts.first in
-    let its = feed_option_of n.id v words rest q n.option below (step n.id n.option n.is) in
-    subst (λ (w : Text). FeedAt words (add_option w v q)) (sym n.is) its k f low count once fresh
+feed_option : (form : Form) → IsForm form → (name v : Text) (words rest : List Text) (q : Parts) → FeedAt form rest q
+    → ((id : Text) → IsOption form.arguments id → name ≡ name_for id → Step form id v words rest) → FeedAt form words (add_option name v q)
+feed_option form is name v words rest q below step k f low count once fresh =
+    let parts = all_three (is_among name form.names) (list_any (has_name name) q.options) (stand_once form.names q.options) once in
+    let n = is.option name parts.first in
+    let its = feed_option_of form n.id v words rest q n.option below (step n.id n.option n.is) in
+    subst (λ (w : Text). FeedAt form words (add_option w v q)) (sym n.is) its k f low count once fresh
 
 -- ---- all words
 
@@ -174,26 +188,28 @@ mapped_some : {A B : Type 0} (f : A → B) (o : Option A) (p : B) → option_map
 mapped_some f None p h = cc
 mapped_some f (Some q) p h = (q, refl, (cc))
 
-feed_first : (word : Text) (rest : List Text) → Feed rest → is_value word ≡ true → (p : Parts) → option_map (add_positional word) (parts_of rest) ≡ Some p → FeedAt (word ∷ rest) p
-feed_first [] rest below is p h = absurd (false≢true is)
-feed_first (b ∷ bytes) rest below is p h =
+feed_first : (form : Form) → IsForm form → (word : Text) (rest : List Text) → Feed form rest → is_value word ≡ true → (p : Parts)
+    → option_map (add_positional word) (parts_of rest) ≡ Some p → FeedAt form (word ∷ rest) p
+feed_first form is [] rest below value p h = absurd (false≢true value)
+feed_first form is (b ∷ bytes) rest below value p h =
     let made = mapped_some (add_positional (b ∷ bytes)) (parts_of rest) p h in
-    let no_dash : (b == 45) ≡ false = not_true (b == 45) is in
-    subst (FeedAt ((b ∷ bytes) ∷ rest)) made.2 (feed_positional b bytes rest made.0 no_dash (below made.0 made.1))
+    let no_dash : (b == 45) ≡ false = not_true (b == 45) value in
+    subst (FeedAt form ((b ∷ bytes) ∷ rest)) made.2 (feed_positional form is b bytes rest made.0 no_dash (below made.0 made.1))
   where
     not_true : (t : Bool) → not t ≡ true → t ≡ false
     not_true true h = absurd (false≢true h)
     not_true false h = refl
 
-feed_valued : (name v : Text) (words rest : List Text) → Feed rest → (is_value v ≡ true → (id : Text) → IsOption id → name ≡ name_for id → Step id v words rest)
-    → (p : Parts) → with_option name v (parts_of rest) ≡ Some p → FeedAt words p
-feed_valued name v words rest below step p h = go (is_value v) refl h
+feed_valued : (form : Form) → IsForm form → (name v : Text) (words rest : List Text) → Feed form rest
+    → (is_value v ≡ true → (id : Text) → IsOption form.arguments id → name ≡ name_for id → Step form id v words rest)
+    → (p : Parts) → with_option name v (parts_of rest) ≡ Some p → FeedAt form words p
+feed_valued form is name v words rest below step p h = go (is_value v) refl h
   where
-    go : (t : Bool) → is_value v ≡ t → with_option name v (parts_of rest) ≡ Some p → FeedAt words p
+    go : (t : Bool) → is_value v ≡ t → with_option name v (parts_of rest) ≡ Some p → FeedAt form words p
     go false t h = let bad : None ≡ Some p = rw t at h in cc
     go true t h =
         let made = mapped_some (add_option name v) (parts_of rest) p (rw t at h) in
-        subst (FeedAt words) made.2 (feed_option name v words rest made.0 (below made.0 made.1) (step t))
+        subst (FeedAt form words) made.2 (feed_option form is name v words rest made.0 (below made.0 made.1) (step t))
 
 one_further : (n x : ℕ) (xs : Text) → take (1 + n) (x ∷ xs) ++ 61 ∷ drop (1 + n + 1) (x ∷ xs) ≡ x ∷ (take n xs ++ 61 ∷ drop (n + 1) xs)
 one_further n x xs =
@@ -210,43 +226,43 @@ joined_is (x ∷ xs) h = go (is_equals x) refl h (joined_is xs)
     go true t h below = let is : x ≡ 61 = grind (arith, nat_tests) in rw t (ap (λ (n : ℕ). n ∷ xs) is)
     go false t h below = rw t (ap (λ (bs : Text). x ∷ bs) (below (rw t at h)) ∙ sym (one_further (position_or_len is_equals xs) x xs))
 
-step_joined_word : (word : Text) (rest : List Text) → is_joined word ≡ true → (id : Text) → IsOption id → before_first is_equals word ≡ name_for id
-    → Step id (after_first is_equals word) (word ∷ rest) rest
+step_joined_word : (form : Form) (word : Text) (rest : List Text) → is_joined word ≡ true → (id : Text) → IsOption form.arguments id → before_first is_equals word ≡ name_for id
+    → Step form id (after_first is_equals word) (word ∷ rest) rest
 unfolding Step
-step_joined_word word rest j id o name k f g none fed =
+step_joined_word form word rest j id o name k f g none fed =
     let v = after_first is_equals word in
     let is : name_for id ++ 61 ∷ v ≡ word = sym (joined_is word j ∙ ap (λ (w : Text). w ++ 61 ∷ after_first is_equals word) name) in
-    joined o.plain (ap (λ (w : Text). bytes_eq w (45 ∷ 45 ∷ [])) (sym is) ∙ o.no_dashes_joined v) (ap long_of (sym is) ∙ o.joined v) o.by_long none fed
+    joined o.plain (ap (λ (w : Text). bytes_eq w (45 ∷ 45 ∷ [])) (sym is) ∙ o.word.no_dashes_joined v) (ap long_of (sym is) ∙ o.word.joined v) o.by_long none fed
 
-step_apart_words : (word v : Text) (rest : List Text) → is_value v ≡ true → (id : Text) → IsOption id → word ≡ name_for id → Step id v (word ∷ v ∷ rest) rest
+step_apart_words : (form : Form) (word v : Text) (rest : List Text) → is_value v ≡ true → (id : Text) → IsOption form.arguments id → word ≡ name_for id → Step form id v (word ∷ v ∷ rest) rest
 unfolding Step
-step_apart_words word [] rest is id o name k f g none fed = absurd (false≢true is)
-step_apart_words word (b ∷ bytes) rest is id o name k f g none fed =
-    apart o.plain (ap (λ (w : Text). bytes_eq w (45 ∷ 45 ∷ [])) name ∙ o.no_dashes) (ap long_of name ∙ o.apart) o.by_long (not_true (b == 45) is) none fed
+step_apart_words form word [] rest is id o name k f g none fed = absurd (false≢true is)
+step_apart_words form word (b ∷ bytes) rest is id o name k f g none fed =
+    apart o.plain (ap (λ (w : Text). bytes_eq w (45 ∷ 45 ∷ [])) name ∙ o.word.no_dashes) (ap long_of name ∙ o.word.apart) o.by_long (not_true (b == 45) is) none fed
   where
     not_true : (t : Bool) → not t ≡ true → t ≡ false
     not_true true h = absurd (false≢true h)
     not_true false h = refl
 
 -- all but the first word are read, if that is an option in one word; and if it is one in two
-abbrev FeedBehind : List Text → Type 0
-FeedBehind [] = Unit {0}
-FeedBehind (v ∷ rest) = Feed rest
+abbrev FeedBehind : Form → List Text → Type 0
+FeedBehind form [] = Unit {0}
+FeedBehind form (v ∷ rest) = Feed form rest
 
-feed_behind : (word : Text) (rest : List Text) → FeedBehind rest → (p : Parts) → parts_behind word rest ≡ Some p → FeedAt (word ∷ rest) p
-feed_behind word [] below p h = cc
-feed_behind word (v ∷ rest) below p h = feed_valued word v (word ∷ v ∷ rest) rest below (step_apart_words word v rest) p h
+feed_behind : (form : Form) → IsForm form → (word : Text) (rest : List Text) → FeedBehind form rest → (p : Parts) → parts_behind word rest ≡ Some p → FeedAt form (word ∷ rest) p
+feed_behind form is word [] below p h = cc
+feed_behind form is word (v ∷ rest) below p h = feed_valued form is word v (word ∷ v ∷ rest) rest below (step_apart_words form word v rest) p h
 
-feed_word : (word : Text) (rest : List Text) → Feed rest → FeedBehind rest → Feed (word ∷ rest)
-feed_word word rest below behind p h = go (is_value word) (is_joined word) refl refl h
+feed_word : (form : Form) → IsForm form → (word : Text) (rest : List Text) → Feed form rest → FeedBehind form rest → Feed form (word ∷ rest)
+feed_word form is word rest below behind p h = go (is_value word) (is_joined word) refl refl h
   where
-    go : (a b : Bool) → is_value word ≡ a → is_joined word ≡ b → parts_of (word ∷ rest) ≡ Some p → FeedAt (word ∷ rest) p
-    go true b ha hb h = feed_first word rest below ha p (rw ha at h)
+    go : (a b : Bool) → is_value word ≡ a → is_joined word ≡ b → parts_of (word ∷ rest) ≡ Some p → FeedAt form (word ∷ rest) p
+    go true b ha hb h = feed_first form is word rest below ha p (rw ha at h)
     go false true ha hb h =
-        feed_valued (before_first is_equals word) (after_first is_equals word) (word ∷ rest) rest below (λ is. step_joined_word word rest hb) p (rw (ha, hb) at h)
-    go false false ha hb h = feed_behind word rest behind p (rw (ha, hb) at h)
+        feed_valued form is (before_first is_equals word) (after_first is_equals word) (word ∷ rest) rest below (λ value. step_joined_word form word rest hb) p (rw (ha, hb) at h)
+    go false false ha hb h = feed_behind form is word rest behind p (rw (ha, hb) at h)
 
-pub feed : (words : List Text) (p : Parts) → parts_of words ≡ Some p → FeedAt words p
-feed [] p h = let made : no_parts ≡ p = cc in subst (FeedAt []) made feed_nothing
-feed (word ∷ []) p h = feed_word word [] (feed []) tt p h
-feed (word ∷ v ∷ rest) p h = feed_word word (v ∷ rest) (feed (v ∷ rest)) (feed rest) p h
+pub feed : (form : Form) → IsForm form → (words : List Text) (p : Parts) → parts_of words ≡ Some p → FeedAt form words p
+feed form is [] p h = let made : no_parts ≡ p = cc in subst (FeedAt form []) made (feed_nothing form)
+feed form is (word ∷ []) p h = feed_word form is word [] (feed form is []) tt p h
+feed form is (word ∷ v ∷ rest) p h = feed_word form is word (v ∷ rest) (feed form is (v ∷ rest)) (feed form is rest) p h

@@ -1,7 +1,11 @@
+mod AnnotateRead
+mod CriteriaRead
 mod Feeding
 mod Names
 mod Reading
+mod ReplayRead
 mod Matches
+mod Simple
 mod Steps
 mod Uses
 mod Walking

@@ -1,22 +1,19 @@
 -- What is found behind words that are read one by one.
-use Rattle.std.proofs.Common.{◌≡◌, ℕ, suc, zero, ◌+◌, ◌++◌, ◌==◌, ◌&&◌, ◌||◌, Bool, true, false, not, List, [], ◌∷◌, length, map, refl, ap, ap₂, sym, ◌∙◌, Option, Some, None, is_some, codes, subst, arith, rules, cond}
-use Rattle.std.specs.Prelude.{option_map, option_and_then, find, fold, slice_get, if◌then◌else◌, drop, min}
-use Rattle.std.specs.List.{list_any, list_all}
+use Rattle.std.proofs.Common.{◌≡◌, ℕ, suc, ◌+◌, ◌++◌, ◌==◌, ◌&&◌, ◌||◌, Bool, true, false, List, [], ◌∷◌, refl, ap, ap₂, sym, ◌∙◌, Option, Some, None, is_some, subst}
+use Rattle.std.specs.Prelude.{fold, slice_get, if◌then◌else◌, min}
 use Rattle.std.specs.Str.{bytes_eq}
 use Rattle.std.proofs.lemmas.List.{append-nil}
 use Rattle.std.proofs.lemmas.List.Folds.{list_any-append}
-use Rattle.std.proofs.lemmas.Bool.{false≢true}
 use Rattle.std.proofs.lemmas.Slice.Eq.{bytes_eq-Decides}
 use Rattle.clap.specs.Words.{Row, Rule, Text, first_of, Shape}
 use Rattle.clap.specs.Lexer.{long_of, short_of, usize_max}
-use Rattle.clap.specs.Walk.{Held, Walk, action_of, arg_by_id, arg_by_index, arg_by_long, at_row, has_row, idle, option, is_multiple, is_pending, more_values, most_values, pushed, reading_by, reacted, settled, takes_several, takes_values, used, used_as, walked, with_values, without}
+use Rattle.clap.specs.Walk.{Held, Walk, action_of, arg_by_id, arg_by_index, arg_by_long, at_row, has_row, idle, is_multiple, is_pending, more_values, most_values, reading_by, reacted, settled, takes_several, takes_values, used, used_as, walked, with_values, without}
 use Rattle.clap.specs.Takes.{settle_passes, turn_passes, use_passes, walk_passes}
 use Rattle.clap.specs.declared.builder.action.ArgAction.{ArgAction}
 use Rattle.clap.specs.declared.builder.action.ArgAction.TheVariants.{Set}
 use Rattle.clap.specs.declared.parser.matches.ValueSource.TheVariants.{CommandLine}
 use Rattle.clap.specs.declared.builder.value_parser.Reading.{Reading}
 use Rattle.clap.specs.declared.builder.value_parser.Reading.TheVariants.{AsWritten}
-use Rattle.lt_command.specs.Parts.{is_value}
 
 -- each use of the argument is one value of it
 pub record IsPlainRule (c : List Rule) (a : Rule) : Type 0 where
@@ -220,47 +217,47 @@ passes_value s a k b w bytes h p no_dashes long by_long no_dash =
 
 -- ---- all words
 
--- the words say, from the k-th positional on, so much more than f that g is said
-pub data Fed (c : List Rule) : ℕ → Values → List Text → Values → Type 0 where
-  nothing : {f : Values} → Fed c 3 f [] f
+-- the words say, from the k-th positional on, so much more than f that g is said; no positional has the number past
+pub data Fed (c : List Rule) (past : ℕ) : ℕ → Values → List Text → Values → Type 0 where
+  nothing : {f : Values} → Fed c past past f [] f
   positional : {a : Rule} {k b : ℕ} {bytes : Text} {rest : List Text} {f g : Values} → IsPlainRule c a → (b == 45) ≡ false → arg_by_index c k ≡ Some a → f a.id ≡ None
-      → min (k + 1) usize_max ≡ suc k → Fed c (suc k) (set_at f a.id (b ∷ bytes)) rest g → Fed c k f ((b ∷ bytes) ∷ rest) g
+      → min (k + 1) usize_max ≡ suc k → Fed c past (suc k) (set_at f a.id (b ∷ bytes)) rest g → Fed c past k f ((b ∷ bytes) ∷ rest) g
   joined : {a : Rule} {k : ℕ} {w v : Text} {rest : List Text} {f g : Values} → IsPlainRule c a → bytes_eq w (45 ∷ 45 ∷ []) ≡ false → long_of w ≡ Some (a.id, Some v)
-      → arg_by_long c a.id ≡ Some a → f a.id ≡ None → Fed c k (set_at f a.id v) rest g → Fed c k f (w ∷ rest) g
+      → arg_by_long c a.id ≡ Some a → f a.id ≡ None → Fed c past k (set_at f a.id v) rest g → Fed c past k f (w ∷ rest) g
   apart : {a : Rule} {k b : ℕ} {w bytes : Text} {rest : List Text} {f g : Values} → IsPlainRule c a → bytes_eq w (45 ∷ 45 ∷ []) ≡ false → long_of w ≡ Some (a.id, None)
-      → arg_by_long c a.id ≡ Some a → (b == 45) ≡ false → f a.id ≡ None → Fed c k (set_at f a.id (b ∷ bytes)) rest g → Fed c k f (w ∷ (b ∷ bytes) ∷ rest) g
+      → arg_by_long c a.id ≡ Some a → (b == 45) ≡ false → f a.id ≡ None → Fed c past k (set_at f a.id (b ∷ bytes)) rest g → Fed c past k f (w ∷ (b ∷ bytes) ∷ rest) g
 
 -- how a walk that goes well ends
-pub record Ends (s : Shape) (k : ℕ) (h : Held) (words : List Text) (g : Values) : Type 0 where
+pub record Ends (s : Shape) (past k : ℕ) (h : Held) (words : List Text) (g : Values) : Type 0 where
   pub end : Held
-  pub walked_to : fold (walked s.rules []) (at h k) words ≡ at end 3
+  pub walked_to : fold (walked s.rules []) (at h k) words ≡ at end past
   pub holds : Holds s.rules g end
   pub passes : walk_passes s [] (at h k) words ≡ true
 
-pub fed_ends : (s : Shape) (k : ℕ) (f g : Values) (words : List Text) (h : Held) → s.args_override_self ≡ false → Fed s.rules k f words g → Holds s.rules f h → Ends s k h words g
+pub fed_ends : (s : Shape) (past k : ℕ) (f g : Values) (words : List Text) (h : Held) → s.args_override_self ≡ false → Fed s.rules past k f words g → Holds s.rules f h → Ends s past k h words g
 unfolding walk_passes
-fed_ends s k f g words h once nothing holds = record { end = h; walked_to = refl; holds = holds; passes = refl }
-fed_ends s k f g words h once (positional {a = a} {b = b} {bytes = bytes} {rest = rest} p no_dash index none next fed) holds =
+fed_ends s past k f g words h once nothing holds = record { end = h; walked_to = refl; holds = holds; passes = refl }
+fed_ends s past k f g words h once (positional {a = a} {b = b} {bytes = bytes} {rest = rest} p no_dash index none next fed) holds =
     let step = step_positional s.rules a k b bytes h p no_dash index ∙ ap (at (record h { rows = (settled s.rules h).rows; pending = Some (a.id, (b ∷ bytes) ∷ []) })) next in
-    let rest_ends = fed_ends s (suc k) _ g rest _ once fed (pushed_holds s.rules a f (b ∷ bytes) h p holds none) in
+    let rest_ends = fed_ends s past (suc k) _ g rest _ once fed (pushed_holds s.rules a f (b ∷ bytes) h p holds none) in
     record {
       end = rest_ends.end;
       walked_to = ap (λ (w : Walk). fold (walked s.rules []) w rest) step ∙ rest_ends.walked_to;
       holds = rest_ends.holds;
       passes = rw (passes_positional s f a k b bytes h once p holds no_dash index, step) rest_ends.passes;
     }
-fed_ends s k f g words h once (joined {a = a} {w = w} {v = v} {rest = rest} p no_dashes long by_long none fed) holds =
+fed_ends s past k f g words h once (joined {a = a} {w = w} {v = v} {rest = rest} p no_dashes long by_long none fed) holds =
     let step = step_joined s.rules a k w v h p no_dashes long by_long in
-    let rest_ends = fed_ends s k _ g rest _ once fed (reacted_holds s.rules a f v h p holds none) in
+    let rest_ends = fed_ends s past k _ g rest _ once fed (reacted_holds s.rules a f v h p holds none) in
     record {
       end = rest_ends.end;
       walked_to = ap (λ (w : Walk). fold (walked s.rules []) w rest) step ∙ rest_ends.walked_to;
       holds = rest_ends.holds;
       passes = rw (passes_joined s f a k w v h once p holds none no_dashes long by_long, step) rest_ends.passes;
     }
-fed_ends s k f g words h once (apart {a = a} {b = b} {w = w} {bytes = bytes} {rest = rest} p no_dashes long by_long no_dash none fed) holds =
+fed_ends s past k f g words h once (apart {a = a} {b = b} {w = w} {bytes = bytes} {rest = rest} p no_dashes long by_long no_dash none fed) holds =
     let step = step_apart s.rules a k b w bytes h p no_dashes long by_long no_dash in
-    let rest_ends = fed_ends s k _ g rest _ once fed (pushed_holds s.rules a f (b ∷ bytes) h p holds none) in
+    let rest_ends = fed_ends s past k _ g rest _ once fed (pushed_holds s.rules a f (b ∷ bytes) h p holds none) in
     record {
       end = rest_ends.end;
       walked_to = ap (λ (w : Walk). fold (walked s.rules []) w rest) step ∙ rest_ends.walked_to;

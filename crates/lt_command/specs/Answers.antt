@@ -1,10 +1,11 @@
 -- What a reading of words answers.
 use Rattle.std.specs.Prelude.{◌≡◌, ℕ, List, map, string_bytes, Option, Some, None, option_map, Result, Ok, Err, String}
 use Rattle.std.specs.Global.{Global}
-use Rattle.lt_command.specs.Plan.{Plan, ReplayPlan, Said, replay, convert}
+use Rattle.lt_command.specs.Plan.{AnnotatePlan, Plan, ReplayPlan, Said, annotate, convert, replay}
 use Rattle.lt_command.specs.declared.replay.Said.{Said as SaidRead}
 use Rattle.lt_command.specs.declared.commands.Command.{Command}
 use Rattle.lt_command.specs.declared.commands.Command.TheVariants as command
+use Rattle.lt_command.specs.declared.commands.Annotate.{Annotate}
 use Rattle.lt_command.specs.declared.commands.Replay.{Replay}
 use Rattle.lt_command.specs.declared.stops.PlanStop.{PlanStop}
 use Rattle.lt_command.specs.declared.stops.PlanStop.TheVariants.{Usage, NoMemory}
@@ -22,9 +23,13 @@ replay_in r = record {
   cover = option_map (λ name. name.now) r.cover;
 }
 
+abbrev pub annotate_in : Annotate → AnnotatePlan
+annotate_in a = record { file = a.file.now; criteria = a.criteria.0; model = a.model }
+
 abbrev pub plan_in : Command → Plan
 plan_in (command.Replay r) = replay (replay_in r)
 plan_in (command.Convert file) = convert file.now
+plan_in (command.Annotate a) = annotate (annotate_in a)
 
 abbrev pub said_in : SaidRead → Said
 said_in said = record {

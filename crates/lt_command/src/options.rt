@@ -2,21 +2,11 @@
 
 ghost use Rattle.std.specs.Prelude.{◌≡◌, map};
 ghost use Rattle.std.specs.List.{list_any};
-ghost use Rattle.lt_command.specs.Parts.{has_name, is_among, stand_once};
-ghost use Rattle.lt_command.specs.Plan.{replay_options};
+ghost use Rattle.std.specs.Str.{bytes_eq};
+ghost use Rattle.lt_command.specs.Parts.{has_name, stand_once};
 ghost use Rattle.lt_command.specs.Views.{setting_in};
 
 use crate::parts::Setting;
-
-fn is_replay_option(name: &str) -> bool
-    ensures { result ≡ is_among name.now replay_options }
-{
-    name == "--entry"
-        || name == "--model"
-        || name == "--char"
-        || name == "--steps"
-        || name == "--cover"
-}
 
 // Whether an option has the name.
 fn has_option(options: &[Setting], name: &str) -> bool
@@ -25,14 +15,23 @@ fn has_option(options: &[Setting], name: &str) -> bool
     options.iter().any(|option| option.name == name)
 }
 
-/// Whether each option is one of `replay`, and none stands twice. It calls itself at most once for each option of `replay`.
-#[tactic(auto, using(crate::proofs::Names::list_any_map))]
-pub fn stand_once(options: &[Setting]) -> bool
-    ensures { result ≡ stand_once replay_options (map setting_in options.now) }
+// Whether the word is one of the names.
+fn is_among(word: &str, names: &[&str]) -> bool
+    ensures { result ≡ list_any (λ name. bytes_eq word.now name.now) names.now }
+{
+    names.iter().any(|name| word == *name)
+}
+
+/// Whether each option has one of the names, and none stands twice. It calls itself at most once for each name.
+#[tactic(auto, using(crate::proofs::Names::is_among_map, crate::proofs::Names::list_any_map))]
+pub fn stand_once(names: &[&str], options: &[Setting]) -> bool
+    ensures { result ≡ stand_once (map (λ name. name.now) names.now) (map setting_in options.now) }
 {
     match options.split_first() {
         Some((option, rest)) => {
-            is_replay_option(option.name) && !has_option(rest, option.name) && stand_once(rest)
+            is_among(option.name, names)
+                && !has_option(rest, option.name)
+                && stand_once(names, rest)
         }
         None => true,
     }

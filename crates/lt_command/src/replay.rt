@@ -1,24 +1,25 @@
 //! The command `replay`: the rules say whether its words are of its form, and `clap` reads them.
 
-ghost use Rattle.std.specs.Prelude.{◌≡◌, Some, true, false, IfOk, drop, option_map, codes};
-ghost use Rattle.clap.specs.Words.{app_of, first_of, found_of, matches_of, rows_of, rule_of, takes};
+ghost use Rattle.std.specs.Prelude.{◌≡◌, Some, IfOk, drop, option_map};
+ghost use Rattle.clap.specs.Words.{app_of, found_of, rows_of};
 ghost use Rattle.lt_command.specs.Parts.{parts_of};
-ghost use Rattle.lt_command.specs.Plan.{data_model_of, replay_of, replay_with};
-ghost use Rattle.lt_command.specs.Reading.{option_as, replay_among, replay_app, said_among};
+ghost use Rattle.lt_command.specs.Plan.{replay_of, replay_with};
+ghost use Rattle.lt_command.specs.Reading.{replay_among, replay_app, said_among};
 ghost use Rattle.lt_command.specs.Views.{parts_in};
 ghost use Rattle.lt_command.specs.Answers.{Answers, plan_in, said_in, words_of};
 
 use crate::commands::{Command, Replay};
 use crate::options::stand_once;
+use crate::parsing::{option_of, plain_command, read};
 use crate::parts::Parts;
 use crate::stops::PlanStop;
-use crate::values::{char_of, model_of, steps_of, unsigned_model};
-use clap::error::ErrorKind;
+use crate::values::{data_model_of, steps_of};
 use clap::{Arg, ArgMatches};
-use lt_model::DataModel;
 use std::alloc::{AllocError, Global};
 
 const DEFAULT_STEPS: u64 = 100_000;
+
+const OPTIONS: [&str; 5] = ["--entry", "--model", "--char", "--steps", "--cover"];
 
 /// The words of the options of `replay`.
 #[derive(Clone, Copy)]
@@ -30,19 +31,11 @@ pub struct Said<'a> {
     pub cover: Option<&'a str>,
 }
 
-fn option_of<'a>(alloc: Global, name: &'a str) -> Arg<'a>
-    ensures rule { rule_of result ≡ option_as name.entry.now }
-    ensures local { result.global ≡ false }
-{
-    Arg::new(alloc, name).long(name)
-}
-
 // The command line as `clap` is told of it.
 fn command_line<'a>(alloc: Global) -> Result<clap::Command<'a>, AllocError>
     ensures { IfOk result (λ command. app_of command ≡ replay_app) }
 {
-    clap::Command::new(alloc, "replay")
-        .disable_help_flag(true)
+    plain_command(alloc, "replay")
         .arg(Arg::new(alloc, "FILE"))?
         .arg(Arg::new(alloc, "SUITE"))?
         .arg(option_of(alloc, "entry"))?
@@ -50,21 +43,6 @@ fn command_line<'a>(alloc: Global) -> Result<clap::Command<'a>, AllocError>
         .arg(option_of(alloc, "char"))?
         .arg(option_of(alloc, "steps"))?
         .arg(option_of(alloc, "cover"))
-}
-
-// What `clap` reads of words that it takes.
-fn read<'a>(alloc: Global, words: &'a [String]) -> Result<ArgMatches<'a>, AllocError>
-    requires { takes replay_app (words_of words.now) ≡ true }
-    ensures { IfOk result (λ matches. rows_of (found_of matches) ≡ matches_of replay_app (words_of words.entry.now)) }
-{
-    match command_line(alloc)?.try_get_matches_from(words) {
-        Ok(matches) => Ok(matches),
-        Err(error) => {
-            let lacks_memory = error.kind() == ErrorKind::OutOfMemory;
-            prove!(lacks_memory);
-            Err(AllocError)
-        }
-    }
 }
 
 #[tactic(auto, using(crate::proofs::Matches::first_read))]
@@ -78,24 +56,6 @@ fn said_by<'a>(matches: &ArgMatches<'a>) -> Said<'a>
         steps: matches.get_str("steps"),
         cover: matches.get_str("cover"),
     }
-}
-
-fn data_model_of(model: Option<&str>, char: Option<&str>) -> Option<DataModel>
-    ensures { result ≡ data_model_of (option_map (λ word. word.now) model.entry) (option_map (λ word. word.now) char.entry) }
-{
-    let model = match model {
-        Some(word) => model_of(word)?,
-        None => DataModel::Lp64,
-    };
-    let is_signed = match char {
-        Some(word) => char_of(word)?,
-        None => true,
-    };
-    Some(if is_signed {
-        model
-    } else {
-        unsigned_model(model)
-    })
 }
 
 fn replay_with<'a>(file: &'a str, suite: &'a str, said: Said<'a>) -> Option<Command<'a>>
@@ -137,10 +97,10 @@ pub fn replay_of<'a>(
 {
     let positionals = parts.positionals.as_slice();
     let options = parts.options.as_slice();
-    if positionals.len() != 2 || !stand_once(options) {
+    if positionals.len() != 2 || !stand_once(&OPTIONS, options) {
         return Err(PlanStop::Usage);
     }
-    let matches = read(alloc, words)?;
+    let matches = read(command_line(alloc)?, words)?;
     match replay_among(&matches) {
         Some(command) => Ok(command),
         None => Err(PlanStop::Usage),

@@ -1,6 +1,7 @@
 use crate::commands::Command;
 use crate::stops::PlanStop;
 use crate::words::plan;
+use bitflags::Flags;
 use std::alloc::{AllocError, Global};
 use std::test::Fail;
 
@@ -13,7 +14,7 @@ fn words_of(alloc: Global, line: &str) -> Result<Vec<String>, AllocError> {
     Ok(words)
 }
 
-// What comes, as a line: the names and the model of a replay, its steps, and a dash for a file that isn't named.
+// What comes, as a line: the names and the model of a replay, its steps, and a dash for a file that isn't named; or the bits of the criteria.
 fn shown(alloc: Global, answer: &Result<Command<'_>, PlanStop>) -> Result<String, AllocError> {
     match answer {
         Ok(Command::Replay(replay)) => format!(in alloc;
@@ -26,13 +27,19 @@ fn shown(alloc: Global, answer: &Result<Command<'_>, PlanStop>) -> Result<String
             replay.cover.unwrap_or("-")
         ),
         Ok(Command::Convert(file)) => format!(in alloc; "convert {file}"),
+        Ok(Command::Annotate(annotate)) => format!(in alloc;
+            "annotate {} {} {:?}",
+            annotate.file,
+            annotate.criteria.bits(),
+            annotate.model
+        ),
         Err(PlanStop::Usage) => format!(in alloc; "usage"),
         Err(PlanStop::NoMemory) => format!(in alloc; "out of memory"),
     }
 }
 
 // Lines of words, and what comes.
-static ROWS: [(&str, &str); 34] = [
+static ROWS: [(&str, &str); 49] = [
     ("replay a b", "replay a b - Lp64 100000 -"),
     (
         "replay --steps 5 a --entry e b --cover=old",
@@ -78,7 +85,28 @@ static ROWS: [(&str, &str); 34] = [
     ("convert a b", "usage"),
     ("convert a --model lp64", "usage"),
     ("--help", "usage"),
-    ("annotate f", "usage"),
+    (
+        "annotate a --criteria FC,IDC,DC,CC,MCC,GACC,ABS,AOR,COR,ROR",
+        "annotate a 7743 Lp64",
+    ),
+    (
+        "annotate --model=llp64 --criteria=ROR,FC --char unsigned a",
+        "annotate a 4097 Llp64U",
+    ),
+    ("annotate a", "usage"),
+    ("annotate a --criteria", "usage"),
+    ("annotate a --criteria DC --criteria CC", "usage"),
+    ("annotate a --criteria DC,CC,DC", "usage"),
+    ("annotate a --criteria DC,,CC", "usage"),
+    ("annotate a --criteria DC,", "usage"),
+    ("annotate a --criteria dc", "usage"),
+    ("annotate a --criteria CACC", "usage"),
+    ("annotate a --criteria DC,RACC", "usage"),
+    ("annotate a --criteria AU", "usage"),
+    ("annotate a b --criteria DC", "usage"),
+    ("annotate a --criteria DC --steps 5", "usage"),
+    ("annotate a --criteria DC --hyper", "usage"),
+    ("replay a b --criteria DC", "usage"),
 ];
 
 #[test]

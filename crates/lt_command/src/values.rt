@@ -2,7 +2,7 @@
 
 ghost use Rattle.std.specs.Prelude.{◌≡◌, option_map};
 ghost use Rattle.lt_command.specs.Views.{starts_well};
-ghost use Rattle.lt_command.specs.Plan.{char_of, model_of, steps_of, unsigned_model};
+ghost use Rattle.lt_command.specs.Plan.{char_of, data_model_of, model_of, steps_of, unsigned_model};
 
 use lt_model::DataModel;
 
@@ -35,8 +35,8 @@ pub fn steps_of(word: &str) -> Option<u64>
     }
 }
 
-/// The model of this name, in which plain `char` is signed.
-pub fn model_of(word: &str) -> Option<DataModel>
+// The model of this name, in which plain `char` is signed.
+fn model_of(word: &str) -> Option<DataModel>
     ensures { result ≡ model_of word.now }
 {
     if word == "ilp32" {
@@ -50,8 +50,8 @@ pub fn model_of(word: &str) -> Option<DataModel>
     }
 }
 
-/// Whether plain `char` is signed.
-pub fn char_of(word: &str) -> Option<bool>
+// Whether plain `char` is signed.
+fn char_of(word: &str) -> Option<bool>
     ensures { result ≡ char_of word.now }
 {
     if word == "signed" {
@@ -63,8 +63,8 @@ pub fn char_of(word: &str) -> Option<bool>
     }
 }
 
-/// The model of the same sizes in which plain `char` is unsigned.
-pub fn unsigned_model(model: DataModel) -> DataModel
+// The model of the same sizes in which plain `char` is unsigned.
+fn unsigned_model(model: DataModel) -> DataModel
     ensures { result ≡ unsigned_model model }
 {
     match model {
@@ -73,4 +73,23 @@ pub fn unsigned_model(model: DataModel) -> DataModel
         DataModel::Llp64 => DataModel::Llp64U,
         _ => model,
     }
+}
+
+/// The model that the words of M and C say; without them `lp64` with a signed plain `char`.
+pub fn data_model_of(model: Option<&str>, char: Option<&str>) -> Option<DataModel>
+    ensures { result ≡ data_model_of (option_map (λ word. word.now) model.entry) (option_map (λ word. word.now) char.entry) }
+{
+    let model = match model {
+        Some(word) => model_of(word)?,
+        None => DataModel::Lp64,
+    };
+    let is_signed = match char {
+        Some(word) => char_of(word)?,
+        None => true,
+    };
+    Some(if is_signed {
+        model
+    } else {
+        unsigned_model(model)
+    })
 }

@@ -5,6 +5,7 @@ ghost use Rattle.lt_command.specs.Plan.{convert_of, plan_of};
 ghost use Rattle.lt_command.specs.Views.{setting_in};
 ghost use Rattle.lt_command.specs.Answers.{Answers, plan_in, words_of};
 
+use crate::annotate::annotate_of;
 use crate::commands::Command;
 use crate::parts::{Setting, parts_of};
 use crate::replay::replay_of;
@@ -33,6 +34,9 @@ pub fn plan<'a>(alloc: Global, words: &'a [String]) -> Result<Command<'a>, PlanS
     };
     if name.as_str() == "replay" {
         return replay_of(alloc, words, &parts);
+    }
+    if name.as_str() == "annotate" {
+        return annotate_of(alloc, words, &parts);
     }
     if name.as_str() == "convert"
         && let Some(command) = convert_of(parts.positionals.as_slice(), parts.options.as_slice())

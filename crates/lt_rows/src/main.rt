@@ -1,6 +1,7 @@
 //! Texts of C with what has to come of them: the rows of the files that the arguments name. `docs/ROWS.md` says how rows are written.
 #![tactic(auto)]
 
+mod annotations;
 mod answers;
 mod covers;
 mod escapes;

@@ -2,7 +2,7 @@
 
 use crate::stop::Stop;
 use crate::{
-    answers, covers, expressions, known, numbers, printed, replays, rules, table, tokens, units,
+    annotations, answers, covers, expressions, known, numbers, printed, replays, rules, table, tokens, units,
 };
 use lt_model::DataModel;
 use std::alloc::Global;
@@ -33,6 +33,8 @@ pub enum Question<'a> {
     Constant(DataModel),
     CoverageFile,
     CoverageMerge,
+    /// With the labels that these options ask for.
+    Annotate(&'a str),
     /// The line that tells how a command ends.
     Answer,
     /// In this model, with so many ticks a run.
@@ -68,6 +70,7 @@ impl<'a> Question<'a> {
             None => Question::alone(heading),
             Some(("expression", names)) => Some(Question::Expression(names)),
             Some(("expression size", names)) => Some(Question::ExpressionSize(names)),
+            Some(("annotate", options)) => Some(Question::Annotate(options)),
             Some(("replay", words)) => Question::replay(words),
             Some((name, model)) => Question::in_model(name, model_named(model)?),
         }
@@ -98,6 +101,7 @@ impl<'a> Question<'a> {
             "purity" => Some(Question::Purity),
             "coverage file" => Some(Question::CoverageFile),
             "coverage merge" => Some(Question::CoverageMerge),
+            "annotate" => Some(Question::Annotate("")),
             "answer" => Some(Question::Answer),
             "sum" => Some(Question::Sum),
             "product" => Some(Question::Product),
@@ -155,6 +159,7 @@ impl<'a> Question<'a> {
             Question::Constant(model) => table::constant(alloc, text, model),
             Question::CoverageFile => covers::rewritten(alloc, text),
             Question::CoverageMerge => covers::merged(alloc, text),
+            Question::Annotate(options) => annotations::annotated(alloc, text, options),
             Question::Answer => answers::answered(alloc, text),
             Question::Replay(model, steps) => replays::replayed(alloc, text, model, steps),
             Question::Operator(model) => numbers::operator(alloc, text, model),

@@ -59,6 +59,13 @@ pub enum Stop {
     EntryLine(u32),
     #[error("suite line {0}")]
     SuiteLine(u32),
+    /// Words that are of no command form.
+    #[error("Usage")]
+    Usage,
+    #[error("an id of a label passes the greatest")]
+    LabelIds,
+    #[error("the text isn't tokens")]
+    NoTokens,
     #[error("the canonical text isn't printed as it stands")]
     NotCanonical,
     #[error("a mark is left in the erasure")]

@@ -10,7 +10,7 @@ use Rattle.ltest.specs.Stages.{StopsBy}
 use Rattle.ltest.specs.Texts.{IsReplayAnswer}
 
 -- what stops by one refusal stops by each that this gives
-weaker : {Is Are : Refusal → Type 0} (stop : TextStop) → ((why : Refusal) → Is why → Are why) → StopsBy Is stop → StopsBy Are stop
+pub weaker : {Is Are : Refusal → Type 0} (stop : TextStop) → ((why : Refusal) → Is why → Are why) → StopsBy Is stop → StopsBy Are stop
 weaker (Refused why) gives is = gives why is
 weaker NoMemory gives is = tt
 

@@ -1,4 +1,5 @@
 pub mod Texts
 pub mod Stages
 pub mod Tasks
+pub mod Labels
 pub mod Usage

@@ -4,6 +4,7 @@ use Rattle.lt_model.specs.declared.scalar.DataModel.{DataModel}
 use Rattle.lt_token.specs.Answer.{IsAnswer, lexed}
 use Rattle.lt_tree.specs.UnitView.{unit_of}
 use Rattle.lt_tree.specs.Typing.ProgramView.{program_of}
+use Rattle.lt_tree.specs.Typing.UnitTyping.{IsProgramOf}
 use Rattle.lt_tree.specs.declared.typed.program.Program.{Program}
 use Rattle.lt_lex.specs.Lexed.{tokens_of}
 use Rattle.lt_lex.specs.declared.tokens.Tokens.{Tokens}
@@ -14,7 +15,7 @@ use Rattle.lt_input_names.specs.Blocks.{specification_of}
 use Rattle.lt_input_names.specs.declared.block.Specification.{Specification}
 use Rattle.lt_cover.specs.Coverage.Table.{Table}
 use Rattle.lt_cover.specs.Coverage.Text.{IsCoverText}
-use Rattle.lt_answers.specs.Programs.{Spells, SpellsNone, IsProgram, HasNoProgram}
+use Rattle.lt_answers.specs.Programs.{Spells, SpellsNone, HasNoProgram}
 use Rattle.lt_answers.specs.Entries.{Specifies, SpecifiesNone, IsNoSuite, IsOld, IsNoOld, IsNoCoverage}
 use Rattle.lt_answers.specs.Replays.{Sources, IsCovered, IsMerged, AreMixed, Refuses}
 use Rattle.lt_answers.specs.declared.status.Refusal.{Refusal}
@@ -46,14 +47,10 @@ abbrev pub GivesUnit : List ℕ → Result Parsed TextStop → Type 0
 GivesUnit text (Ok parsed) = SpellsParsed text parsed
 GivesUnit text (Err stop) = StopsBy (SpellsNone text) stop
 
--- the typed program of a text, or why it has none
-abbrev pub GivesProgram : DataModel → List ℕ → Result Program TextStop → Type 0
-GivesProgram model text (Ok program) = IsProgram model text (program_of program)
-GivesProgram model text (Err stop) = StopsBy (HasNoProgram model text) stop
-
--- The same of each text that spells the unit.
+-- the typed program of a unit, or why a text that spells the unit has none
 abbrev pub TypesUnit : DataModel → Parsed → Result Program TextStop → Type 0
-TypesUnit model parsed given = (text : List ℕ) → SpellsParsed text parsed → GivesProgram model text given
+TypesUnit model parsed (Ok program) = IsProgramOf model (unit_of parsed.unit) (program_of program)
+TypesUnit model parsed (Err stop) = (text : List ℕ) → SpellsParsed text parsed → StopsBy (HasNoProgram model text) stop
 
 -- ---- specifications and suites
 

@@ -1,7 +1,9 @@
 // The program `ltest`; `src/top.rt` says what a command does between the files and what is put, in the words of `lt_answers`.
 #![tactic(auto)]
 
+mod annotations;
 mod coverages;
+mod labels;
 mod laws;
 mod merges;
 mod programs;

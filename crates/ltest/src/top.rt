@@ -2,16 +2,17 @@
 
 ghost use Rattle.std.specs.Prelude.{◌≡◌, ◌≢◌, ◌⊎◌, IfOk, IfErr, Option, Some};
 ghost use Rattle.lt_outside.specs.Shelf.{Files};
-ghost use Rattle.lt_command.specs.Plan.{Plan, convert, plan_of, replay};
-ghost use Rattle.lt_command.specs.Answers.{plan_in, replay_in, words_of};
+ghost use Rattle.lt_command.specs.Plan.{Plan, annotate, convert, plan_of, replay};
+ghost use Rattle.lt_command.specs.Answers.{annotate_in, plan_in, replay_in, words_of};
 ghost use Rattle.lt_answers.specs.Answers.{Ends, FirstIsRead, HasCause, HasPuts, HasReadCause, IsDue, IsFrontPut, IsOutside, IsPut, IsSame, IsText, NamesFile, names_of};
 ghost use Rattle.lt_answers.specs.declared.status.Status.{Status};
 ghost use Rattle.ltest.specs.Usage.{TellsUsage};
 
+use crate::annotations::annotation_text;
 use crate::laws::parts_keep_laws;
 use crate::text::{conversion_text, replay_text};
 use lt_answers::{Status, one_answer_is_due};
-use lt_command::{Command, PlanStop, Replay, plan};
+use lt_command::{Annotate, Command, PlanStop, Replay, plan};
 use lt_outside::{Shelf, Sink};
 use lt_sources::{put_text, read_file, read_sources};
 use std::alloc::Global;
@@ -42,6 +43,23 @@ fn conversion<S: Shelf>(alloc: Global, shelf: &mut S, file: &str) -> Result<Vec<
     Ok(text)
 }
 
+// The text with the labels of criteria.
+fn annotation<S: Shelf>(
+    alloc: Global,
+    shelf: &mut S,
+    asked: &Annotate<'_>,
+) -> Result<Vec<u8>, Status>
+    ensures text { IfOk result (λ v. IsText (S.told shelf.old) (annotate (annotate_in asked.now)) v.items) }
+    ensures ends { IfErr result (λ status. Ends (S.told shelf.old) (annotate (annotate_in asked.now)) status) }
+    ensures names { IfErr result (λ status. NamesFile (names_of (annotate (annotate_in asked.now))) status) }
+    ensures cause { IfErr result (λ status. HasReadCause status (S.missed shelf.old) (S.missed shelf.new) (S.read_faults shelf.old) (S.read_faults shelf.new)) }
+    ensures stays { S.told shelf.new ≡ S.told shelf.old }
+{
+    let bytes = read_file(alloc, shelf, asked.file)?;
+    let text = annotation_text(alloc, bytes.as_slice(), asked.model, asked.criteria)?;
+    Ok(text)
+}
+
 // The text of a command, or why there is none.
 fn answer<S: Shelf>(alloc: Global, shelf: &mut S, command: Command<'_>) -> Result<Vec<u8>, Status>
     ensures text { IfOk result (λ v. IsText (S.told shelf.old) (plan_in command.entry) v.items) }
@@ -53,6 +71,7 @@ fn answer<S: Shelf>(alloc: Global, shelf: &mut S, command: Command<'_>) -> Resul
     match command {
         Command::Replay(asked) => replay(alloc, shelf, &asked),
         Command::Convert(file) => conversion(alloc, shelf, file),
+        Command::Annotate(asked) => annotation(alloc, shelf, &asked),
     }
 }
 

@@ -1,35 +1,46 @@
-use Rattle.std.proofs.Common.{◌≡◌, ◌∙◌, ap, sym, length, true, arith, map}
-use Rattle.clap.specs.Words.{matches_of}
+use Rattle.std.proofs.Common.{◌≡◌, ◌∙◌, ap, sym, length, true, map}
+use Rattle.clap.specs.Words.{App, matches_of, takes}
 use Rattle.lt_command.specs.Answers.{words_of}
 use Rattle.lt_command.specs.Parts.{stand_once}
-use Rattle.lt_command.specs.Plan.{replay_of, replay_options}
-use Rattle.lt_command.specs.Reading.{replay_among, replay_app}
+use Rattle.lt_command.specs.Plan.{replay_options}
+use Rattle.lt_command.specs.Reading.{replay_among}
 use Rattle.lt_command.specs.Views.{parts_in, setting_in}
-use Rattle.lt_command.proofs.Matches.{are_read, replay_read, two_words}
+use Rattle.lt_command.proofs.Matches.{as_many}
+use Rattle.lt_command.proofs.ReplayRead.{not_once, not_two, replay_read, replay_taken}
+use Rattle.lt_command.proofs.replay.replay_of.Goals.{then-positionals-ne2-via-then-positionals-ne2, then-positionals-ne2-via-else-positionals-ne2+then-not-stand_once}
 use Rattle.lt_command.proofs.replay.replay_of.Goals as goal
 
 pub read-requires : goal.read-requires
 read-requires c =
-    let count : length c.args.parts.now.positionals.items ≡ 2 = ap length (sym c.as_slice-positionals.ensures.value) ∙ c.if-positionals-ne2.false in
-    let two = two_words c.args.parts.now.positionals.items count in
+    let count = as_many c.args.parts.now.positionals.items ∙ ap length (sym c.as_slice-positionals.ensures.value) ∙ c.if-positionals-ne2.false in
     let once : stand_once replay_options (parts_in c.args.parts.now).options ≡ true =
     ap (λ os. stand_once replay_options (map setting_in os)) (sym c.as_slice-options.ensures.value) ∙ sym c.stand_once.ensures ∙ c.if-not-stand_once.false in
-    (are_read (words_of c.args.words.now) (parts_in c.args.parts.now) c.requires two once).taken
+    ap (λ (a : App). takes a (words_of c.args.words.now)) c.in_ok-command_line.ensures
+    ∙ replay_taken (words_of c.args.words.now) (parts_in c.args.parts.now) c.requires count once
 
 pub returns-in-Some : goal.returns-in-Some
 returns-in-Some c =
-    let count : length c.args.parts.now.positionals.items ≡ 2 = ap length (sym c.as_slice-positionals.ensures.value) ∙ c.if-positionals-ne2.false in
-    let two = two_words c.args.parts.now.positionals.items count in
+    let count = as_many c.args.parts.now.positionals.items ∙ ap length (sym c.as_slice-positionals.ensures.value) ∙ c.if-positionals-ne2.false in
     let once : stand_once replay_options (parts_in c.args.parts.now).options ≡ true =
     ap (λ os. stand_once replay_options (map setting_in os)) (sym c.as_slice-options.ensures.value) ∙ sym c.stand_once.ensures ∙ c.if-not-stand_once.false in
-    sym (replay_read (words_of c.args.words.now) (parts_in c.args.parts.now) c.requires two once)
-    ∙ ap replay_among (sym c.in_ok-matches.ensures) ∙ sym c.in-Some.ensures
+    let rows = c.in_ok-matches.ensures ∙ ap (λ (a : App). matches_of a (words_of c.args.words.now)) c.in_ok-command_line.ensures in
+    sym (replay_read (words_of c.args.words.now) (parts_in c.args.parts.now) c.requires count once) ∙ ap replay_among (sym rows) ∙ sym c.in-Some.ensures
 
 pub returns : goal.returns
 returns c =
-    let count : length c.args.parts.now.positionals.items ≡ 2 = ap length (sym c.as_slice-positionals.ensures.value) ∙ c.if-positionals-ne2.false in
-    let two = two_words c.args.parts.now.positionals.items count in
+    let count = as_many c.args.parts.now.positionals.items ∙ ap length (sym c.as_slice-positionals.ensures.value) ∙ c.if-positionals-ne2.false in
     let once : stand_once replay_options (parts_in c.args.parts.now).options ≡ true =
     ap (λ os. stand_once replay_options (map setting_in os)) (sym c.as_slice-options.ensures.value) ∙ sym c.stand_once.ensures ∙ c.if-not-stand_once.false in
-    sym (replay_read (words_of c.args.words.now) (parts_in c.args.parts.now) c.requires two once)
-    ∙ ap replay_among (sym c.in_ok-matches.ensures) ∙ sym c.in-None.ensures
+    let rows = c.in_ok-matches.ensures ∙ ap (λ (a : App). matches_of a (words_of c.args.words.now)) c.in_ok-command_line.ensures in
+    sym (replay_read (words_of c.args.words.now) (parts_in c.args.parts.now) c.requires count once) ∙ ap replay_among (sym rows) ∙ sym c.in-None.ensures
+
+pub returns-then-positionals-ne2 : goal.returns-then-positionals-ne2
+returns-then-positionals-ne2 c =
+    let positionals = (parts_in c.args.parts.now).positionals in
+    let options = (parts_in c.args.parts.now).options in
+    elim c.then-positionals-ne2.branch [
+      | then-positionals-ne2-via-then-positionals-ne2 w ↦ not_two positionals options
+          (λ two. w.if-positionals-ne2.true (ap length c.as_slice-positionals.ensures.value ∙ sym (as_many c.args.parts.now.positionals.items) ∙ two))
+      | then-positionals-ne2-via-else-positionals-ne2+then-not-stand_once w ↦ not_once positionals options
+          (ap (λ os. stand_once replay_options (map setting_in os)) (sym c.as_slice-options.ensures.value) ∙ sym w.stand_once.ensures ∙ w.if-not-stand_once.true)
+    ]

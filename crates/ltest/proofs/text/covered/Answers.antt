@@ -7,6 +7,7 @@ use Rattle.lt_replayed.specs.Replayed.{IsCoverage}
 use Rattle.lt_input_names.specs.Blocks.{specification_of}
 use Rattle.lt_sources.specs.Views.{sources_of}
 use Rattle.ltest.proofs.Merging.{programmed, specified, suited, covered_by, merged_so}
+use Rattle.ltest.proofs.Spelled.{program_spelled}
 use Rattle.ltest.proofs.Stages.{at_program}
 use Rattle.ltest.proofs.text.covered.Goals as goal
 
@@ -29,7 +30,7 @@ returns c =
     let from = sources_of c.args.from.now in
     let program = program_of c.in_ok-program.program in
     let task = c.in_ok-task.task in
-    let is = c.in_ok-program.ensures c.args.from.now.file.items c.requires in
+    let is = program_spelled c.args.from.now.model c.args.from.now.file.items c.args.parsed program c.requires c.in_ok-program.ensures in
     let before = specified from (programmed from program is) (specification_of c.in_ok-program.program task.specification) c.in_ok-task.ensures.specified in
     let read = suited from before task.suite c.in_ok-task.ensures.said in
     let new = c.coverage_needs_no_unit.ensures program _ _ task.specification.spec task.suite c.args.from.now.steps c.in_ok-new.new
