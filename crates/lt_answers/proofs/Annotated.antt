@@ -1,16 +1,15 @@
 -- An annotation is one, or its refusal is, and never both.
-use Rattle.std.proofs.Common.{◌≡◌, ◌≤◌, ◌+◌, ℕ, List, None, refl, sym, ap, ◌∙◌, subst, arith}
+use Rattle.std.proofs.Common.{◌≡◌, ◌≤◌, ℕ, List, None, sym, ap, ◌∙◌, subst, arith}
 use Rattle.lt_model.specs.declared.scalar.DataModel.{DataModel}
 use Rattle.lt_token.specs.Laws.{AtMostOneReading}
 use Rattle.lt_token.specs.Nest.{nests, deepest}
 use Rattle.lt_nest.specs.Greatest.{greatest, NestsTo}
 use Rattle.lt_tree.specs.Tree.{Unit as SourceUnit}
 use Rattle.lt_tree.specs.CanonUnits.{canon}
-use Rattle.lt_tree.specs.Typing.Programs.{Program}
 use Rattle.lt_objectives.specs.Marked.{marked}
 use Rattle.lt_answers.specs.Laws.{Laws}
-use Rattle.lt_answers.specs.Programs.{IsProgram, HasNoProgram}
-use Rattle.lt_answers.specs.Annotations.{first_id, last_id, most_id, HasAnnotation, HasIdsPast, IsAnnotation, RefusesAnnotation, no_program, ids_past, grown}
+use Rattle.lt_answers.specs.Programs.{HasNoProgram}
+use Rattle.lt_answers.specs.Annotations.{first_id, HasAnnotation, IsAnnotation, RefusesAnnotation, no_program, grown}
 use Rattle.lt_answers.specs.Answers.{IsSame}
 use Rattle.lt_answers.specs.declared.status.Status.TheVariants.{Refused}
 use Rattle.lt_answers.specs.declared.status.Refusal.{Refusal}
@@ -25,20 +24,6 @@ annotated_once laws model set text a b h k =
     let programs : h.program ≡ k.program = programs_once laws model text h.program k.program p q in
     h.is ∙ ap (λ u. marked u h.program set (first_id u)) units ∙ ap (λ it. marked q.unit it set (first_id q.unit)) programs ∙ sym k.is
 
--- its labels have one last id
-last_once : (laws : Laws) (model : DataModel) (set : ℕ) (text : List ℕ) (program other : Program) (p : IsProgram model text program) (q : IsProgram model text other)
-    → last_id p.unit program set ≡ last_id q.unit other set
-last_once laws model set text program other p q =
-    let units : p.unit ≡ q.unit = (spells_once laws text p.unit q.unit p.spots q.spots p.spells q.spells).0 in
-    ap (λ u. last_id u program set) units ∙ ap (λ it. last_id q.unit it set) (programs_once laws model text program other p q)
-
--- which passes the greatest or doesn't
-annotated_or_past : (laws : Laws) (model : DataModel) (set : ℕ) (text : List ℕ) (a : SourceUnit) → HasAnnotation model set text a → HasIdsPast model set text → ⊥
-annotated_or_past laws model set text a h k =
-    let same = last_once laws model set text h.program k.program h.is_program k.is_program in
-    let low : last_id k.is_program.unit k.program set ≤ most_id + 1 = subst (λ last. last ≤ most_id + 1) same h.within in
-    omega (arith, low, k.past)
-
 -- a text has one greatest nest
 pub nest_once : (readings : AtMostOneReading) (text : List ℕ) (m n : ℕ) → NestsTo text m → NestsTo text n → m ≡ n
 nest_once readings text m n h k =
@@ -51,20 +36,12 @@ shallow_at readings text m h low n k = subst (λ nest. nest ≤ deepest) (nest_o
 annotated_or_none : (laws : Laws) (model : DataModel) (set : ℕ) (text : List ℕ) (a : SourceUnit) (why : Refusal) → HasAnnotation model set text a → HasNoProgram model text why → ⊥
 annotated_or_none laws model set text a why h n = program_or_none laws model text h.program why h.is_program n
 
-past_or_none : (laws : Laws) (model : DataModel) (set : ℕ) (text : List ℕ) (why : Refusal) → HasIdsPast model set text → HasNoProgram model text why → ⊥
-past_or_none laws model set text why h n = program_or_none laws model text h.program why h.is_program n
-
 -- at most one refusal is due
 pub annotation_refused_once : (laws : Laws) (model : DataModel) (set : ℕ) (text : List ℕ) (why other : Refusal)
     → RefusesAnnotation model set text why → RefusesAnnotation model set text other → IsSame (Refused why) (Refused other)
 annotation_refused_once laws model set text why other (no_program n) (no_program m) = no_program_once laws model text why other n m
-annotation_refused_once laws model set text why other (no_program n) (ids_past k) = absurd (past_or_none laws model set text why k n)
 annotation_refused_once laws model set text why other (no_program n) (grown {annotated = b} k f d) = absurd (annotated_or_none laws model set text b why k n)
-annotation_refused_once laws model set text why other (ids_past h) (no_program n) = absurd (past_or_none laws model set text other h n)
-annotation_refused_once laws model set text why other (ids_past h) (ids_past k) = refl
-annotation_refused_once laws model set text why other (ids_past h) (grown {annotated = b} k f d) = absurd (annotated_or_past laws model set text b k h)
 annotation_refused_once laws model set text why other (grown {annotated = a} h g c) (no_program n) = absurd (annotated_or_none laws model set text a other h n)
-annotation_refused_once laws model set text why other (grown {annotated = a} h g c) (ids_past k) = absurd (annotated_or_past laws model set text a h k)
 annotation_refused_once laws model set text why other (grown {annotated = a} {nest = m} h g c) (grown {annotated = b} {nest = n} k f d) =
     let moved : NestsTo (canon a) n = subst (λ u. NestsTo (canon u) n) (sym (annotated_once laws model set text a b h k)) f in
     ap (λ nest. Refused (Grown nest)) (nest_once laws.readings (canon a) m n g moved)
@@ -73,7 +50,6 @@ annotation_refused_once laws model set text why other (grown {annotated = a} {ne
 pub annotated_or_refused : (laws : Laws) (model : DataModel) (set : ℕ) (text out : List ℕ) (why : Refusal)
     → IsAnnotation model set text out → RefusesAnnotation model set text why → ⊥
 annotated_or_refused laws model set text out why h (no_program n) = annotated_or_none laws model set text h.annotated why h.has n
-annotated_or_refused laws model set text out why h (ids_past k) = annotated_or_past laws model set text h.annotated h.has k
 annotated_or_refused laws model set text out why h (grown {annotated = b} {nest = n} k f d) =
     let same : out ≡ canon b = h.is ∙ ap canon (annotated_once laws model set text h.annotated b h.has k) in
     let low : n ≤ deepest = h.shallow n (subst (λ t. NestsTo t n) (sym same) f) in

@@ -4,7 +4,7 @@ use Rattle.lt_answers.specs.Answers.{IsSame}
 use Rattle.lt_answers.specs.declared.status.Status.{Status}
 use Rattle.lt_answers.specs.declared.status.Status.TheVariants.{Done, Refused, Usage, Absent, TooLong, ReadFault, WriteFault, NoMemory}
 use Rattle.lt_answers.specs.declared.status.Refusal.{Refusal}
-use Rattle.lt_answers.specs.declared.status.Refusal.TheVariants.{Lex, Unsupported, TooNested, Syntax, Typing, NoEntry, Spec, Suite, Cover, Mixed, MixedHyper, MixedTest, LabelIds, Grown}
+use Rattle.lt_answers.specs.declared.status.Refusal.TheVariants.{Lex, Unsupported, TooNested, Syntax, Typing, NoEntry, Spec, Suite, Cover, Mixed, MixedHyper, MixedTest, Grown}
 
 pub same_refusal : (why : Refusal) → IsSame (Refused why) (Refused why)
 same_refusal (Lex at) = refl
@@ -19,7 +19,6 @@ same_refusal (Cover row) = refl
 same_refusal (Mixed id) = refl
 same_refusal (MixedHyper id) = refl
 same_refusal (MixedTest name) = refl
-same_refusal LabelIds = refl
 same_refusal (Grown nest) = refl
 
 pub same_itself : (s : Status) → IsSame s s

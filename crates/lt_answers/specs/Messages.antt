@@ -5,7 +5,7 @@ use Rattle.std.specs.Str.Lossy.{utf8_lossy}
 use Rattle.lt_answers.specs.declared.status.Status.{Status}
 use Rattle.lt_answers.specs.declared.status.Status.TheVariants.{Done, Refused, Usage, Absent, TooLong, ReadFault, WriteFault, NoMemory}
 use Rattle.lt_answers.specs.declared.status.Refusal.{Refusal}
-use Rattle.lt_answers.specs.declared.status.Refusal.TheVariants.{Lex, Unsupported, TooNested, Syntax, Typing, NoEntry, Spec, Suite, Cover, Mixed, MixedHyper, MixedTest, LabelIds, Grown}
+use Rattle.lt_answers.specs.declared.status.Refusal.TheVariants.{Lex, Unsupported, TooNested, Syntax, Typing, NoEntry, Spec, Suite, Cover, Mixed, MixedHyper, MixedTest, Grown}
 
 abbrev pub code_of : Status → ℕ
 code_of Done = 0
@@ -30,7 +30,6 @@ refusal_message (Cover row) = codes "coverage file, row " ++ decimal row
 refusal_message (Mixed id) = codes "coverage of other label " ++ decimal id
 refusal_message (MixedHyper id) = codes "coverage of other hyperlabel " ++ decimal id
 refusal_message (MixedTest name) = codes "coverage of other test " ++ utf8_lossy name
-refusal_message LabelIds = codes "ids of labels pass 2147483647"
 refusal_message (Grown nest) = codes "annotated text nests " ++ decimal nest ++ codes " deep"
 
 -- the message of a status; that of one that is done is empty

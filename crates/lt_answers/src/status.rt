@@ -25,8 +25,6 @@ pub enum Refusal {
     Mixed(u32),
     MixedHyper(u32),
     MixedTest(Name),
-    /// An id of the labels would pass 2,147,483,647.
-    LabelIds,
     /// The annotated text nests this deep, deeper than a text may.
     Grown(u64),
 }

@@ -99,7 +99,6 @@ fn refusal_message(alloc: Global, why: &Refusal) -> Result<String, AllocError>
         Refusal::Mixed(id) => numbered(alloc, "coverage of other label ", *id, ""),
         Refusal::MixedHyper(id) => numbered(alloc, "coverage of other hyperlabel ", *id, ""),
         Refusal::MixedTest(name) => named(alloc, "coverage of other test ", name.as_slice()),
-        Refusal::LabelIds => String::from_str(alloc, "ids of labels pass 2147483647"),
         Refusal::Grown(nest) => grown(alloc, *nest),
     }
 }

@@ -19,6 +19,7 @@ use lt_unit::elaborate;
 use std::alloc::{AllocError, Global};
 
 const MOST_ID: u32 = 2_147_483_647;
+
 const DEEPEST: u64 = 1000;
 
 // The words of a command line on a file, the last ones with one space between two.
@@ -62,13 +63,7 @@ fn with_labels(
         return Err(Stop::LabelIds);
     }
     let tests = within(lt_crit::annotate(alloc, unit, program, which, first))?;
-    let combinations = within(lt_mcc::annotate(
-        alloc,
-        &tests.unit,
-        program,
-        which,
-        tests.next,
-    ))?;
+    let combinations = within(lt_mcc::annotate(alloc, &tests.unit, program, which, tests.next))?;
     let mutants = within(lt_mut::annotate(
         alloc,
         &combinations.unit,

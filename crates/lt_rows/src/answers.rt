@@ -46,7 +46,6 @@ fn refusal(alloc: Global, kind: &str, rest: &str) -> Result<Refusal, Stop> {
         "cover" => Ok(Refusal::Cover(number(rest)?)),
         "label" => Ok(Refusal::Mixed(number(rest)?)),
         "hyperlabel" => Ok(Refusal::MixedHyper(number(rest)?)),
-        "ids" => Ok(Refusal::LabelIds),
         "grown" => Ok(Refusal::Grown(length(rest)?)),
         "test" => Ok(Refusal::MixedTest(name(alloc, rest)?)),
         _ => Err(Stop::NoSuchQuestion),

@@ -2,7 +2,8 @@
 
 use crate::stop::Stop;
 use crate::{
-    annotations, answers, covers, expressions, known, numbers, printed, replays, rules, table, tokens, units,
+    annotations, answers, covers, expressions, known, numbers, printed, replays, rules, table,
+    tokens, units,
 };
 use lt_model::DataModel;
 use std::alloc::Global;

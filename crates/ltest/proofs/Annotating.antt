@@ -7,16 +7,17 @@ use Rattle.lt_token.specs.Laws.{AtMostOneReading}
 use Rattle.lt_token.specs.Nest.{deepest}
 use Rattle.lt_nest.specs.Greatest.{NestsTo}
 use Rattle.lt_tree.specs.Tree.{Unit as SourceUnit}
+use Rattle.lt_tree.specs.UnitView.{unit_of}
 use Rattle.lt_tree.specs.CanonUnits.{canon}
 use Rattle.lt_tree.specs.declared.unit.Unit.{Unit}
 use Rattle.lt_tree.specs.Typing.Programs.{Program}
 use Rattle.lt_answers.specs.Programs.{IsProgram, HasNoProgram, SpellsNone, spells_none}
-use Rattle.lt_answers.specs.Annotations.{HasAnnotation, RefusesAnnotation, last_id, no_program, ids_past, grown}
+use Rattle.lt_answers.specs.Annotations.{HasAnnotation, RefusesAnnotation, no_program, grown}
 use Rattle.lt_answers.specs.declared.status.Refusal.{Refusal}
 use Rattle.lt_answers.specs.declared.status.Refusal.TheVariants.{Grown}
 use Rattle.lt_answers.proofs.Annotated.{shallow_at}
 use Rattle.ltest.specs.Stages.{StopsBy}
-use Rattle.ltest.specs.Labels.{GivesLabels, GivesAnnotated, GivesShallow, IsShallowText, IsDeepText, IdsEnd, deep_text, ids_end}
+use Rattle.ltest.specs.Labels.{HasLabels, GivesShallow, IsShallowText, IsDeepText, deep_text}
 use Rattle.ltest.specs.Texts.{IsAnnotationAnswer}
 use Rattle.ltest.specs.declared.stops.TextStop.{TextStop}
 use Rattle.ltest.specs.declared.stops.TextStop.TheVariants.{Refused, NoMemory}
@@ -32,16 +33,10 @@ unspelled model set text stop is = weaker stop (λ why none. no_program (spells_
 pub untyped : (model : DataModel) (set : ℕ) (text : List ℕ) (stop : TextStop) → StopsBy (HasNoProgram model text) stop → StopsBy (RefusesAnnotation model set text) stop
 untyped model set text stop is = weaker stop (λ why none. no_program none) is
 
--- ids of labels that pass the greatest
-unnumbered : (model : DataModel) (set : ℕ) (text : List ℕ) (program : Program) (is : IsProgram model text program) (why : Refusal)
-    → IdsEnd (last_id is.unit program set) why → RefusesAnnotation model set text why
-unnumbered model set text program is why (ids_end past) = ids_past (record { program = program; is_program = is; past = past })
-
 -- The unit with the labels of a set is the annotated unit of the text.
-pub annotated_so : (model : DataModel) (set : ℕ) (text : List ℕ) (program : Program) (is : IsProgram model text program) (given : Result Unit TextStop)
-    → GivesLabels is.unit program set given → GivesAnnotated model set text given
-annotated_so model set text program is (Ok it) has = record { program = program; is_program = is; within = has.within; is = has.marks }
-annotated_so model set text program is (Err stop) ends = weaker stop (λ why end. unnumbered model set text program is why end) ends
+pub annotated_so : (model : DataModel) (set : ℕ) (text : List ℕ) (program : Program) (is : IsProgram model text program) (it : Unit) → HasLabels is.unit program set it
+    → HasAnnotation model set text (unit_of it)
+annotated_so model set text program is it has = record { program = program; is_program = is; is = has }
 
 -- ---- its text
 

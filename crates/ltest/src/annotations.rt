@@ -1,6 +1,7 @@
 //! The text with the labels of criteria.
 
 ghost use Rattle.std.specs.Prelude.{◌≤◌, length};
+ghost use Rattle.lt_survey.specs.Marking.{bits_of};
 ghost use Rattle.lt_answers.specs.Answers.{most_bytes};
 ghost use Rattle.ltest.specs.Labels.{GivesAnnotated, GivesShallow};
 ghost use Rattle.ltest.specs.Texts.{IsAnnotationAnswer};
@@ -10,6 +11,7 @@ use crate::programs::program_of_unit;
 use crate::stops::TextStop;
 use crate::units::unit_of_text;
 use lt_answers::Refusal;
+use lt_label_counts::ids_never_pass;
 use lt_model::DataModel;
 use lt_nest::greatest_nest;
 use lt_objectives::Criteria;
@@ -29,7 +31,7 @@ pub fn annotation_text(
     which: Criteria,
 ) -> Result<Vec<u8>, TextStop>
     requires { length text.now ≤ most_bytes }
-    ensures { IsAnnotationAnswer model which.0 text.now result }
+    ensures { IsAnnotationAnswer model (bits_of which) text.now result }
 {
     let unit = annotated(alloc, text, model, which)?;
     let bytes = print_unit(alloc, &unit)?;
@@ -44,11 +46,12 @@ fn annotated(
     which: Criteria,
 ) -> Result<Unit, TextStop>
     requires { length text.now ≤ most_bytes }
-    ensures { GivesAnnotated model which.0 text.now result }
+    ensures { GivesAnnotated model (bits_of which) text.now result }
 {
     let parsed = unit_of_text(alloc, text)?;
     let program = program_of_unit(alloc, &parsed, model)?;
-    with_labels(alloc, &parsed.unit, &program, which)
+    ids_never_pass();
+    Ok(with_labels(alloc, &parsed.unit, &program, which)?)
 }
 
 // A text, if it doesn't nest too deeply.
