@@ -14,7 +14,6 @@ use Rattle.lt_tree.specs.Typing.Programs.{Program}
 use Rattle.lt_answers.specs.Programs.{IsProgram, HasNoProgram, SpellsNone, spells_none}
 use Rattle.lt_answers.specs.Annotations.{HasAnnotation, RefusesAnnotation, no_program, grown}
 use Rattle.lt_answers.specs.declared.status.Refusal.{Refusal}
-use Rattle.lt_answers.specs.declared.status.Refusal.TheVariants.{Grown}
 use Rattle.lt_answers.proofs.Annotated.{shallow_at}
 use Rattle.ltest.specs.Stages.{StopsBy}
 use Rattle.ltest.specs.Labels.{HasLabels, GivesShallow, IsShallowText, IsDeepText, deep_text}

@@ -1,5 +1,5 @@
 -- What a specification keeps that a file says, or that is the default one.
-use Rattle.std.proofs.Common.{◌≡◌, ℕ, List, Option, Some, None}
+use Rattle.std.proofs.Common.{ℕ, List, Option, Some, None}
 use Rattle.lt_tree.specs.Typing.Programs.{Program}
 use Rattle.lt_entry.specs.Inputs.{IsBounded}
 use Rattle.lt_entry.specs.Specifications.{Specification}
