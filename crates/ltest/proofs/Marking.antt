@@ -1,6 +1,6 @@
 -- The marks of criteria, some after others, and their ids.
-use Rattle.std.proofs.Common.{◌≡◌, ◌≤◌, ◌<◌, ℕ, suc, ◌+◌, List, [], ◌∷◌, ◌++◌, length, Option, Some, None, inl, inr, refl, sym, ap, subst, ◌∙◌, arith, ⊎_elim}
-use Rattle.std.specs.Prelude.{ℤ, pos, negsuc}
+use Rattle.std.proofs.Common.{◌≡◌, ◌≤◌, ℕ, ◌+◌, List, [], ◌∷◌, ◌++◌, length, Option, Some, None, inl, inr, refl, sym, ap, subst, ◌∙◌, arith, ⊎_elim}
+use Rattle.std.specs.Prelude.{ℤ, pos, negsuc, Result, Ok, Err, IfErr}
 use Rattle.std.proofs.lemmas.Bool.{cases_lt}
 use Rattle.std.proofs.lemmas.Bool.Decides.{nat_tests}
 use Rattle.std.proofs.lemmas.List.Elements.{filter-append}
@@ -17,6 +17,8 @@ use Rattle.lt_objectives.specs.Criteria.{criteria_in, is_in}
 use Rattle.lt_objectives.specs.Objectives.{objectives}
 use Rattle.lt_objectives.specs.Marked.{numbered, next_id, unit_with_marks, marked, marked_by}
 use Rattle.lt_numbering.specs.Numbering.{most_id}
+use Rattle.lt_numbering.specs.declared.stop.MarkStop.{MarkStop}
+use Rattle.lt_numbering.specs.declared.stop.MarkStop.TheVariants as mark
 use Rattle.lt_survey.specs.declared.marking.Marked.{Marked}
 use Rattle.lt_survey.specs.Marking.{IsMarkedBy, IdsPass, next_behind, chosen}
 use Rattle.lt_label_counts.specs.Laws.{IdsNeverPass}
@@ -102,6 +104,11 @@ none_first xs ys whole unit program id goes pass = goes.none (pass_first xs ys u
 pub goes_to_end : (xs : List Criterion) (whole unit : SourceUnit) (program : Program) (id : ℕ) (it : Marked) → Goes xs whole unit program id → IsMarkedBy xs unit program id it
     → unit_of it.unit ≡ whole
 goes_to_end xs whole unit program id it goes is = is.marks ∙ goes.marks
+
+-- an annotator tells of no id that passes
+pub none_told : {T : Type 0} (made : Result T MarkStop) (pass : Type 0) → (pass → ⊥) → IfErr made (λ why. why ≡ mark.Ids → pass) → IfErr made (λ why. why ≡ mark.Ids → ⊥)
+none_told (Ok it) pass none told = tt
+none_told (Err why) pass none told = λ is. none (told is)
 
 -- ---- the criteria of a set
 

@@ -51,7 +51,8 @@ fn annotated(
     let parsed = unit_of_text(alloc, text)?;
     let program = program_of_unit(alloc, &parsed, model)?;
     ids_never_pass();
-    Ok(with_labels(alloc, &parsed.unit, &program, which)?)
+    let unit = with_labels(alloc, &parsed.unit, &program, which)?;
+    Ok(unit)
 }
 
 // A text, if it doesn't nest too deeply.

@@ -46,7 +46,16 @@ fn within(made: Result<Marked, MarkStop>) -> Result<Marked, AllocError>
 {
     match made {
         Ok(it) => Ok(it),
-        Err(MarkStop::NoMemory) => Err(AllocError),
-        Err(MarkStop::Ids) => unreachable!(),
+        Err(why) => Err(want_of_memory(why)),
+    }
+}
+
+// Where no id passes the greatest, an annotator lacked memory.
+fn want_of_memory(why: MarkStop) -> AllocError
+    requires { why ≡ Ids → ⊥ }
+{
+    match why {
+        MarkStop::NoMemory => AllocError,
+        MarkStop::Ids => unreachable!(),
     }
 }

@@ -1,12 +1,13 @@
-use Rattle.std.proofs.Common.{◌+◌, arith}
-use Rattle.std.proofs.lemmas.Result.{err_from_is_err_and}
+use Rattle.std.proofs.Common.{◌+◌, ◌++◌, arith}
 use Rattle.lt_tree.specs.UnitView.{unit_of}
 use Rattle.lt_tree.specs.Typing.ProgramView.{program_of}
-use Rattle.lt_survey.specs.Marking.{chosen}
+use Rattle.lt_objectives.specs.Marked.{marked}
+use Rattle.lt_survey.specs.Marking.{bits_of, chosen, IdsPass}
 use Rattle.lt_crit.specs.Criteria as tests
 use Rattle.lt_mcc.specs.Combinations as combinations
 use Rattle.lt_mut.specs.Mutations as mutants
-use Rattle.ltest.proofs.Marking.{first_low, first_is, marks_at_first, stops_at_first, stops_at_tests, stops_at_combinations, stops_at_mutants, labels_of_three}
+use Rattle.lt_answers.specs.Annotations.{first_id}
+use Rattle.ltest.proofs.Marking.{first_low, first_is, goes_at_first, goes_on, goes_to_end, none_told}
 use Rattle.ltest.proofs.labels.with_labels.Goals as goal
 
 pub overflow_add-first : goal.overflow_add-first
@@ -15,87 +16,76 @@ overflow_add-first c = let low = first_low c.max_id-first.result (unit_of c.args
 pub annotate-requires : goal.annotate-requires
 annotate-requires c = first_low c.max_id-first.result (unit_of c.args.unit.now) c.max_id-first.ensures
 
-pub returns-in_err-tests : goal.returns-in_err-tests
-returns-in_err-tests c =
-    let unit = unit_of c.args.unit.now in
-    let program = program_of c.args.program.now in
-    let set = c.args.which.0 in
-    let r = c.max_id-first.result in
-    let is = c.max_id-first.ensures in
-    let xs = chosen tests.criteria set in
-    let p = err_from_is_err_and c.from_residual.result c.from_residual.ensures.1 in
-    rw (p.1, p.2) (stops_at_tests unit program set _
-    (stops_at_first xs unit program (r + 1) _ (first_is r unit is) (c.in_err-tests.ensures xs unit program (r + 1) (first_low r unit is) c.annotate.ensures.marked c.annotate.ensures.ids)))
-
 pub annotate-requires-2 : goal.annotate-requires-2
 annotate-requires-2 c =
     let unit = unit_of c.args.unit.now in
     let program = program_of c.args.program.now in
-    let set = c.args.which.0 in
+    let set = bits_of c.args.which in
     let r = c.max_id-first.result in
-    let is = c.max_id-first.ensures in
-    let xs = chosen tests.criteria set in
-    (c.in_ok-tests.ensures xs unit program (r + 1) (first_low r unit is) c.annotate.ensures.marked c.annotate.ensures.ids).within
-
-pub returns-in_err-combinations : goal.returns-in_err-combinations
-returns-in_err-combinations c =
-    let unit = unit_of c.args.unit.now in
-    let program = program_of c.args.program.now in
-    let set = c.args.which.0 in
-    let r = c.max_id-first.result in
-    let is = c.max_id-first.ensures in
     let xs = chosen tests.criteria set in
     let ys = chosen combinations.criteria set in
+    let zs = chosen mutants.criteria set in
+    let whole = marked unit program set (first_id unit) in
+    let all = goes_at_first unit program set (r + 1) (first_is r unit c.max_id-first.ensures) (first_low r unit c.max_id-first.ensures) c.requires in
     let a = c.in_ok-tests.tests in
-    let h = marks_at_first xs unit program (r + 1) a (first_is r unit is) (c.in_ok-tests.ensures xs unit program (r + 1) (first_low r unit is) c.annotate.ensures.marked c.annotate.ensures.ids) in
-    let p = err_from_is_err_and c.from_residual-in_err-combinations.result c.from_residual-in_err-combinations.ensures.1 in
-    rw (p.1, p.2) (stops_at_combinations unit program set a _ h
-    (c.in_err-combinations.ensures ys (unit_of a.unit) program a.next h.within c.annotate-2.ensures.marked c.annotate-2.ensures.ids))
+    let first = rw c.in_ok-tests.ensures at c.annotate.ensures.marked in
+    let left = goes_on xs (ys ++ zs) whole unit program (r + 1) a all first in
+    left.low
 
 pub annotate-requires-3 : goal.annotate-requires-3
 annotate-requires-3 c =
     let unit = unit_of c.args.unit.now in
     let program = program_of c.args.program.now in
-    let set = c.args.which.0 in
+    let set = bits_of c.args.which in
     let r = c.max_id-first.result in
-    let is = c.max_id-first.ensures in
-    let xs = chosen tests.criteria set in
-    let ys = chosen combinations.criteria set in
-    let a = c.in_ok-tests.tests in
-    let h = marks_at_first xs unit program (r + 1) a (first_is r unit is) (c.in_ok-tests.ensures xs unit program (r + 1) (first_low r unit is) c.annotate.ensures.marked c.annotate.ensures.ids) in
-    (c.in_ok-combinations.ensures ys (unit_of a.unit) program a.next h.within c.annotate-2.ensures.marked c.annotate-2.ensures.ids).within
-
-pub returns-in_err-mutants : goal.returns-in_err-mutants
-returns-in_err-mutants c =
-    let unit = unit_of c.args.unit.now in
-    let program = program_of c.args.program.now in
-    let set = c.args.which.0 in
-    let r = c.max_id-first.result in
-    let is = c.max_id-first.ensures in
     let xs = chosen tests.criteria set in
     let ys = chosen combinations.criteria set in
     let zs = chosen mutants.criteria set in
+    let whole = marked unit program set (first_id unit) in
+    let all = goes_at_first unit program set (r + 1) (first_is r unit c.max_id-first.ensures) (first_low r unit c.max_id-first.ensures) c.requires in
     let a = c.in_ok-tests.tests in
-    let h = marks_at_first xs unit program (r + 1) a (first_is r unit is) (c.in_ok-tests.ensures xs unit program (r + 1) (first_low r unit is) c.annotate.ensures.marked c.annotate.ensures.ids) in
+    let first = rw c.in_ok-tests.ensures at c.annotate.ensures.marked in
+    let left = goes_on xs (ys ++ zs) whole unit program (r + 1) a all first in
     let b = c.in_ok-combinations.combinations in
-    let k = c.in_ok-combinations.ensures ys (unit_of a.unit) program a.next h.within c.annotate-2.ensures.marked c.annotate-2.ensures.ids in
-    let p = err_from_is_err_and c.from_residual-in_err-mutants.result c.from_residual-in_err-mutants.ensures.1 in
-    rw (p.1, p.2) (stops_at_mutants unit program set a b _ h k
-    (c.in_err-mutants.ensures zs (unit_of b.unit) program b.next k.within c.annotate-3.ensures.marked c.annotate-3.ensures.ids))
+    let second = rw c.in_ok-combinations.ensures at c.annotate-2.ensures.marked in
+    let last = goes_on ys zs whole (unit_of a.unit) program a.next b left second in
+    last.low
+
+pub within-requires-3 : goal.within-requires-3
+within-requires-3 c =
+    let unit = unit_of c.args.unit.now in
+    let program = program_of c.args.program.now in
+    let set = bits_of c.args.which in
+    let r = c.max_id-first.result in
+    let xs = chosen tests.criteria set in
+    let ys = chosen combinations.criteria set in
+    let zs = chosen mutants.criteria set in
+    let whole = marked unit program set (first_id unit) in
+    let all = goes_at_first unit program set (r + 1) (first_is r unit c.max_id-first.ensures) (first_low r unit c.max_id-first.ensures) c.requires in
+    let a = c.in_ok-tests.tests in
+    let first = rw c.in_ok-tests.ensures at c.annotate.ensures.marked in
+    let left = goes_on xs (ys ++ zs) whole unit program (r + 1) a all first in
+    let b = c.in_ok-combinations.combinations in
+    let second = rw c.in_ok-combinations.ensures at c.annotate-2.ensures.marked in
+    let last = goes_on ys zs whole (unit_of a.unit) program a.next b left second in
+    none_told c.annotate-3.result (IdsPass zs (unit_of b.unit) program b.next) last.none c.annotate-3.ensures.ids
 
 pub returns : goal.returns
 returns c =
     let unit = unit_of c.args.unit.now in
     let program = program_of c.args.program.now in
-    let set = c.args.which.0 in
+    let set = bits_of c.args.which in
     let r = c.max_id-first.result in
-    let is = c.max_id-first.ensures in
     let xs = chosen tests.criteria set in
     let ys = chosen combinations.criteria set in
     let zs = chosen mutants.criteria set in
+    let whole = marked unit program set (first_id unit) in
+    let all = goes_at_first unit program set (r + 1) (first_is r unit c.max_id-first.ensures) (first_low r unit c.max_id-first.ensures) c.requires in
     let a = c.in_ok-tests.tests in
-    let h = marks_at_first xs unit program (r + 1) a (first_is r unit is) (c.in_ok-tests.ensures xs unit program (r + 1) (first_low r unit is) c.annotate.ensures.marked c.annotate.ensures.ids) in
+    let first = rw c.in_ok-tests.ensures at c.annotate.ensures.marked in
+    let left = goes_on xs (ys ++ zs) whole unit program (r + 1) a all first in
     let b = c.in_ok-combinations.combinations in
-    let k = c.in_ok-combinations.ensures ys (unit_of a.unit) program a.next h.within c.annotate-2.ensures.marked c.annotate-2.ensures.ids in
-    labels_of_three unit program set a b c.in_ok-mutants.mutants h k
-    (c.in_ok-mutants.ensures zs (unit_of b.unit) program b.next k.within c.annotate-3.ensures.marked c.annotate-3.ensures.ids)
+    let second = rw c.in_ok-combinations.ensures at c.annotate-2.ensures.marked in
+    let last = goes_on ys zs whole (unit_of a.unit) program a.next b left second in
+    let third = rw c.in_ok-mutants.ensures at c.annotate-3.ensures.marked in
+    goes_to_end zs whole (unit_of b.unit) program b.next c.in_ok-mutants.mutants last third
