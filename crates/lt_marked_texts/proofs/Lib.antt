@@ -1,0 +1,12 @@
+mod Arguments
+mod Good
+mod GoodUnits
+mod Free
+mod SameTypes
+mod Walking
+mod FreeExpressions
+mod FreeUnits
+mod Derived
+mod Standing
+mod Without
+mod Fitting
