@@ -1,12 +1,10 @@
 -- New marks whose predicates are made of the expressions at their places.
 use Rattle.std.proofs.Common.{◌≡◌, ℕ, suc, ◌+◌, true, List, [], ◌∷◌, ◌++◌, length, subst, arith, length-append}
-use Rattle.std.specs.List.{All}
 use Rattle.lt_tree.specs.Tree as c
 use Rattle.lt_tree.specs.Nodes.{Node, an_external, an_expression, in_expression}
-use Rattle.lt_tree.specs.Scope.{Scope, enumerators_in, in_body}
+use Rattle.lt_tree.specs.Scope.{Scope, hiding, enumerators_in, in_body}
 use Rattle.lt_objectives.specs.Objectives.{Form, at_start, in_front}
 use Rattle.lt_objectives.specs.Marked.{NewMark, is_there}
-use Rattle.lt_print.proofs.CuttingQuotes.{IsByte}
 use Rattle.lt_print.proofs.Spelt.{SpeltDeclarator}
 use Rattle.lt_marked_texts.proofs.Good.{Good}
 
@@ -15,14 +13,14 @@ pub record Made (e predicate : c.Expression) : Type 0 where
   pub good : (scope : Scope) → Good scope e → Good scope predicate
   pub quiet : enumerators_in predicate ≡ []
 
--- One that is good at the start of the body behind this declarator.
+-- One that is good at the start of the body behind this declarator, whatever is declared in marks before it.
 pub record MadeAtStart (s : c.Specifiers) (d : c.Declarator) (predicate : c.Expression) : Type 0 where
-  pub good : (scope : Scope) → SpeltDeclarator d → Good (in_body s d scope) predicate
+  pub good : (scope : Scope) (names : List (List ℕ)) → SpeltDeclarator d → Good (hiding names (in_body s d scope)) predicate
   pub quiet : enumerators_in predicate ≡ []
 
 -- so it is with the predicate of a mark, if it is of this form and at this place
 abbrev pub IsMade : (c.Expression → Type 0) → Form → ℕ → NewMark → Type 0
-IsMade P form k new = is_there form k new ≡ true → P new.objective.predicate × All IsByte new.objective.tag
+IsMade P form k new = is_there form k new ≡ true → P new.objective.predicate
 
 abbrev pub AreMade : (c.Expression → Type 0) → Form → List NewMark → ℕ → Type 0
 AreMade P form [] k = Unit {0}
@@ -43,23 +41,42 @@ module _ (new : List NewMark) where
   moved : (nodes : List Node) (j k : ℕ) → j ≡ k → Fits new j nodes → Fits new k nodes
   moved nodes j k e = subst (λ (n : ℕ). Fits new n nodes) e
 
-  pub front_fits : (k : ℕ) (xs ys : List Node) → Fits new k (xs ++ ys) → Fits new k xs
+  front_fits : (k : ℕ) (xs ys : List Node) → Fits new k (xs ++ ys) → Fits new k xs
   front_fits k [] ys fits = tt
   front_fits k (x ∷ xs) ys fits = (fits.0, front_fits (k + 1) xs ys fits.1)
 
-  pub back_fits : (k : ℕ) (xs ys : List Node) → Fits new k (xs ++ ys) → Fits new (k + length xs) ys
+  back_fits : (k : ℕ) (xs ys : List Node) → Fits new k (xs ++ ys) → Fits new (k + length xs) ys
   back_fits k [] ys fits = moved ys k (k + 0) (omega arith) fits
   back_fits k (x ∷ xs) ys fits = moved ys (k + 1 + length xs) (k + suc (length xs)) (omega arith) (back_fits (k + 1) xs ys fits.1)
 
-  -- the last of three
-  pub third_fits : (k : ℕ) (xs ys zs : List Node) → Fits new k (xs ++ ys ++ zs) → Fits new (k + length xs + length ys) zs
-  third_fits k xs ys zs fits = moved zs (k + length (xs ++ ys)) (k + length xs + length ys) (omega (arith, length-append xs ys)) (back_fits k (xs ++ ys) zs fits)
+  -- nodes that follow each other
+  pub record Two (k : ℕ) (xs ys : List Node) : Type 0 where
+    pub first : Fits new k xs
+    pub second : Fits new (k + length xs) ys
 
-  pub second_fits : (k : ℕ) (xs ys zs : List Node) → Fits new k (xs ++ ys ++ zs) → Fits new (k + length xs) ys
-  second_fits k xs ys zs fits = back_fits k xs ys (front_fits k (xs ++ ys) zs fits)
+  pub two : (k : ℕ) (xs ys : List Node) → Fits new k (xs ++ ys) → Two k xs ys
+  two k xs ys fits = record { first = front_fits k xs ys fits; second = back_fits k xs ys fits }
 
-  pub first_fits : (k : ℕ) (xs ys zs : List Node) → Fits new k (xs ++ ys ++ zs) → Fits new k xs
-  first_fits k xs ys zs fits = front_fits k xs ys (front_fits k (xs ++ ys) zs fits)
+  pub record Three (k : ℕ) (xs ys zs : List Node) : Type 0 where
+    pub first : Fits new k xs
+    pub second : Fits new (k + length xs) ys
+    pub third : Fits new (k + length xs + length ys) zs
+
+  pub three_parts : (k : ℕ) (xs ys zs : List Node) → Fits new k (xs ++ ys ++ zs) → Three k xs ys zs
+  three_parts k xs ys zs fits =
+      let front = two k (xs ++ ys) zs fits in
+      let parts = two k xs ys front.first in
+      record { first = parts.first; second = parts.second; third = moved zs (k + length (xs ++ ys)) (k + length xs + length ys) (omega (arith, length-append xs ys)) front.second }
+
+  pub record Four (k : ℕ) (xs ys zs ws : List Node) : Type 0 where
+    pub front : Three k xs ys zs
+    pub fourth : Fits new (k + length xs + length ys + length zs) ws
+
+  pub four_parts : (k : ℕ) (xs ys zs ws : List Node) → Fits new k (xs ++ ys ++ zs ++ ws) → Four k xs ys zs ws
+  four_parts k xs ys zs ws fits =
+      let parts = three_parts k (xs ++ ys) zs ws fits in
+      let front = two k (xs ++ ys ++ zs) ws fits in
+      record { front = three_parts k xs ys zs front.first; fourth = moved ws (k + length (xs ++ ys) + length zs) (k + length xs + length ys + length zs) (omega (arith, length-append xs ys)) parts.third }
 
   -- the marks in front of an expression that begins here
   pub own_fits : (k : ℕ) (e : c.Expression) → Fits new k (in_expression e) → AreMade (Made e) in_front new k

@@ -10,3 +10,8 @@ mod Derived
 mod Standing
 mod Without
 mod Fitting
+mod DerivedUnits
+mod StandingUnits
+mod NewMarks
+mod MarkedExpressions
+mod MarkedUnits

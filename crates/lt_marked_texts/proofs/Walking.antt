@@ -9,6 +9,7 @@ use Rattle.lt_tree.specs.Typing.Declaring.{with_start}
 use Rattle.lt_tree.specs.Typing.Entities.{Known, Frame, Object}
 use Rattle.lt_tree.specs.Typing.Steps.{Outcome, Goes, Breaks, goes_on, unless_broken, settle, gives, left, marked_again}
 use Rattle.lt_tree.specs.Typing.Expressions.{Use, Judged, faults_of_any, finish}
+use Rattle.lt_marked_texts.proofs.Arguments.{front_empty}
 
 abbrev pub named : Known → List (List ℕ)
 named known = map (λ object. object.name) known.objects
@@ -37,10 +38,6 @@ start known = record { unmarked = refl; behind = ([], sym (append-nil (named kno
 none_broken : (rules : List Rule) → least rules ≡ None → rules ≡ []
 none_broken [] h = refl
 none_broken (rule ∷ rules) h = absurd cc
-
-front_empty : (xs ys : List Rule) → xs ++ ys ≡ [] → xs ≡ []
-front_empty [] ys h = refl
-front_empty (x ∷ xs) ys h = absurd cc
 
 same_names : (objects : List Object) (n : ℕ) (old new : Object) → slice_get objects n ≡ Some old → new.name ≡ old.name → map (λ (o : Object). o.name) (slice_set objects n new) ≡ map (λ (o : Object). o.name) objects
 same_names [] n old new there same = absurd cc
