@@ -15,3 +15,5 @@ mod StandingUnits
 mod NewMarks
 mod MarkedExpressions
 mod MarkedUnits
+mod TypedUnits
+mod Decimals
