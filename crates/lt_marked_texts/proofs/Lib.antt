@@ -17,3 +17,4 @@ mod MarkedExpressions
 mod MarkedUnits
 mod TypedUnits
 mod Decimals
+mod Bytes
