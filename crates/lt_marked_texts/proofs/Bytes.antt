@@ -59,7 +59,7 @@ word_bytes (b ∷ bs) h = letter_first b bs (class_of b) refl h
 
 -- ---- signs
 
-small_bytes : (w : List ℕ) → list_all (λ b. leb b 127) w ≡ true → All IsByte w
+pub small_bytes : (w : List ℕ) → list_all (λ b. leb b 127) w ≡ true → All IsByte w
 small_bytes [] h = All-nil IsByte
 small_bytes (b ∷ bs) h = let both = and_parts (leb b 127) (list_all (λ b. leb b 127) bs) h in All-cons IsByte b bs (small b both.0) (small_bytes bs both.1)
   where

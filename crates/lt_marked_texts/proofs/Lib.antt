@@ -18,3 +18,8 @@ mod MarkedUnits
 mod TypedUnits
 mod Decimals
 mod Bytes
+mod Quiet
+mod Predicates
+mod Objectives
+mod Rounds
+mod Marked
