@@ -23,3 +23,4 @@ mod Predicates
 mod Objectives
 mod Rounds
 mod Marked
+mod Unchanged

@@ -1,5 +1,5 @@
 -- A well-made unit that has a typed program is well-made with the marks of objectives too.
-use Rattle.std.proofs.Common.{◌≡◌, ℕ, ◌≤◌, ◌<◌, ◌+◌, ◌^◌, true, false, List, [], ◌∷◌, None, arith}
+use Rattle.std.proofs.Common.{◌≡◌, ℕ, ◌≤◌, ◌<◌, ◌+◌, ◌^◌, Bool, true, false, refl, List, [], ◌∷◌, None, arith}
 use Rattle.lt_model.specs.declared.scalar.DataModel.{DataModel}
 use Rattle.lt_token.specs.Tokens.{Lexes}
 use Rattle.lt_tree.specs.Tree as c
@@ -10,9 +10,11 @@ use Rattle.lt_tree.specs.Typing.Programs.{Program}
 use Rattle.lt_tree.specs.Typing.UnitTyping.{IsProgramOf}
 use Rattle.lt_tree.specs.Pieces.{text_of}
 use Rattle.lt_objectives.specs.declared.criteria.Criterion.{Criterion}
+use Rattle.lt_objectives.specs.declared.criteria.Criterion.TheVariants as C
 use Rattle.lt_objectives.specs.Criteria.{criteria_in}
 use Rattle.lt_objectives.specs.Objectives.{objectives, Objective}
 use Rattle.lt_objectives.specs.Marked.{numbered, next_id, unit_with_marks, marked_by, marked}
+use Rattle.lt_survey.specs.Marking.{next_behind}
 use Rattle.lt_print.proofs.Clean.{lexed}
 use Rattle.lt_print.proofs.SpeltTokens.{are_spelt}
 use Rattle.lt_print.proofs.SpeltUnits as spelt
@@ -23,7 +25,21 @@ use Rattle.lt_marked_texts.proofs.StandingUnits.{unit_stands, unit_spelt}
 use Rattle.lt_marked_texts.proofs.MarkedUnits.{marks_keep_good}
 use Rattle.lt_marked_texts.proofs.TypedUnits.{free_unit}
 use Rattle.lt_marked_texts.proofs.Bytes.{text_bytes}
-use Rattle.lt_marked_texts.proofs.Rounds.{BodiesBegin, marks_fit, marks_have_words}
+use Rattle.lt_marked_texts.proofs.Objectives.{one_constant}
+use Rattle.lt_marked_texts.proofs.Rounds.{BodiesBegin, grows, marks_fit, marks_have_words}
+
+-- ---- what stands at the starts of bodies
+
+abbrev is_input : Criterion → Bool
+is_input C.InputDomain = true
+is_input _ = false
+
+others_begin : (unit : c.Unit) (program : Program) (criterion : Criterion) → is_input criterion ≡ false → BodiesBegin unit program criterion
+others_begin unit program C.Function other k node is s d body e = (record { good = λ scope names spelt. one_constant; quiet = refl }, tt)
+others_begin unit program C.InputDomain other k node is s d body e = absurd cc
+others_begin unit program _ other k node is s d body e = tt
+
+-- ---- good units and well-made ones
 
 -- a well-made unit with a typed program is good
 well_made_good : (model : DataModel) (unit : c.Unit) (program : Program) → IsWellMade unit → IsProgramOf model unit program → GoodUnit [] unit
@@ -44,3 +60,32 @@ good_well_made unit good =
       spots = got.0;
       derives = got.1;
     }
+
+-- ---- one criterion after the other
+
+all_grow : (criteria : List Criterion) (unit : c.Unit) (program : Program) (id : ℕ) → id ≤ next_behind criteria unit program id
+all_grow [] unit program id = omega arith
+all_grow (criterion ∷ rest) unit program id =
+    let them = objectives unit program criterion in
+    let more : next_id id them ≤ next_behind (criterion ∷ rest) unit program id = all_grow rest (unit_with_marks (numbered id them) unit) program (next_id id them) in
+    let first : id ≤ next_id id them = grows them id in
+    omega arith
+
+round_good : (unit : c.Unit) (program : Program) (criterion : Criterion) (rest : List Criterion) (id : ℕ) → BodiesBegin unit program criterion → next_behind (criterion ∷ rest) unit program id ≤ 2 ^ 64 → GoodUnit [] unit
+    → GoodUnit [] (unit_with_marks (numbered id (objectives unit program criterion)) unit)
+round_good unit program criterion rest id begin small good =
+    let them = objectives unit program criterion in
+    let new = numbered id them in
+    let more : next_id id them ≤ next_behind (criterion ∷ rest) unit program id = all_grow rest (unit_with_marks new unit) program (next_id id them) in
+    marks_keep_good new (marks_have_words unit program criterion begin id (omega arith)) unit (marks_fit unit program criterion begin id) good
+
+-- criteria that have nothing to do with parameters
+abbrev AskNoInputs : List Criterion → Type 0
+AskNoInputs [] = Unit {0}
+AskNoInputs (criterion ∷ rest) = (is_input criterion ≡ false) × AskNoInputs rest
+
+rounds_good : (criteria : List Criterion) (unit : c.Unit) (program : Program) (id : ℕ) → AskNoInputs criteria → next_behind criteria unit program id ≤ 2 ^ 64 → GoodUnit [] unit → GoodUnit [] (marked_by criteria unit program id)
+rounds_good [] unit program id none small good = good
+rounds_good (criterion ∷ rest) unit program id none small good =
+    let them = objectives unit program criterion in
+    rounds_good rest (unit_with_marks (numbered id them) unit) program (next_id id them) none.1 small (round_good unit program criterion rest id (others_begin unit program criterion none.0) small good)

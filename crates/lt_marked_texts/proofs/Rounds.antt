@@ -113,6 +113,11 @@ abbrev AreTags : List Objective → Type 0
 AreTags [] = Unit {0}
 AreTags (it ∷ rest) = All IsByte it.tag × AreTags rest
 
+-- ids only grow
+pub grows : (os : List Objective) (id : ℕ) → id ≤ next_id id os
+grows [] id = omega arith
+grows (it ∷ rest) id = let more = grows rest (id + ids_of it.form) in omega arith
+
 module _ (unit : c.Unit) (program : Program) (criterion : Criterion) where
   -- what stands at the starts of bodies is good there
   abbrev pub BodiesBegin : Type 0
@@ -170,10 +175,6 @@ module _ (unit : c.Unit) (program : Program) (criterion : Criterion) where
         tags_joined (at_node unit program criterion (record { number = i; node = node })) (flat_map (at_node unit program criterion) (sites_from (i + 1) rest))
         (tags_of_fitting i node (at_node unit program criterion (record { number = i; node = node })) (at_fitting unit program criterion i node (begin i node (first_of (nodes unit) i node rest on))))
         (tags_from rest (i + 1) (rest_of (nodes unit) i node rest on))
-
-    grows : (os : List Objective) (id : ℕ) → id ≤ next_id id os
-    grows [] id = omega arith
-    grows (it ∷ rest) id = let more = grows rest (id + ids_of it.form) in omega arith
 
     words_from : (os : List Objective) (id : ℕ) → next_id id os ≤ 2 ^ 64 → AreTags os → AreWords (numbered id os)
     words_from [] id small tags = tt
