@@ -24,3 +24,5 @@ mod Objectives
 mod Rounds
 mod Marked
 mod Unchanged
+mod Spans
+mod Inserted

@@ -19,13 +19,13 @@ use Rattle.lt_marked_texts.proofs.Objectives.{Fitting, surrounds, precedes, begi
 -- ---- sites
 
 -- the nodes that begin at this number of a list
-abbrev Continue : List Node → ℕ → List Node → Type 0
+abbrev pub Continue : List Node → ℕ → List Node → Type 0
 Continue whole i nodes = (j : ℕ) → slice_get nodes j ≡ slice_get whole (i + j)
 
-first_of : (whole : List Node) (i : ℕ) (node : Node) (rest : List Node) → Continue whole i (node ∷ rest) → slice_get whole i ≡ Some node
+pub first_of : (whole : List Node) (i : ℕ) (node : Node) (rest : List Node) → Continue whole i (node ∷ rest) → slice_get whole i ≡ Some node
 first_of whole i node rest on = let e : i ≡ i + 0 = omega arith in ap (slice_get whole) e ∙ sym (on 0)
 
-rest_of : (whole : List Node) (i : ℕ) (node : Node) (rest : List Node) → Continue whole i (node ∷ rest) → Continue whole (i + 1) rest
+pub rest_of : (whole : List Node) (i : ℕ) (node : Node) (rest : List Node) → Continue whole i (node ∷ rest) → Continue whole (i + 1) rest
 rest_of whole i node rest on = λ j. (let e : i + suc j ≡ i + 1 + j = omega arith in on (suc j) ∙ ap (slice_get whole) e)
 
 -- ---- marks and nodes
