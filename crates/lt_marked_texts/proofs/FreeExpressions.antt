@@ -21,7 +21,7 @@ use Rattle.lt_tree.specs.Typing.Declarators.{Built, all_faults, setting_in_sizeo
 use Rattle.lt_tree.specs.Typing.NodeEnds.{text_at, judge_unary, operand_of, also, end_of_mark, end_of_enumerator, is_no_declarator, alone_faults, end_of_declarator, enter_if}
 use Rattle.lt_tree.specs.Typing.ExpressionTyping.{expression, expressions, maybe, marks, mark, bindings, specifiers, type_specifiers, type_specifier, members, struct_member, member_declarators, enumerators, declarator, parts, parameters, parameter_list}
 use Rattle.lt_marked_texts.proofs.Free.{Free, FreeAll, FreeMaybe, FreeMarks, FreeMark, FreeBindings, FreeSpecifiers, FreeTypes, FreeType, FreeMembers, FreeMember, FreeMemberDeclarators, FreeEnumerators, FreeDeclarator, FreeParts, FreeParameters, FreeList}
-use Rattle.lt_marked_texts.proofs.Walking.{Since, Walks, went, bind, onward, judged, finished, entered, in_frames, scoped, unmarked_here, marked_behind, one_more}
+use Rattle.lt_marked_texts.proofs.Walking.{Past, Since, Walks, went, bind, onward, judged, finished, entered, in_frames, scoped, unmarked_here, marked_behind, one_more}
 
 -- ---- what is judged of marks
 
@@ -68,71 +68,71 @@ after_allowed role x id tag known h =
 pub nothing : Unit {0}
 nothing = tt
 
-module _ {names : List (List ℕ)} where
-  done : {A P : Type 0} {was : Bool} {a : A} (known : Known) → Since was names known → P → Walks P was names (Goes a known)
+module _ {past : Past} where
+  done : {A P : Type 0} {was : Bool} {a : A} (known : Known) → Since was past known → P → Walks P was past (Goes a known)
   done known s p = went s p
 
-  so : {P : Type 0} {was : Bool} (node : ℕ) (role : Use) (it : Judged) (known : Known) → Since was names known → P → Walks P was names (finish node role it known)
+  so : {P : Type 0} {was : Bool} (node : ℕ) (role : Use) (it : Judged) (known : Known) → Since was past known → P → Walks P was past (finish node role it known)
   so node role it known s p = finished node role it known s (λ clean. p)
 
-  may_enter : {was : Bool} (written : Bool) (known : Known) → Since was names known → Walks (Unit {0}) was names (enter_if written known)
+  pub may_enter : {was : Bool} (written : Bool) (known : Known) → Since was past known → Walks (Unit {0}) was past (enter_if written known)
   may_enter true known s = went (entered known s) tt
   may_enter false known s = went s tt
 
-  ended_declarator : {P : Type 0} {was : Bool} (node : Option ℕ) (name : Option (List ℕ)) (it : Built) (faults : List Rule) (known : Known) → Since was names known → P → Walks P was names (end_of_declarator node name it faults known)
+  ended_declarator : {P : Type 0} {was : Bool} (node : Option ℕ) (name : Option (List ℕ)) (it : Built) (faults : List Rule) (known : Known) → Since was past known → P → Walks P was past (end_of_declarator node name it faults known)
   ended_declarator None name it faults known s p = went s p
   ended_declarator (Some node) name it faults known s p = bind (judged node faults known s (λ clean. p)) (λ u k s p. went s p)
 
-  ended_enumerator : {P : Type 0} {was : Bool} (node : ℕ) (name : List ℕ) (z : Option ℤ) (known : Known) → Since was names known → P → Walks P was names (end_of_enumerator node name z known)
+  ended_enumerator : {P : Type 0} {was : Bool} (node : ℕ) (name : List ℕ) (z : Option ℤ) (known : Known) → Since was past known → P → Walks P was past (end_of_enumerator node name z known)
   ended_enumerator node name z known s p = bind (judged node (enumerator_faults known name z) known s (λ clean. p)) (λ u k s p. went (in_frames _ k s) p)
 
-  ended_mark : {P : Type 0} {was : Bool} (node : ℕ) (written : c.Expression) (x : Typed) (id tag : List ℕ) (bs : List TypedBinding) (known : Known) → Since was names known → (was ≡ false → P)
-      → Walks P was names (end_of_mark node written x id tag bs known)
+  ended_mark : {P : Type 0} {was : Bool} (node : ℕ) (written : c.Expression) (x : Typed) (id tag : List ℕ) (bs : List TypedBinding) (known : Known) → Since was past known → (was ≡ false → P)
+      → Walks P was past (end_of_mark node written x id tag bs known)
   ended_mark node written x id tag bs known s p =
       bind (judged node (unless (is_good_mark known written x id tag bs) bad_mark) known s (λ clean. p (sym s.unmarked ∙ mark_allowed known written x id tag bs clean)))
-      (λ u k s p. went (record { unmarked = s.unmarked; behind = s.behind }) p)
+      (λ u k s p. went (record { unmarked = s.unmarked; behind = s.behind; functions = s.functions }) p)
 
-  struct_found : {was : Bool} (tag : List ℕ) (found : Option Tagged) (known : Known) → Since was names known → Walks (Unit {0}) was names (struct_tagged tag found known)
-  struct_found tag None known s = went (record { unmarked = s.unmarked; behind = s.behind }) tt
+  struct_found : {was : Bool} (tag : List ℕ) (found : Option Tagged) (known : Known) → Since was past known → Walks (Unit {0}) was past (struct_tagged tag found known)
+  struct_found tag None known s = went (record { unmarked = s.unmarked; behind = s.behind; functions = s.functions }) tt
   struct_found tag (Some (a_struct k)) known s = went s tt
   struct_found tag (Some (an_enum is_complete)) known s = went s tt
 
-  opened_new : {was : Bool} (tag : Option (List ℕ)) (faults : List Rule) (known : Known) → Since was names known → Walks (Unit {0}) was names (open_new tag faults known)
-  opened_new None faults known s = went (record { unmarked = s.unmarked; behind = s.behind }) tt
-  opened_new (Some tag) faults known s = went (record { unmarked = s.unmarked; behind = s.behind }) tt
+  opened_new : {was : Bool} (tag : Option (List ℕ)) (faults : List Rule) (known : Known) → Since was past known → Walks (Unit {0}) was past (open_new tag faults known)
+  opened_new None faults known s = went (record { unmarked = s.unmarked; behind = s.behind; functions = s.functions }) tt
+  opened_new (Some tag) faults known s = went (record { unmarked = s.unmarked; behind = s.behind; functions = s.functions }) tt
 
-  opened_tagged : {was : Bool} (tag : List ℕ) (found : Option Tagged) (known : Known) → Since was names known → Walks (Unit {0}) was names (open_tagged tag found known)
+  opened_tagged : {was : Bool} (tag : List ℕ) (found : Option Tagged) (known : Known) → Since was past known → Walks (Unit {0}) was past (open_tagged tag found known)
   opened_tagged tag None known s = opened_new (Some tag) [] known s
   opened_tagged tag (Some (a_struct k)) known s = went s tt
   opened_tagged tag (Some (an_enum is_complete)) known s = opened_new None _ known s
 
-  opened_struct : {was : Bool} (tag : Option (List ℕ)) (known : Known) → Since was names known → Walks (Unit {0}) was names (open_struct tag known)
+  opened_struct : {was : Bool} (tag : Option (List ℕ)) (known : Known) → Since was past known → Walks (Unit {0}) was past (open_struct tag known)
   opened_struct None known s = opened_new None [] known s
   opened_struct (Some tag) known s = opened_tagged tag (tag_here tag known) known s
 
-  closed_by : {was : Bool} (complete : Bool) (n : ℕ) (list : List Member) (known : Known) → Since was names known → Since was names ((if complete then (λ known. known) else with_members n list) known)
+  closed_by : {was : Bool} (complete : Bool) (n : ℕ) (list : List Member) (known : Known) → Since was past known → Since was past ((if complete then (λ known. known) else with_members n list) known)
   closed_by true n list known s = s
-  closed_by false n list known s = record { unmarked = s.unmarked; behind = s.behind }
+  closed_by false n list known s = record { unmarked = s.unmarked; behind = s.behind; functions = s.functions }
 
-  closed_struct : {P : Type 0} {was : Bool} (opened : OpenStruct) (list : List Member) (known : Known) → Since was names known → P → Walks P was names (close_struct opened list known)
+  closed_struct : {P : Type 0} {was : Bool} (opened : OpenStruct) (list : List Member) (known : Known) → Since was past known → P → Walks P was past (close_struct opened list known)
   closed_struct opened list known s p = went (closed_by (is_complete_struct known.structs opened.number) opened.number list known s) p
 
-  opened_enum : {was : Bool} (tag : Option (List ℕ)) (known : Known) → Since was names known → Walks (Unit {0}) was names (open_enum tag known)
+  opened_enum : {was : Bool} (tag : Option (List ℕ)) (known : Known) → Since was past known → Walks (Unit {0}) was past (open_enum tag known)
   opened_enum None known s = went s tt
   opened_enum (Some tag) known s = went (in_frames _ known s) tt
 
-  closed_enum : {P : Type 0} {was : Bool} (tag : Option (List ℕ)) (faults : List Rule) (known : Known) → Since was names known → P → Walks P was names (close_enum tag faults known)
+  closed_enum : {P : Type 0} {was : Bool} (tag : Option (List ℕ)) (faults : List Rule) (known : Known) → Since was past known → P → Walks P was past (close_enum tag faults known)
   closed_enum None faults known s p = went s p
   closed_enum (Some tag) faults known s p = went (in_frames _ known s) p
 
-  pub bound : {P : Type 0} {was : Bool} (is_definition is_register : Bool) (node : ℕ) (name : Option (List ℕ)) (t : CType) (known : Known) → Since was names known → P → Walks P was names (binds_parameter is_definition is_register node name t known)
+  pub bound : {P : Type 0} {was : Bool} (is_definition is_register : Bool) (node : ℕ) (name : Option (List ℕ)) (t : CType) (known : Known) → Since was past known → P → Walks P was past (binds_parameter is_definition is_register node name t known)
   bound is_definition is_register node None t known s p = went s p
-  bound is_definition is_register node (Some name) t known s p = let more = one_more _ known s in went (record { unmarked = more.unmarked; behind = more.behind }) p
+  bound is_definition is_register node (Some name) t known s p = let more = one_more _ known s in went (record { unmarked = more.unmarked; behind = more.behind; functions = more.functions }) p
 
   -- ---- expressions and what stands in them
 
   mutual
-    pub of_expression : {was : Bool} (it : c.Expression) (role : Use) (known : Known) → Since was names known → Walks (Free was it) was names (expression it role known)
+    pub of_expression : {was : Bool} (it : c.Expression) (role : Use) (known : Known) → Since was past known → Walks (Free was it) was past (expression it role known)
     of_expression (c.Name name) role known s = so _ role (judge_name role name (meaning_of name known) _) _ (entered known s) tt
     of_expression (c.Constant text) role known s = so _ role (judge_constant (constant_of known.model text)) _ (entered known s) tt
     of_expression (c.Text bytes) role known s = so _ role (text_at _ bytes _) _ (one_more _ _ (entered known s)) tt
@@ -170,41 +170,41 @@ module _ {names : List (List ℕ)} where
     of_expression (c.Decide operand when_true when_false tag) role known s =
         bind (of_expression operand (inside_mark role) _ (entered known s)) (λ x k s a.
         bind (finished _ role (judge_decide role x when_true when_false tag k) k s (λ clean. (sym s.unmarked ∙ decision_allowed role x when_true when_false tag k clean, a)))
-        (λ result k s p. went (record { unmarked = s.unmarked; behind = s.behind }) p))
+        (λ result k s p. went (record { unmarked = s.unmarked; behind = s.behind; functions = s.functions }) p))
     of_expression (c.After operand id tag) role known s =
         bind (of_expression operand (inside_after role) _ (entered known s)) (λ x k s a.
         bind (finished _ role (judge_after role x id tag k) k s (λ clean. (sym s.unmarked ∙ after_allowed role x id tag k clean, a)))
-        (λ result k s p. went (record { unmarked = s.unmarked; behind = s.behind }) p))
+        (λ result k s p. went (record { unmarked = s.unmarked; behind = s.behind; functions = s.functions }) p))
 
-    of_expressions : {was : Bool} (them : c.Expressions) (known : Known) → Since was names known → Walks (FreeAll was them) was names (expressions them known)
+    of_expressions : {was : Bool} (them : c.Expressions) (known : Known) → Since was past known → Walks (FreeAll was them) was past (expressions them known)
     of_expressions c.no_expressions known s = done known s tt
     of_expressions (c.an_expression first rest) known s = bind (of_expression first as_value known s) (λ x k s a. bind (of_expressions rest k s) (λ xs k s b. done k s (a, b)))
 
-    of_maybe : {was : Bool} (it : c.Maybe) (known : Known) → Since was names known → Walks (FreeMaybe it) was names (maybe it known)
+    pub of_maybe : {was : Bool} (it : c.Maybe) (known : Known) → Since was past known → Walks (FreeMaybe it) was past (maybe it known)
     of_maybe c.absent known s = done known s tt
     of_maybe (c.present e) known s = bind (marked_behind known.is_unmarked s.unmarked (of_expression e as_value _ (unmarked_here known s))) (λ x k s a. done k s a)
 
-    of_marks : {was : Bool} (them : c.Marks) (known : Known) → Since was names known → Walks (FreeMarks was them) was names (marks them known)
+    of_marks : {was : Bool} (them : c.Marks) (known : Known) → Since was past known → Walks (FreeMarks was them) was past (marks them known)
     of_marks c.no_marks known s = done known s tt
     of_marks (c.a_mark first rest) known s = bind (of_mark first known s) (λ m k s a. bind (of_marks rest k s) (λ ms k s b. done k s (a, b)))
 
-    pub of_mark : {was : Bool} (it : c.Mark) (known : Known) → Since was names known → Walks (FreeMark was it) was names (mark it known)
+    pub of_mark : {was : Bool} (it : c.Mark) (known : Known) → Since was past known → Walks (FreeMark was it) was past (mark it known)
     of_mark (c.mark predicate id tag bound) known s =
         bind (of_expression predicate as_value _ (entered known s)) (λ x k s a. bind (of_bindings bound k s)
         (λ bs k s b. ended_mark _ predicate x id tag bs k s (λ allowed. (allowed, a, b))))
 
-    of_bindings : {was : Bool} (them : c.Bindings) (known : Known) → Since was names known → Walks (FreeBindings was them) was names (bindings them known)
+    of_bindings : {was : Bool} (them : c.Bindings) (known : Known) → Since was past known → Walks (FreeBindings was them) was past (bindings them known)
     of_bindings c.no_bindings known s = done known s tt
     of_bindings (c.a_binding name value rest) known s = bind (of_expression value as_value known s) (λ x k s a. bind (of_bindings rest k s) (λ bs k s b. done k s (a, b)))
 
-    pub of_specifiers : {was : Bool} (it : c.Specifiers) (setting : Setting) (known : Known) → Since was names known → Walks (FreeSpecifiers it) was names (specifiers it setting known)
+    pub of_specifiers : {was : Bool} (it : c.Specifiers) (setting : Setting) (known : Known) → Since was past known → Walks (FreeSpecifiers it) was past (specifiers it setting known)
     of_specifiers (c.specifiers words types) setting known s = bind (of_types types (beside_words words setting) known s) (λ namings k s a. done k s a)
 
-    of_types : {was : Bool} (them : c.TypeSpecifiers) (setting : Setting) (known : Known) → Since was names known → Walks (FreeTypes them) was names (type_specifiers them setting known)
+    of_types : {was : Bool} (them : c.TypeSpecifiers) (setting : Setting) (known : Known) → Since was past known → Walks (FreeTypes them) was past (type_specifiers them setting known)
     of_types c.no_types setting known s = done known s tt
     of_types (c.a_type first rest) setting known s = bind (of_type first setting known s) (λ it k s a. bind (of_types rest setting k s) (λ others k s b. done k s (a, b)))
 
-    of_type : {was : Bool} (it : c.TypeSpecifier) (setting : Setting) (known : Known) → Since was names known → Walks (FreeType it) was names (type_specifier it setting known)
+    of_type : {was : Bool} (it : c.TypeSpecifier) (setting : Setting) (known : Known) → Since was past known → Walks (FreeType it) was past (type_specifier it setting known)
     of_type (c.Basic type) setting known s = done known s tt
     of_type (c.Word word) setting known s = done known s tt
     of_type (c.StructTag tag) setting known s = struct_found tag (if is_alone setting then tag_here tag known else tagged_in tag known.frames) known s
@@ -215,35 +215,35 @@ module _ {names : List (List ℕ)} where
         bind (opened_enum tag known s) (λ faults k s u. bind (of_enumerators list (pos 0) k s) (λ u k s a. closed_enum tag faults k s a))
     of_type (c.Named name) setting known s = done known s tt
 
-    of_members : {was : Bool} (them : c.Members) (list : List Member) (known : Known) → Since was names known → Walks (FreeMembers them) was names (members them list known)
+    of_members : {was : Bool} (them : c.Members) (list : List Member) (known : Known) → Since was past known → Walks (FreeMembers them) was past (members them list known)
     of_members c.no_members list known s = done known s tt
     of_members (c.a_member first rest) list known s = bind (of_struct_member first list known s) (λ longer k s p. onward (of_members rest longer k s) (λ e. (p, e)))
 
-    of_struct_member : {was : Bool} (it : c.StructMember) (list : List Member) (known : Known) → Since was names known → Walks (FreeMember it) was names (struct_member it list known)
+    of_struct_member : {was : Bool} (it : c.StructMember) (list : List Member) (known : Known) → Since was past known → Walks (FreeMember it) was past (struct_member it list known)
     of_struct_member (c.member sp ds) list known s =
         bind (of_specifiers sp elsewhere _ (entered known s)) (λ it k s a. bind (of_member_declarators ds it list k s)
         (λ found k s b. bind (judged _ (broken_if incomplete_type (is_no_declarator ds) ++ alone_faults (is_no_declarator ds) it ++ found.faults) k s (λ clean. nothing)) (λ u k s p. done k s (a, b))))
 
-    of_member_declarators : {was : Bool} (them : c.MemberDeclarators) (it : Specified) (list : List Member) (known : Known) → Since was names known
-        → Walks (FreeMemberDeclarators them) was names (member_declarators them it list known)
+    of_member_declarators : {was : Bool} (them : c.MemberDeclarators) (it : Specified) (list : List Member) (known : Known) → Since was past known
+        → Walks (FreeMemberDeclarators them) was past (member_declarators them it list known)
     of_member_declarators c.no_declarators it list known s = done known s tt
     of_member_declarators (c.a_declarator d width rest) it list known s =
         bind (of_declarator d it false (member_faults list (has_width width)) known s) (λ declared k s a. bind (of_maybe width k s)
         (λ written k s b. bind (of_member_declarators rest it (with_member list declared) k s) (λ found k s e. done k s (a, b, e))))
 
-    of_enumerators : {was : Bool} (them : c.Enumerators) (counted : ℤ) (known : Known) → Since was names known → Walks (FreeEnumerators them) was names (enumerators them counted known)
+    of_enumerators : {was : Bool} (them : c.Enumerators) (counted : ℤ) (known : Known) → Since was past known → Walks (FreeEnumerators them) was past (enumerators them counted known)
     of_enumerators c.no_enumerators counted known s = done known s tt
     of_enumerators (c.an_enumerator name value rest) counted known s =
         bind (of_maybe value _ (entered known s)) (λ x k s a. bind (ended_enumerator _ name (value_given counted x) k s a)
         (λ next k s a. onward (of_enumerators rest next k s) (λ b. (a, b))))
 
-    pub of_declarator : {was : Bool} (it : c.Declarator) (sp : Specified) (is_definition : Bool) (judge : Option (List ℕ) → Known → Built → List Rule) (known : Known) → Since was names known
-        → Walks (FreeDeclarator it) was names (declarator it sp is_definition judge known)
+    pub of_declarator : {was : Bool} (it : c.Declarator) (sp : Specified) (is_definition : Bool) (judge : Option (List ℕ) → Known → Built → List Rule) (known : Known) → Since was past known
+        → Walks (FreeDeclarator it) was past (declarator it sp is_definition judge known)
     of_declarator (c.declarator name ps) sp is_definition judge known s =
         bind (may_enter (is_written name ps) known s) (λ node k s u. bind (of_parts ps sp.type is_definition true k s)
         (λ b k s a. ended_declarator node name b (all_faults sp b (judge name k b)) k s a))
 
-    pub of_parts : {was : Bool} (them : c.Parts) (t : CType) (is_definition is_outermost : Bool) (known : Known) → Since was names known → Walks (FreeParts them) was names (parts them t is_definition is_outermost known)
+    pub of_parts : {was : Bool} (them : c.Parts) (t : CType) (is_definition is_outermost : Bool) (known : Known) → Since was past known → Walks (FreeParts them) was past (parts them t is_definition is_outermost known)
     of_parts c.no_parts t is_definition is_outermost known s = done known s tt
     of_parts (c.Pointer q rest) t is_definition is_outermost known s = bind (of_parts rest t false false known s) (λ inner k s a. done k s a)
     of_parts (c.Array length rest) t is_definition is_outermost known s =
@@ -251,13 +251,13 @@ module _ {names : List (List ℕ)} where
     of_parts (c.Function them rest) t is_definition is_outermost known s =
         bind (scoped known.frames (of_parameters them is_definition _ (in_frames _ known s))) (λ found k s a. bind (of_parts rest t false false k s) (λ inner k s b. done k s (a, b)))
 
-    of_parameters : {was : Bool} (them : c.Parameters) (is_definition : Bool) (known : Known) → Since was names known → Walks (FreeParameters them) was names (parameters them is_definition known)
+    of_parameters : {was : Bool} (them : c.Parameters) (is_definition : Bool) (known : Known) → Since was past known → Walks (FreeParameters them) was past (parameters them is_definition known)
     of_parameters c.Unstated is_definition known s = done known s tt
     of_parameters c.Void is_definition known s = done known s tt
     of_parameters (c.Listed list) is_definition known s = of_parameter_list list is_definition known s
     of_parameters (c.Open list) is_definition known s = bind (of_parameter_list list is_definition known s) (λ them k s a. done k s a)
 
-    of_parameter_list : {was : Bool} (them : c.ParameterList) (is_definition : Bool) (known : Known) → Since was names known → Walks (FreeList them) was names (parameter_list them is_definition known)
+    of_parameter_list : {was : Bool} (them : c.ParameterList) (is_definition : Bool) (known : Known) → Since was past known → Walks (FreeList them) was past (parameter_list them is_definition known)
     of_parameter_list c.no_parameters is_definition known s = done known s tt
     of_parameter_list (c.a_parameter sp d rest) is_definition known s =
         bind (of_specifiers sp elsewhere known s) (λ it k s a. bind (of_declarator d it false (parameter_faults is_definition) k s)

@@ -15,6 +15,7 @@ mod StandingUnits
 mod NewMarks
 mod MarkedExpressions
 mod MarkedUnits
+mod Parameters
 mod TypedUnits
 mod Decimals
 mod Bytes
@@ -26,3 +27,4 @@ mod Marked
 mod Unchanged
 mod Spans
 mod Inserted
+mod FirstRound

@@ -23,7 +23,7 @@ use Rattle.lt_marked_texts.proofs.GoodUnits.{GoodUnit}
 use Rattle.lt_marked_texts.proofs.DerivedUnits as derived
 use Rattle.lt_marked_texts.proofs.StandingUnits.{unit_stands, unit_spelt}
 use Rattle.lt_marked_texts.proofs.MarkedUnits.{marks_keep_good}
-use Rattle.lt_marked_texts.proofs.TypedUnits.{free_unit}
+use Rattle.lt_marked_texts.proofs.TypedUnits.{GoesOn, TypedUnit, typed_unit}
 use Rattle.lt_marked_texts.proofs.Bytes.{text_bytes}
 use Rattle.lt_marked_texts.proofs.Objectives.{one_constant}
 use Rattle.lt_marked_texts.proofs.Rounds.{BodiesBegin, grows, marks_fit, marks_have_words}
@@ -42,9 +42,8 @@ others_begin unit program _ other k node is s d body e = tt
 -- ---- good units and well-made ones
 
 -- a well-made unit with a typed program is good
-well_made_good : (model : DataModel) (unit : c.Unit) (program : Program) → IsWellMade unit → IsProgramOf model unit program → GoodUnit [] unit
-well_made_good model unit program made is =
-    derived.of_unit made.derives (spelt.of_unit made.derives (are_spelt made.text made.tokens None made.bytes made.lexes)) (free_unit model unit program is)
+well_made_good : (unit : c.Unit) (program : Program) → IsWellMade unit → TypedUnit unit program → GoodUnit [] unit
+well_made_good unit program made known = derived.of_unit made.derives (spelt.of_unit made.derives (are_spelt made.text made.tokens None made.bytes made.lexes)) known.free
 
 -- its canonical text shows that a good unit is well-made
 good_well_made : (unit : c.Unit) → GoodUnit [] unit → IsWellMade unit
