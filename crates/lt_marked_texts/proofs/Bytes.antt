@@ -1,15 +1,15 @@
 -- The text of words that are spelt well is one of bytes.
-use Rattle.std.proofs.Common.{◌≡◌, ℕ, zero, suc, ◌+◌, ◌*◌, ◌/◌, ◌%◌, ◌<◌, ◌≤◌, Bool, true, false, leb, eqb, List, [], ◌∷◌, ◌++◌, refl, sym, ap, ◌∙◌, inl, inr, arith}
-use Rattle.std.specs.Prelude.{if◌then◌else◌, ◌&&◌, ◌||◌, ◌==◌, nat_le, codes, replicate}
+use Rattle.std.proofs.Common.{◌≡◌, ℕ, zero, suc, ◌+◌, ◌*◌, ◌/◌, ◌%◌, ◌≤◌, Bool, true, false, leb, eqb, List, [], ◌∷◌, refl, ap, arith}
+use Rattle.std.specs.Prelude.{if◌then◌else◌, ◌&&◌, ◌||◌, replicate}
 use Rattle.std.specs.List.{All, list_all, flat_map}
-use Rattle.std.proofs.lemmas.Bool.{and_parts, eqb-true}
+use Rattle.std.proofs.lemmas.Bool.{and_parts}
 use Rattle.std.proofs.lemmas.Bool.Decides.{nat_tests}
 use Rattle.std.proofs.lemmas.List.Elements.{All-nil, All-cons, All-head, All-tail, All-append}
 use Rattle.lt_token.specs.declared.piece.Class.{Class}
 use Rattle.lt_token.specs.declared.piece.Class.TheVariants as class
 use Rattle.lt_token.specs.declared.piece.Form.TheVariants as form
 use Rattle.lt_token.specs.Bytes.{class_of, is_word_byte, goes_on_word}
-use Rattle.lt_token.specs.Words.{is_among, punctuators}
+use Rattle.lt_token.specs.Words.{punctuators}
 use Rattle.lt_token.specs.Pieces.{is_piece, is_piece_at}
 use Rattle.lt_tree.specs.declared.terminal.Terminal.{Terminal}
 use Rattle.lt_tree.specs.Symbols.{spelling}
@@ -18,7 +18,7 @@ use Rattle.lt_tree.specs.Pieces.{Word, word, gap, indent, line_end, quoted_byte,
 use Rattle.lt_tree.specs.Canon.{Pieces}
 use Rattle.lt_print.proofs.Cutting.{any_of_all, clash}
 use Rattle.lt_print.proofs.CuttingQuotes.{IsByte}
-use Rattle.lt_print.proofs.Written.{is_other, IsWritten, a_punctuator, a_keyword, a_mark_name, written_as}
+use Rattle.lt_print.proofs.Written.{IsWritten, a_punctuator, a_keyword, a_mark_name, written_as}
 use Rattle.lt_print.proofs.Clean.{IsConstant, integer, character, IsGood, Clean}
 
 -- ---- words of letters and digits
@@ -98,7 +98,7 @@ quoted_one : (b : ℕ) → IsByte b → All IsByte (quoted_byte b)
 quoted_one b is =
     let plain : All IsByte (if leb 32 b && leb b 126 then b ∷ [] else octal b) = chosen (leb 32 b && leb b 126) (b ∷ []) (octal b) (one b is) (octal_bytes b) in
     let escaped : All IsByte (if eqb b 34 || eqb b 92 then 92 ∷ b ∷ [] else (if leb 32 b && leb b 126 then b ∷ [] else octal b)) =
-        chosen (eqb b 34 || eqb b 92) (92 ∷ b ∷ []) (if leb 32 b && leb b 126 then b ∷ [] else octal b) (two 92 b (omega arith) is) plain in
+    chosen (eqb b 34 || eqb b 92) (92 ∷ b ∷ []) (if leb 32 b && leb b 126 then b ∷ [] else octal b) (two 92 b (omega arith) is) plain in
     chosen (eqb b 10) (92 ∷ 110 ∷ []) (if eqb b 9 then 92 ∷ 116 ∷ [] else (if eqb b 34 || eqb b 92 then 92 ∷ b ∷ [] else (if leb 32 b && leb b 126 then b ∷ [] else octal b))) (two 92 110 (omega arith) (omega arith))
     (chosen (eqb b 9) (92 ∷ 116 ∷ []) (if eqb b 34 || eqb b 92 then 92 ∷ b ∷ [] else (if leb 32 b && leb b 126 then b ∷ [] else octal b)) (two 92 116 (omega arith) (omega arith)) escaped)
 

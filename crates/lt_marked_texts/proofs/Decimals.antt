@@ -1,5 +1,5 @@
 -- The text of a number is an integer constant.
-use Rattle.std.proofs.Common.{◌≡◌, ℕ, zero, suc, ◌+◌, ◌^◌, ◌<◌, ◌≤◌, ◌/◌, ◌%◌, Bool, true, false, eqb, List, [], ◌∷◌, ◌++◌, length, drop, refl, sym, ap, ◌∙◌, subst, arith}
+use Rattle.std.proofs.Common.{◌≡◌, ℕ, suc, ◌+◌, ◌^◌, ◌<◌, ◌≤◌, ◌/◌, ◌%◌, Bool, true, false, eqb, List, [], ◌∷◌, ◌++◌, drop, refl, sym, ap, ◌∙◌, subst, arith}
 use Rattle.std.specs.Prelude.{if◌then◌else◌, ◌&&◌}
 use Rattle.std.specs.Fmt.{decimal}
 use Rattle.std.specs.Char.{is_ascii_digit}
@@ -15,9 +15,9 @@ use Rattle.lt_token.specs.declared.piece.Form.TheVariants as form
 use Rattle.lt_token.specs.declared.piece.Part.{Part}
 use Rattle.lt_token.specs.declared.piece.Part.TheVariants as part
 use Rattle.lt_token.specs.Bytes.{class_of}
-use Rattle.lt_token.specs.Parts.{after, is_whole, ends_at}
+use Rattle.lt_token.specs.Parts.{is_whole, ends_at}
 use Rattle.lt_token.specs.Words.{is_among, integer_suffixes}
-use Rattle.lt_token.specs.Pieces.{is_piece, is_piece_at}
+use Rattle.lt_token.specs.Pieces.{is_piece_at}
 use Rattle.lt_token.specs.Lexemes.{past, is_integer}
 use Rattle.lt_print.proofs.CuttingConstants.{digit_class}
 use Rattle.lt_print.proofs.CuttingQuotes.{IsByte}
@@ -85,7 +85,7 @@ number_at fresh k b bs e h all = absurd cc
 
 behind_all : (p : ℕ → Bool) (w : List ℕ) → list_all p w ≡ true → drop (prefix_len p w) w ≡ []
 behind_all p [] h = refl
-behind_all p (b ∷ bs) h = 
+behind_all p (b ∷ bs) h =
     let both = and_parts (p b) (list_all p bs) h in
     let n : 1 + prefix_len p bs ≡ suc (prefix_len p bs) = omega arith in
     rw (both.0, n) (behind_all p bs both.1)

@@ -1,5 +1,5 @@
 -- Declarations, statements and units that symbols derive are good, if they are spelt well and have marks only where they may stand.
-use Rattle.std.proofs.Common.{◌≡◌, ℕ, Bool, true, false, List, [], ◌∷◌, Option, Some, None, ap, ◌∙◌, subst}
+use Rattle.std.proofs.Common.{◌≡◌, ℕ, Bool, true, false, List, ◌∷◌, Option, ap, ◌∙◌, subst}
 use Rattle.lt_tree.specs.declared.terminal.Terminal.TheVariants as k
 use Rattle.lt_tree.specs.Tree as c
 use Rattle.lt_tree.specs.Symbols as s
@@ -59,8 +59,7 @@ of_start (st.declaration x) spelt free = of_declaration x spelt free
 for_good : (scope inner behind_test : Scope) (rest : List Symbol) (start : c.ForStart) (test step : Option c.Expression) (body : c.Statement) → inner ≡ after_start start scope → behind_test ≡ after_optional test inner
     → GoodStart scope start → GoodOptional inner test → GoodOptional behind_test step → GoodStatement (after_optional step behind_test) (sees k.Else rest) body → GoodStatement scope (sees k.Else rest) (c.For start test step body)
 for_good scope inner behind_test rest start test step body is is' a b x y =
-    let behind : behind_test ≡ after_optional test (after_start start scope) = is' ∙ ap (after_optional test) is in
-    (
+    let behind : behind_test ≡ after_optional test (after_start start scope) = is' ∙ ap (after_optional test) is in (
       a,
       subst (λ (at : Scope). GoodOptional at test) is b,
       subst (λ (at : Scope). GoodOptional at step) behind x,

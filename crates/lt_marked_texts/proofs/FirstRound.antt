@@ -1,5 +1,5 @@
 -- The labels of functions stand at the starts of bodies, and their predicates are constants.
-use Rattle.std.proofs.Common.{◌≡◌, ℕ, suc, ◌+◌, Bool, true, false, eqb, List, [], ◌∷◌, ◌++◌, Some, None, refl, sym, ap, ◌∙◌, subst}
+use Rattle.std.proofs.Common.{◌≡◌, ℕ, suc, ◌+◌, Bool, true, false, eqb, List, [], ◌∷◌, ◌++◌, refl, sym, ap, ◌∙◌, subst}
 use Rattle.std.specs.Prelude.{if◌then◌else◌, ◌&&◌, codes}
 use Rattle.std.specs.List.{flat_map}
 use Rattle.std.specs.Fmt.{decimal}
@@ -11,8 +11,8 @@ use Rattle.lt_tree.specs.Typing.Programs.{Program}
 use Rattle.lt_objectives.specs.declared.criteria.Criterion.TheVariants as C
 use Rattle.lt_objectives.specs.Places.{sites_from, is_open, is_value_position}
 use Rattle.lt_objectives.specs.Decisions.{one}
-use Rattle.lt_objectives.specs.Objectives.{Form, at_start, in_front, around, Objective, objectives, differences, is_core, at_expression, at_node}
-use Rattle.lt_objectives.specs.Marked.{NewMark, ids_of, numbered, is_there, same_form, label, labels, decided}
+use Rattle.lt_objectives.specs.Objectives.{Form, at_start, in_front, around, Objective, objectives, differences, is_core, at_node}
+use Rattle.lt_objectives.specs.Marked.{ids_of, numbered, same_form, label, labels, decided}
 use Rattle.lt_marked_texts.proofs.Unchanged.{OnlyAtStarts}
 use Rattle.lt_marked_texts.proofs.Inserted.{Plain, no_more, one_more}
 

@@ -1,5 +1,5 @@
 -- Labels at the starts of bodies leave the nodes that are there without marks, in their order.
-use Rattle.std.proofs.Common.{◌≡◌, ℕ, zero, suc, ◌+◌, ◌-◌, max, eqb, Bool, true, false, List, [], ◌∷◌, ◌++◌, length, map, Option, Some, None, refl, sym, ap, ◌∙◌, subst, append_assoc, arith}
+use Rattle.std.proofs.Common.{◌≡◌, ℕ, ◌+◌, ◌-◌, max, eqb, Bool, true, false, List, [], ◌∷◌, ◌++◌, length, map, Option, Some, None, refl, sym, ap, ◌∙◌, subst, append_assoc, arith}
 use Rattle.std.specs.Prelude.{if◌then◌else◌, ◌&&◌, slice_get}
 use Rattle.std.specs.List.{flat_map}
 use Rattle.std.proofs.lemmas.Bool.{eqb-true}
@@ -7,7 +7,7 @@ use Rattle.lt_tree.specs.Tree as c
 use Rattle.lt_tree.specs.Nodes.{Node, an_external, a_marked_item, an_expression, a_mark, in_mark, in_specifiers, in_declarator, in_declaration, in_items, in_external, nodes}
 use Rattle.lt_objectives.specs.Places.{Site, stays_without_marks, unmarked_numbers, corresponding}
 use Rattle.lt_objectives.specs.Objectives.{at_start}
-use Rattle.lt_objectives.specs.Marked.{NewMark, labels, declaration_with_marks, items_with_marks, labels_before, after_leading, external_with_marks, externals_with_marks}
+use Rattle.lt_objectives.specs.Marked.{NewMark, labels, items_with_marks, labels_before, after_leading, external_with_marks, externals_with_marks}
 use Rattle.lt_sites.specs.Sites.{part_of}
 use Rattle.lt_facts.specs.Outside.{mark_size, outside_from, places_from}
 use Rattle.lt_facts.proofs.OutsideMarks.{places_unit}

@@ -23,6 +23,7 @@ mod Quiet
 mod Predicates
 mod Objectives
 mod Rounds
+mod Inputs
 mod Marked
 mod Unchanged
 mod Spans

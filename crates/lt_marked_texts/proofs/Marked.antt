@@ -1,7 +1,7 @@
 -- A well-made unit that has a typed program is well-made with the marks of objectives too.
-use Rattle.std.proofs.Common.{◌≡◌, ℕ, ◌≤◌, ◌<◌, ◌+◌, ◌^◌, Bool, true, false, refl, List, [], ◌∷◌, None, arith}
+use Rattle.std.specs.Prelude.{if◌then◌else◌, filter}
+use Rattle.std.proofs.Common.{◌≡◌, ℕ, ◌≤◌, ◌^◌, Bool, true, false, refl, List, [], ◌∷◌, None, arith}
 use Rattle.lt_model.specs.declared.scalar.DataModel.{DataModel}
-use Rattle.lt_token.specs.Tokens.{Lexes}
 use Rattle.lt_tree.specs.Tree as c
 use Rattle.lt_tree.specs.Symbols.{symbols}
 use Rattle.lt_tree.specs.CanonUnits.{pieces}
@@ -11,8 +11,8 @@ use Rattle.lt_tree.specs.Typing.UnitTyping.{IsProgramOf}
 use Rattle.lt_tree.specs.Pieces.{text_of}
 use Rattle.lt_objectives.specs.declared.criteria.Criterion.{Criterion}
 use Rattle.lt_objectives.specs.declared.criteria.Criterion.TheVariants as C
-use Rattle.lt_objectives.specs.Criteria.{criteria_in}
-use Rattle.lt_objectives.specs.Objectives.{objectives, Objective}
+use Rattle.lt_objectives.specs.Criteria.{is_in, criteria_in}
+use Rattle.lt_objectives.specs.Objectives.{objectives}
 use Rattle.lt_objectives.specs.Marked.{numbered, next_id, unit_with_marks, marked_by, marked}
 use Rattle.lt_survey.specs.Marking.{next_behind}
 use Rattle.lt_print.proofs.Clean.{lexed}
@@ -23,6 +23,9 @@ use Rattle.lt_marked_texts.proofs.GoodUnits.{GoodUnit}
 use Rattle.lt_marked_texts.proofs.DerivedUnits as derived
 use Rattle.lt_marked_texts.proofs.StandingUnits.{unit_stands, unit_spelt}
 use Rattle.lt_marked_texts.proofs.MarkedUnits.{marks_keep_good}
+use Rattle.lt_marked_texts.proofs.Inserted.{own_pair, labelled_pair}
+use Rattle.lt_marked_texts.proofs.FirstRound.{only_at_starts, are_plain}
+use Rattle.lt_marked_texts.proofs.Inputs.{inputs_begin}
 use Rattle.lt_marked_texts.proofs.TypedUnits.{GoesOn, TypedUnit, typed_unit}
 use Rattle.lt_marked_texts.proofs.Bytes.{text_bytes}
 use Rattle.lt_marked_texts.proofs.Objectives.{one_constant}
@@ -88,3 +91,44 @@ rounds_good [] unit program id none small good = good
 rounds_good (criterion ∷ rest) unit program id none small good =
     let them = objectives unit program criterion in
     rounds_good rest (unit_with_marks (numbered id them) unit) program (next_id id them) none.1 small (round_good unit program criterion rest id (others_begin unit program criterion none.0) small good)
+
+-- ---- criteria of a set
+
+abbrev keep : Bool → Criterion → List Criterion → List Criterion
+keep b criterion rest = if b then criterion ∷ rest else rest
+
+kept_ask : (b : Bool) (criterion : Criterion) (rest : List Criterion) → is_input criterion ≡ false → AskNoInputs rest → AskNoInputs (keep b criterion rest)
+kept_ask true criterion rest e h = (e, h)
+kept_ask false criterion rest e h = h
+
+filtered_ask : (p : Criterion → Bool) (criteria : List Criterion) → AskNoInputs criteria → AskNoInputs (filter p criteria)
+filtered_ask p [] h = tt
+filtered_ask p (criterion ∷ rest) h = kept_ask (p criterion) criterion (filter p rest) h.0 (filtered_ask p rest h.1)
+
+abbrev others : List Criterion
+others = C.Decision ∷ C.Condition ∷ C.MultipleCondition ∷ C.GeneralActiveClause ∷ C.AbsoluteValue ∷ C.ArithmeticOperator ∷ C.LogicalConnector ∷ C.RelationalOperator ∷ []
+
+set_good : (unit : c.Unit) (program : Program) (id : ℕ) (functions inputs : Bool) (rest : List Criterion) → AskNoInputs rest → TypedUnit unit program
+    → next_behind (keep functions C.Function (keep inputs C.InputDomain rest)) unit program id ≤ 2 ^ 64 → GoodUnit [] unit
+    → GoodUnit [] (marked_by (keep functions C.Function (keep inputs C.InputDomain rest)) unit program id)
+set_good unit program id functions false rest none known small good = rounds_good (keep functions C.Function rest) unit program id (kept_ask functions C.Function rest refl none) small good
+set_good unit program id false true rest none known small good =
+    let them = objectives unit program C.InputDomain in
+    rounds_good rest (unit_with_marks (numbered id them) unit) program (next_id id them) none small
+    (round_good unit program C.InputDomain rest id (inputs_begin unit unit program known (own_pair unit)) small good)
+set_good unit program id true true rest none known small good =
+    let first = objectives unit program C.Function in
+    let labelled = unit_with_marks (numbered id first) unit in
+    let between = next_id id first in
+    let them = objectives labelled program C.InputDomain in
+    let start : GoodUnit [] labelled = round_good unit program C.Function (C.InputDomain ∷ rest) id (others_begin unit program C.Function refl) small good in
+    rounds_good rest (unit_with_marks (numbered between them) labelled) program (next_id between them) none small
+    (round_good labelled program C.InputDomain rest between
+    (inputs_begin unit labelled program known (labelled_pair (numbered id first) (only_at_starts unit program id) (are_plain unit program id) unit)) small start)
+
+pub marked_well_made : GoesOn → (model : DataModel) (unit : c.Unit) (program : Program) (set id : ℕ) → IsWellMade unit → IsProgramOf model unit program → next_behind (criteria_in set) unit program id ≤ 2 ^ 64
+    → IsWellMade (marked unit program set id)
+marked_well_made goes model unit program set id made is small =
+    let known = typed_unit goes model unit program is in
+    good_well_made (marked unit program set id)
+    (set_good unit program id (is_in set C.Function) (is_in set C.InputDomain) (filter (is_in set) others) (filtered_ask (is_in set) others (refl, (refl, (refl, (refl, (refl, (refl, (refl, (refl, tt))))))))) known small (well_made_good unit program made known))

@@ -1,10 +1,10 @@
 -- A good expression with new marks that fit it is good, and declares what it did.
-use Rattle.std.proofs.Common.{◌≡◌, ℕ, ◌+◌, false, List, [], ◌++◌, length, refl, ap, ◌∙◌}
+use Rattle.std.proofs.Common.{◌≡◌, ℕ, ◌+◌, List, [], ◌++◌, length, refl, ap, ◌∙◌}
 use Rattle.lt_tree.specs.Tree as c
 use Rattle.lt_tree.specs.Nodes.{in_expression, in_expressions, in_marks, in_specifiers, in_declarator}
 use Rattle.lt_tree.specs.Scope.{Scope, enumerators_in, enumerators_in_all, enumerators_in_marks, enumerators_in_specifiers, enumerators_in_declarator}
 use Rattle.lt_objectives.specs.Objectives.{in_front}
-use Rattle.lt_objectives.specs.Marked.{NewMark, labels, decided, joined, within, within_all, with_marks}
+use Rattle.lt_objectives.specs.Marked.{NewMark, labels, decided, within, within_all, with_marks}
 use Rattle.lt_print.proofs.Claims.{IsSequence}
 use Rattle.lt_marked_texts.proofs.Arguments.{both, three}
 use Rattle.lt_marked_texts.proofs.Good.{Good, GoodAll}
@@ -105,8 +105,7 @@ module _ (new : List NewMark) where
       within_good k (c.Logical op left right) fits good =
           let parts = two new (k + 1) (in_expression left) (in_expression right) fits.1 in (placed_good (k + 1) left parts.first good.0 (within_good (k + 1) left parts.first good.0), placed_good (k + 1 + length (in_expression left)) right parts.second good.1 (within_good (k + 1 + length (in_expression left)) right parts.second good.1))
       within_good k (c.Conditional test left right) fits good =
-          let parts = three_parts new (k + 1) (in_expression test) (in_expression left) (in_expression right) fits.1 in
-          (
+          let parts = three_parts new (k + 1) (in_expression test) (in_expression left) (in_expression right) fits.1 in (
             placed_good (k + 1) test parts.first good.0 (within_good (k + 1) test parts.first good.0),
             placed_good (k + 1 + length (in_expression test)) left parts.second good.1 (within_good (k + 1 + length (in_expression test)) left parts.second good.1),
             placed_good (k + 1 + length (in_expression test) + length (in_expression left)) right parts.third good.2 (within_good (k + 1 + length (in_expression test) + length (in_expression left)) right parts.third good.2),
@@ -116,8 +115,7 @@ module _ (new : List NewMark) where
       within_good k (c.Comma parts) fits good = (sequence_kept (k + 1) parts good.0, all_good (k + 1) parts fits.1 good.1)
       within_good k (c.Marked marks e) fits good =
           let j = k + 1 + length (in_marks marks) in
-          let parts = two new (k + 1) (in_marks marks) (in_expression e) fits.1 in
-          (
+          let parts = two new (k + 1) (in_marks marks) (in_expression e) fits.1 in (
             joined_some marks (labels in_front new j) good.0,
             joined_good scope marks (labels in_front new j) good.1 (labels_good scope (Made e) (λ p made. made.good scope good.2) in_front j new words (own_fits new j e parts.second)),
             decided_good scope new j (within new j e) words (within_good j e parts.second good.2),

@@ -2,16 +2,15 @@
 use Rattle.std.proofs.Common.{◌≡◌, ℕ, ◌+◌, Bool, true, false, List, [], ◌∷◌, ◌++◌, length, Option, Some, None, refl, sym, ap, ◌∙◌, subst}
 use Rattle.std.specs.List.{flat_map}
 use Rattle.lt_tree.specs.Tree as c
-use Rattle.lt_tree.specs.Nodes.{Node, in_expression, in_marks, in_mark, in_specifiers, in_declarator, in_initialiser, in_initialisers, in_optional_initialiser, in_init_declarator, in_declaration, in_optional, in_start, in_label, in_statement, in_items, in_cases, in_external, nodes}
-use Rattle.lt_tree.specs.Scope.{Scope, hiding, enumerators_in, enumerators_in_mark, enumerators_in_marks, enumerators_in_initialiser, enumerators_in_initialisers, after_expression, after_optional, after_start, after_labels, after_specifiers, after_declarator, after_declarators, after_initialiser, after_declaration, after_statement, after_mark, after_external, in_body, makes_types}
+use Rattle.lt_tree.specs.Nodes.{in_expression, in_mark, in_specifiers, in_declarator, in_initialiser, in_initialisers, in_optional_initialiser, in_init_declarator, in_declaration, in_optional, in_start, in_label, in_statement, in_items, in_cases, in_external, nodes}
+use Rattle.lt_tree.specs.Scope.{Scope, hiding, enumerators_in_mark, enumerators_in_marks, enumerators_in_initialiser, enumerators_in_initialisers, after_expression, after_optional, after_start, after_labels, after_specifiers, after_declarator, after_declarators, after_initialiser, after_declaration, after_statement, after_mark, after_external, in_body, makes_types}
 use Rattle.lt_tree.specs.Ahead.{Naming, named, naming_behind}
 use Rattle.lt_objectives.specs.Objectives.{at_start}
 use Rattle.lt_objectives.specs.Marked.{NewMark, labels, with_marks, optional_with_marks, initialiser_with_marks, initialisers_with_marks, start_with_marks, declarators_with_marks, declaration_with_marks, for_start_with_marks, statement_with_marks, items_with_marks, cases_with_marks, labels_before, after_leading, external_with_marks, externals_with_marks, unit_with_marks}
 use Rattle.lt_expr.proofs.Hiding.{hiding_both}
-use Rattle.lt_print.proofs.Spelt.{SpeltDeclarator}
 use Rattle.lt_print.proofs.DeclarationsAgain.{AreGiven}
 use Rattle.lt_marked_texts.proofs.Arguments.{both, front_empty}
-use Rattle.lt_marked_texts.proofs.Good.{Good, GoodMarks, GoodMark}
+use Rattle.lt_marked_texts.proofs.Good.{GoodMarks}
 use Rattle.lt_marked_texts.proofs.GoodUnits.{GoodInitialiser, GoodInitialisers, GoodInit, GoodDeclarators, GoodDeclaration, GoodOptional, GoodStart, GoodStatement, GoodItems, GoodCases, GoodExternal, GoodUnit}
 use Rattle.lt_marked_texts.proofs.Fitting.{MadeAtStart, Fits, two, three_parts, four_parts}
 use Rattle.lt_marked_texts.proofs.NewMarks.{AreWords, labels_good, labels_quiet}
@@ -38,11 +37,10 @@ after_leading_good : (ms : c.Marks) → enumerators_in_marks ms ≡ [] → (item
 after_leading_good ms quiet c.no_items scope last good = before_good ms c.no_items scope quiet (last []) good
 after_leading_good ms quiet (c.a_declaration d items) scope last good = before_good ms (c.a_declaration d items) scope quiet (last []) good
 after_leading_good ms quiet (c.a_statement x items) scope last good = before_good ms (c.a_statement x items) scope quiet (last []) good
-after_leading_good ms quiet (c.a_label m items) scope last good =
-    (
-      good.0,
-      after_leading_good ms quiet items (after_mark m scope) (λ names. subst (λ (s : Scope). GoodMarks s ms) (hiding_both (enumerators_in_mark m) names scope) (last (enumerators_in_mark m ++ names))) good.1,
-    )
+after_leading_good ms quiet (c.a_label m items) scope last good = (
+  good.0,
+  after_leading_good ms quiet items (after_mark m scope) (λ names. subst (λ (s : Scope). GoodMarks s ms) (hiding_both (enumerators_in_mark m) names scope) (last (enumerators_in_mark m ++ names))) good.1,
+)
 
 module _ (new : List NewMark) where
   -- ---- the names behind a tree
@@ -126,13 +124,12 @@ module _ (new : List NewMark) where
         let inner = two new k (in_declarator d.declarator) (in_optional_initialiser d.initialiser) parts.first in
         let at = after_declarator type d.declarator scope in
         let i = k + length (in_declarator d.declarator) in
-        let j = k + length (in_init_declarator d) in
-        (
+        let j = k + length (in_init_declarator d) in (
           good.0,
           good.1,
           init_good at i d.initialiser inner.second good.2,
           subst (λ (s : Scope). GoodDeclarators named type s (declarators_with_marks new j ds)) (behind_init at i d.initialiser inner.second)
-          (declarators_good type ds named (after_initialiser d.initialiser at) j parts.second good.3),
+              (declarators_good type ds named (after_initialiser d.initialiser at) j parts.second good.3),
         )
 
     declaration_good : (scope : Scope) (k : ℕ) (d : c.Declaration) → Fits new k (in_declaration d) → GoodDeclaration scope d → GoodDeclaration scope (declaration_with_marks new k d)
@@ -181,7 +178,7 @@ module _ (new : List NewMark) where
         let parts = four_parts new k (in_start start) (in_optional test) (in_optional step) (in_statement x) fits in
         let behind_a : after_start start scope ≡ after_start (for_start_with_marks new k start) scope = behind_start scope k start parts.front.first in
         let behind_b : after_optional test (after_start start scope) ≡ after_optional (optional_with_marks new i test) (after_start (for_start_with_marks new k start) scope) =
-            behind_optional (after_start start scope) i test parts.front.second ∙ ap (after_optional (optional_with_marks new i test)) behind_a in
+        behind_optional (after_start start scope) i test parts.front.second ∙ ap (after_optional (optional_with_marks new i test)) behind_a in
         record {
           first = start_good scope k start parts.front.first a;
           second = subst (λ (s : Scope). GoodOptional s (optional_with_marks new i test)) behind_a (optional_good (after_start start scope) i test parts.front.second b);
@@ -197,8 +194,7 @@ module _ (new : List NewMark) where
       statement_good scope f k c.Null fits good = tt
       statement_good scope f k (c.If test x) fits good =
           let parts = two new (k + 1) (in_expression test) (in_statement x) fits.1 in
-          let i = k + 1 + length (in_expression test) in
-          (
+          let i = k + 1 + length (in_expression test) in (
             good.0,
             good_kept new words scope (k + 1) test parts.first good.1,
             statement_at false (statement_with_marks new i x) (behind scope (k + 1) test parts.first) (statement_good (after_expression test scope) false i x parts.second good.2),
@@ -206,16 +202,14 @@ module _ (new : List NewMark) where
       statement_good scope f k (c.IfElse test x y) fits good =
           let parts = three_parts new (k + 1) (in_expression test) (in_statement x) (in_statement y) fits.1 in
           let i = k + 1 + length (in_expression test) in
-          let j = i + length (in_statement x) in
-          (
+          let j = i + length (in_statement x) in (
             good_kept new words scope (k + 1) test parts.first good.0,
             statement_at true (statement_with_marks new i x) (behind scope (k + 1) test parts.first) (statement_good (after_expression test scope) true i x parts.second good.1),
             statement_at f (statement_with_marks new j y) (behind scope (k + 1) test parts.first) (statement_good (after_expression test scope) f j y parts.third good.2),
           )
       statement_good scope f k (c.While test x) fits good =
           let parts = two new (k + 1) (in_expression test) (in_statement x) fits.1 in
-          let i = k + 1 + length (in_expression test) in
-          (
+          let i = k + 1 + length (in_expression test) in (
             good_kept new words scope (k + 1) test parts.first good.0,
             statement_at f (statement_with_marks new i x) (behind scope (k + 1) test parts.first) (statement_good (after_expression test scope) f i x parts.second good.1),
           )
@@ -224,8 +218,7 @@ module _ (new : List NewMark) where
           (statement_good scope false (k + 1) x parts.first good.0, good_kept new words scope (k + 1 + length (in_statement x)) test parts.second good.1)
       statement_good scope f k (c.For start test step x) fits good =
           let head = head_good scope (k + 1) start test step x fits.1 good.0 good.1 good.2 in
-          let j = k + 1 + length (in_start start) + length (in_optional test) + length (in_optional step) in
-          (
+          let j = k + 1 + length (in_start start) + length (in_optional test) + length (in_optional step) in (
             head.first,
             head.second,
             head.third,
@@ -233,8 +226,7 @@ module _ (new : List NewMark) where
           )
       statement_good scope f k (c.Switch e cases) fits good =
           let parts = two new (k + 1) (in_expression e) (in_cases cases) fits.1 in
-          let i = k + 1 + length (in_expression e) in
-          (
+          let i = k + 1 + length (in_expression e) in (
             good_kept new words scope (k + 1) e parts.first good.0,
             cases_at (cases_with_marks new i cases) (behind scope (k + 1) e parts.first) (cases_good (after_expression e scope) i cases parts.second good.1),
           )
@@ -246,15 +238,13 @@ module _ (new : List NewMark) where
       items_good scope k c.no_items fits good = tt
       items_good scope k (c.a_declaration d items) fits good =
           let parts = two new (k + 1) (in_declaration d) (in_items items) fits.1 in
-          let j = k + 1 + length (in_declaration d) in
-          (
+          let j = k + 1 + length (in_declaration d) in (
             declaration_good scope (k + 1) d parts.first good.0,
             items_at (items_with_marks new j items) (behind_declaration scope (k + 1) d parts.first) (items_good (after_declaration d scope) j items parts.second good.1),
           )
       items_good scope k (c.a_statement x items) fits good =
           let parts = two new (k + 1) (in_statement x) (in_items items) fits.1 in
-          let j = k + 1 + length (in_statement x) in
-          (
+          let j = k + 1 + length (in_statement x) in (
             (good.0.0, statement_good scope good.0.0 (k + 1) x parts.first good.0.1),
             items_at (items_with_marks new j items) (behind_statement scope (k + 1) x parts.first) (items_good (after_statement x scope) j items parts.second good.1),
           )
@@ -266,8 +256,7 @@ module _ (new : List NewMark) where
       cases_good scope k (c.a_case labels x cases) fits good =
           let parts = three_parts new k (flat_map in_label labels) (in_statement x) (in_cases cases) fits in
           let i = k + length (flat_map in_label labels) in
-          let j = i + length (in_statement x) in
-          (
+          let j = i + length (in_statement x) in (
             good.0,
             good.1,
             (good.2.0, statement_good (after_labels labels scope) good.2.0 i x parts.second good.2.1),
@@ -279,12 +268,11 @@ module _ (new : List NewMark) where
     external_good : (scope : Scope) (k : ℕ) (x : c.External) → Fits new k (in_external x) → GoodExternal scope x → GoodExternal scope (external_with_marks new k x)
     external_good scope k (c.Defines s d body) fits good =
         let parts = three_parts new (k + 1) (in_specifiers s) (in_declarator d) (in_items body) fits.1 in
-        let j = k + 1 + length (in_specifiers s) + length (in_declarator d) in
-        (
+        let j = k + 1 + length (in_specifiers s) + length (in_declarator d) in (
           good.0,
           after_leading_good (labels at_start new k) (labels_quiet (MadeAtStart s d) (λ p made. made.quiet) at_start k new fits.0) (items_with_marks new j body) (in_body s d scope)
-          (λ names. labels_good (hiding names (in_body s d scope)) (MadeAtStart s d) (λ p made. made.good scope names good.0.parts) at_start k new words fits.0)
-          (items_good (in_body s d scope) j body parts.third good.1),
+              (λ names. labels_good (hiding names (in_body s d scope)) (MadeAtStart s d) (λ p made. made.good scope names good.0.parts) at_start k new words fits.0)
+              (items_good (in_body s d scope) j body parts.third good.1),
         )
     external_good scope k (c.Declared d) fits good = declaration_good scope (k + 1) d fits.1 good
 
@@ -296,8 +284,7 @@ module _ (new : List NewMark) where
     externals_good [] scope k fits good = tt
     externals_good (x ∷ xs) scope k fits good =
         let parts = two new k (in_external x) (flat_map in_external xs) fits in
-        let j = k + length (in_external x) in
-        (
+        let j = k + length (in_external x) in (
           external_good scope k x parts.first good.0,
           subst (λ (s : Scope). GoodUnit s (externals_with_marks new j xs)) (behind_external scope k x parts.first) (externals_good xs (after_external x scope) j parts.second good.1),
         )

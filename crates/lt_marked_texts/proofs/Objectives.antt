@@ -1,21 +1,20 @@
 -- The predicates of objectives fit their places: those in front of an expression are made of it.
-use Rattle.std.proofs.Common.{◌≡◌, ℕ, ◌+◌, ◌<◌, ◌^◌, Bool, true, false, eqb, List, [], ◌∷◌, ◌++◌, map, Option, Some, None, refl, sym, ap, ◌∙◌, subst, arith}
+use Rattle.std.proofs.Common.{◌≡◌, ℕ, ◌+◌, ◌<◌, Bool, true, false, List, [], ◌∷◌, ◌++◌, map, Option, Some, refl, ap, ◌∙◌, subst, arith}
 use Rattle.std.specs.Prelude.{if◌then◌else◌, ◌&&◌, codes}
-use Rattle.std.specs.List.{All, flat_map}
+use Rattle.std.specs.List.{All}
 use Rattle.std.proofs.lemmas.Fmt.{decimal_digit}
-use Rattle.std.proofs.lemmas.Bool.{and_parts, eqb-true}
+use Rattle.std.proofs.lemmas.Bool.{and_parts}
 use Rattle.lt_tree.specs.Tree as c
 use Rattle.lt_tree.specs.Erasure.{erased}
 use Rattle.lt_tree.specs.Purity.{is_pure}
-use Rattle.lt_tree.specs.Nodes.{Node, an_external, a_declarator, an_initialiser, a_member, an_enumerator, a_label, a_declared_item, a_stated_item, a_marked_item, a_statement, an_expression, a_mark}
+use Rattle.lt_tree.specs.Nodes.{Node, an_external, an_expression}
 use Rattle.lt_tree.specs.Scope.{Scope}
 use Rattle.lt_tree.specs.Typing.Programs.{Program}
 use Rattle.lt_objectives.specs.declared.criteria.Criterion.{Criterion}
 use Rattle.lt_objectives.specs.declared.criteria.Criterion.TheVariants as C
 use Rattle.lt_objectives.specs.Places.{Site, is_open, is_value_position}
 use Rattle.lt_objectives.specs.Decisions.{decisions, clauses, negation, clause_list, conjunctions, active_clauses, has_few_clauses, inequality}
-use Rattle.lt_objectives.specs.Objectives.{Form, at_start, in_front, around, Objective, objective, all_at, decided_at, both_truths, combinations, at_test, mutants, differences, is_core, at_expression, at_body, at_node}
-use Rattle.lt_objectives.specs.Marked.{same_form}
+use Rattle.lt_objectives.specs.Objectives.{at_start, in_front, around, Objective, objective, all_at, decided_at, both_truths, combinations, at_test, mutants, differences, is_core, at_expression, at_body, at_node}
 use Rattle.lt_objectives.specs.Criteria.{tag_of}
 use Rattle.lt_print.proofs.CuttingQuotes.{IsByte}
 use Rattle.lt_print.proofs.Clean.{IsConstant}
@@ -23,7 +22,7 @@ use Rattle.lt_marked_texts.proofs.Good.{Good}
 use Rattle.lt_marked_texts.proofs.Bytes.{small_bytes}
 use Rattle.lt_marked_texts.proofs.Fitting.{Made, MadeAtStart}
 use Rattle.lt_marked_texts.proofs.Without.{without_marks}
-use Rattle.lt_marked_texts.proofs.Quiet.{is_quiet, pure_parts, three_pure}
+use Rattle.lt_marked_texts.proofs.Quiet.{is_quiet, pure_parts}
 use Rattle.lt_marked_texts.proofs.Decimals.{decimal_constant}
 use Rattle.lt_marked_texts.proofs.Predicates.{Each, Kept, each_conjunction, each_active, each_difference, both_truths_have}
 

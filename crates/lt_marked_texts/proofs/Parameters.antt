@@ -1,14 +1,13 @@
 -- The objects of a function's parameters have the names of the declarators in its list of parameters.
 use Rattle.std.proofs.Common.{◌≡◌, ℕ, zero, suc, Bool, true, false, List, [], ◌∷◌, ◌++◌, length, map, Option, Some, None, refl, sym, ap, ◌∙◌, subst, append_assoc, inl, inr}
 use Rattle.std.specs.Prelude.{◌⊎◌, if◌then◌else◌, slice_get}
-use Rattle.std.proofs.lemmas.List.{map-append}
 use Rattle.lt_tree.specs.Tree as c
 use Rattle.lt_tree.specs.Typing.Types.{CType, adjusted}
 use Rattle.lt_tree.specs.Typing.Rules.{Rule}
 use Rattle.lt_tree.specs.Typing.Entities.{Known, Frame, Object, parameter, unmade, no_names}
 use Rattle.lt_tree.specs.Typing.Steps.{Outcome, Goes, Breaks, goes_on, gives, left}
 use Rattle.lt_tree.specs.Typing.Specifying.{Specified, is_register, elsewhere}
-use Rattle.lt_tree.specs.Typing.Declarators.{Built, Declares, Parameters, all_faults, is_written, parameter_faults, binds_parameter}
+use Rattle.lt_tree.specs.Typing.Declarators.{Built, Parameters, all_faults, is_written, parameter_faults, binds_parameter}
 use Rattle.lt_tree.specs.Typing.NodeEnds.{end_of_declarator}
 use Rattle.lt_tree.specs.Typing.ExpressionTyping.{declarator, parts, parameters, parameter_list}
 use Rattle.lt_tree.specs.Typing.UnitTyping.{objects_of}
@@ -113,8 +112,7 @@ bound_named : (is_definition register : Bool) (node : ℕ) (name : Option (List 
 bound_named is_definition register node None t known = gave (start known, tt)
 bound_named is_definition register node (Some name) t known =
     let more = one_more (parameter_object is_definition node name t) known (start known) in
-    gave
-    (
+    gave (
       record { unmarked = more.unmarked; behind = more.behind; functions = more.functions },
       ((name, last_get known.objects (parameter_object is_definition node name t), refl), tt),
     )
@@ -143,12 +141,11 @@ list_named (c.a_parameter sp d rest) is_definition known =
     after_given (inner_named d it false (parameter_faults is_definition) k1) (λ declared k2 q2.
     after_given (bound_named is_definition (is_register it) declared.node declared.name (adjusted declared.type) k2) (λ objects k3 q3.
     after_given (list_named rest is_definition k3) (λ others k4 q4.
-    gave
-    (
+    gave (
       from_both known k1 k4 s1 (from_both k1 k2 k4 q2.0 (from_both k2 k3 k4 q3.0 q4.0)),
       named_both (λ w. IsListed w (c.a_parameter sp d rest)) objects others.objects (named k4)
-      (named_so (λ w. declared.name ≡ Some w) (λ w. IsListed w (c.a_parameter sp d rest)) objects (named k4) (λ w e. inl (q2.1 w e)) (still_named (λ w. declared.name ≡ Some w) objects (named k3) (named k4) q4.0.behind q3.1))
-      (named_so (λ w. IsListed w rest) (λ w. IsListed w (c.a_parameter sp d rest)) others.objects (named k4) (λ w e. inr e) q4.1),
+          (named_so (λ w. declared.name ≡ Some w) (λ w. IsListed w (c.a_parameter sp d rest)) objects (named k4) (λ w e. inl (q2.1 w e)) (still_named (λ w. declared.name ≡ Some w) objects (named k3) (named k4) q4.0.behind q3.1))
+          (named_so (λ w. IsListed w rest) (λ w. IsListed w (c.a_parameter sp d rest)) others.objects (named k4) (λ w e. inr e) q4.1),
     )))))
 
 parameters_named : (them : c.Parameters) (is_definition : Bool) (known : Known) → Gives (λ it k. From known k × Named (λ w. IsIn w them) it.objects (named k)) (parameters them is_definition known)

@@ -1,5 +1,5 @@
 -- What holds of an expression and of its clauses and operands, and is kept by the operators of predicates, holds of each predicate made of it.
-use Rattle.std.proofs.Common.{◌≡◌, ℕ, zero, suc, ◌+◌, ◌-◌, Bool, true, false, List, [], ◌∷◌, ◌++◌, length, map, Option, Some, None}
+use Rattle.std.proofs.Common.{ℕ, suc, ◌+◌, ◌-◌, Bool, true, false, List, [], ◌∷◌, ◌++◌, length, map, Option, None}
 use Rattle.std.specs.Prelude.{if◌then◌else◌, not, ◌&&◌, filter, nat_lt}
 use Rattle.lt_model.specs.declared.scalar.DataModel.{DataModel}
 use Rattle.lt_model.specs.declared.operator.Op.{Op}
@@ -15,7 +15,7 @@ use Rattle.lt_tree.specs.Typing.Programs.{Program}
 use Rattle.lt_objectives.specs.declared.criteria.Criterion.{Criterion}
 use Rattle.lt_objectives.specs.declared.criteria.Criterion.TheVariants as C
 use Rattle.lt_objectives.specs.Places.{type_at}
-use Rattle.lt_objectives.specs.Decisions.{Test, test_at, in_after, clauses_of, one, zero_constant, negation, conjunction, inequality, clause_list, clause_count, conjunctions_from, conjunctions, with_clause, determination, active_from, active_clauses}
+use Rattle.lt_objectives.specs.Decisions.{Test, in_after, clauses_of, one, zero_constant, negation, conjunction, inequality, clause_list, clause_count, conjunctions_from, conjunctions, with_clause, determination, active_from, active_clauses}
 use Rattle.lt_objectives.specs.Mutants.{with_others, arithmetic, same_op, is_one_of, is_fitting, is_signed_integer, minus, absolute, absolute_mutants, arithmetic_mutants, other_connector, connector_mutants, relations, pointer_relations, relational_mutants}
 use Rattle.lt_objectives.specs.Objectives.{left_type, right_type, mutants}
 
@@ -111,11 +111,10 @@ module _ {P : c.Expression → Type 0} (kept : Kept P) where
 
   each_active_from : (d : c.Expression) (n : ℕ) (es : List c.Expression) → P d → Each P es → Each P (active_from d n es)
   each_active_from d n [] p all = tt
-  each_active_from d n (e ∷ es) p all =
-      (
-        kept.of_truths logical.And e (determination n d) all.0 (determines d n p),
-        (kept.of_truths logical.And (negation e) (determination n d) (denied e all.0) (determines d n p), each_active_from d (suc n) es p all.1),
-      )
+  each_active_from d n (e ∷ es) p all = (
+    kept.of_truths logical.And e (determination n d) all.0 (determines d n p),
+    (kept.of_truths logical.And (negation e) (determination n d) (denied e all.0) (determines d n p), each_active_from d (suc n) es p all.1),
+  )
 
   pub each_active : (d : c.Expression) → P d → Each P (active_clauses d)
   each_active d p = each_active_from d 0 (clause_list d) p (each_clause d p)

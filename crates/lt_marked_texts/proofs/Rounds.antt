@@ -1,5 +1,5 @@
 -- The marks of a criterion's objectives fit the nodes of the unit, and have good words where their ids are small.
-use Rattle.std.proofs.Common.{◌≡◌, ℕ, zero, suc, ◌+◌, ◌≤◌, ◌<◌, ◌^◌, Bool, true, false, eqb, List, [], ◌∷◌, ◌++◌, Option, Some, None, refl, sym, ap, ◌∙◌, subst, arith}
+use Rattle.std.proofs.Common.{◌≡◌, ℕ, suc, ◌+◌, ◌≤◌, ◌^◌, true, eqb, List, [], ◌∷◌, ◌++◌, Some, refl, sym, ap, ◌∙◌, subst, arith}
 use Rattle.std.specs.Prelude.{◌&&◌, slice_get}
 use Rattle.std.specs.List.{All, flat_map}
 use Rattle.std.proofs.lemmas.Bool.{and_parts, eqb-true}
@@ -7,12 +7,12 @@ use Rattle.lt_tree.specs.Tree as c
 use Rattle.lt_tree.specs.Nodes.{Node, an_external, an_expression, nodes}
 use Rattle.lt_tree.specs.Typing.Programs.{Program}
 use Rattle.lt_objectives.specs.declared.criteria.Criterion.{Criterion}
-use Rattle.lt_objectives.specs.Places.{Site, sites_from, sites}
+use Rattle.lt_objectives.specs.Places.{sites_from}
 use Rattle.lt_objectives.specs.Objectives.{Form, at_start, in_front, around, Objective, objectives, at_node}
-use Rattle.lt_objectives.specs.Marked.{NewMark, ids_of, numbered, next_id, same_form}
+use Rattle.lt_objectives.specs.Marked.{ids_of, numbered, next_id, same_form}
 use Rattle.lt_print.proofs.CuttingQuotes.{IsByte}
 use Rattle.lt_marked_texts.proofs.Fitting.{Made, MadeAtStart, AreMade, FitsNode, Fits}
-use Rattle.lt_marked_texts.proofs.NewMarks.{Words, AreWords}
+use Rattle.lt_marked_texts.proofs.NewMarks.{AreWords}
 use Rattle.lt_marked_texts.proofs.Decimals.{decimal_constant}
 use Rattle.lt_marked_texts.proofs.Objectives.{Fitting, surrounds, precedes, begins, AllFitting, Begin, at_fitting}
 
@@ -179,8 +179,7 @@ module _ (unit : c.Unit) (program : Program) (criterion : Criterion) where
     words_from : (os : List Objective) (id : ℕ) → next_id id os ≤ 2 ^ 64 → AreTags os → AreWords (numbered id os)
     words_from [] id small tags = tt
     words_from (it ∷ rest) id small tags =
-        let more : id + ids_of it.form ≤ next_id (id + ids_of it.form) rest = grows rest (id + ids_of it.form) in
-        (
+        let more : id + ids_of it.form ≤ next_id (id + ids_of it.form) rest = grows rest (id + ids_of it.form) in (
           record { id = decimal_constant id (omega arith); next = decimal_constant (suc id) (omega arith); tag = tags.0 },
           words_from rest (id + ids_of it.form) small tags.1,
         )

@@ -1,25 +1,20 @@
 -- In a unit that has a typed program no mark stands where none may, and the parameters of each function have the names of its declarator's.
-use Rattle.std.proofs.Common.{◌≡◌, ℕ, ◌+◌, ◌≤◌, ◌<◌, true, false, List, [], ◌∷◌, ◌++◌, length, map, Option, Some, None, unwrap_or, refl, sym, ap, ◌∙◌, subst, arith}
+use Rattle.std.proofs.Common.{◌≡◌, ℕ, ◌+◌, true, false, List, [], ◌∷◌, ◌++◌, length, map, Some, unwrap_or, refl, sym, ap, ◌∙◌, subst, arith}
 use Rattle.std.specs.Prelude.{filter_map, slice_get}
 use Rattle.std.specs.List.{flat_map}
 use Rattle.lt_model.specs.declared.scalar.DataModel.{DataModel}
 use Rattle.lt_tree.specs.Tree as c
 use Rattle.lt_tree.specs.Nodes.{Node, an_external, in_external, nodes}
-use Rattle.lt_tree.specs.Typing.Operations.{judge_name, judge_constant, judge_plus, judge_minus, judge_complement, judge_not, judge_address_of, judge_dereference, judge_step, judge_size, judge_member, judge_arrow, judge_index, judge_function, judge_call, judge_cast}
-use Rattle.lt_tree.specs.Typing.BinaryOperations.{judge_binary, judge_logical, judge_conditional, judge_assign, judge_update, judge_comma}
-use Rattle.lt_tree.specs.Typing.MarkRules.{judge_decide, judge_after, judge_marked}
-use Rattle.lt_tree.specs.Typing.NodeEnds.{text_at}
-use Rattle.lt_tree.specs.Typing.Expressions.{finish}
-use Rattle.lt_tree.specs.Typing.TypedTree.{Items}
 use Rattle.lt_tree.specs.Typing.Entities.{Known, Function, at_start}
 use Rattle.lt_tree.specs.Typing.Steps.{Outcome, Goes, Breaks}
 use Rattle.lt_tree.specs.Typing.Specifying.{elsewhere}
 use Rattle.lt_tree.specs.Typing.Declarators.{Declares}
 use Rattle.lt_tree.specs.Typing.Declaring.{definition_faults}
 use Rattle.lt_tree.specs.Typing.Programs.{Program, typed, program_of}
-use Rattle.lt_tree.specs.Typing.UnitTyping.{around_body, frame_of, objects_of, adds_function, defines, external, externals, defined_in, answer, typing, IsProgramOf}
-use Rattle.lt_marked_texts.proofs.Free.{FreeItems, FreeExternal, FreeUnit}
-use Rattle.lt_marked_texts.proofs.Walking.{IsBehind, named, past_of, Since, Walks, went, broke, start, onward, bind, judged, entered, in_frames, blocked}
+use Rattle.lt_tree.specs.Typing.UnitTyping.{around_body, frame_of, objects_of, defines, external, externals, defined_in, answer, typing, IsProgramOf}
+use Rattle.lt_tree_laws.specs.Typing.NodeNumbers.{GoesOver}
+use Rattle.lt_marked_texts.proofs.Free.{FreeExternal, FreeUnit}
+use Rattle.lt_marked_texts.proofs.Walking.{IsBehind, named, start, judged, entered, in_frames, blocked}
 use Rattle.lt_marked_texts.proofs.FreeExpressions.{of_specifiers}
 use Rattle.lt_marked_texts.proofs.FreeUnits.{with_function, of_declaration, of_items}
 use Rattle.lt_marked_texts.proofs.Rounds.{Continue, first_of, rest_of}
@@ -42,8 +37,7 @@ AllDefined whole all (f ∷ fs) = Defined whole all f × AllDefined whole all fs
 still_defined : (whole : List Node) (fs : List Function) (all longer : List (List ℕ)) → IsBehind all longer → AllDefined whole all fs → AllDefined whole longer fs
 still_defined whole [] all longer more h = tt
 still_defined whole (f ∷ fs) all longer more h =
-    let first = h.0 in
-    (
+    let first = h.0 in (
       record { specifiers = first.specifiers; declarator = first.declarator; body = first.body; at = first.at; parameters = still_named (λ w. IsParameter w first.declarator) f.parameters all longer more first.parameters },
       still_defined whole fs all longer more h.1,
     )
@@ -106,10 +100,6 @@ added whole (c.Defines s d body) known k at behind adds all =
     (record { specifiers = s; declarator = d; body = body; at = ap (slice_get whole) adds.2 ∙ at; parameters = adds.3 }) in
     subst (AllDefined whole (named k)) (sym adds.1) more
 added whole (c.Declared d) known k at behind adds all = subst (AllDefined whole (named k)) (sym adds) (still_defined whole known.functions (named known) (named k) behind all)
-
-abbrev GoesOver : {A : Type 0} → List Node → Known → Outcome A → Type 0
-GoesOver over known (Goes a behind) = behind.next ≡ known.next + length over
-GoesOver over known (Breaks rule node) = (known.next ≤ node) × (node < known.next + length over)
 
 -- numbers of nodes go on behind an external
 abbrev pub GoesOn : Type 0
