@@ -1,0 +1,2 @@
+// The marks of objectives stand where marks may be added: `specs/Settings.antt` says what is given, `specs/Laws.antt` what holds of expressions.
+#![tactic(auto)]
