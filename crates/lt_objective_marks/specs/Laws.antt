@@ -18,7 +18,7 @@ abbrev pub ObjectivesAreAddedToExpressions : Type 0
 ObjectivesAreAddedToExpressions =
     (new : ℕ → Bool) (unit : c.Unit) (program : Program) (criterion : Criterion) (id : ℕ) → Setting new unit program criterion id
     → (role : Role) (position : Position) (used : List ℕ) (known : Known) (e : c.Expression)
-    → IsIn unit known.next (an_expression role e) → Fits role position → known.is_unmarked ≡ false → ComesToIt program.facts known (use_of position) e → IsTaken position known e
+    → IsIn unit known.next (an_expression role e) → Fits role position → known.is_unmarked ≡ false → ComesToIt program.facts known (use_of position) e → IsTaken role position known e
     → AreUnused (marks_of unit program criterion id) used known.next (length (in_expression e))
     → IsAdded (marks_of unit program criterion id) used known.next (length (in_expression e))
     (λ after. AddsTo new position used after known e (with_marks (marks_of unit program criterion id) known.next e))

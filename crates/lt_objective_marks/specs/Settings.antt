@@ -14,7 +14,7 @@ use Rattle.lt_tree.specs.Typing.UnitTyping.{IsProgramOf}
 use Rattle.lt_tree.specs.Typing.Programs.{Program}
 use Rattle.lt_objectives.specs.declared.criteria.Criterion.{Criterion}
 use Rattle.lt_objectives.specs.Objectives.{in_front, Objective, objectives}
-use Rattle.lt_objectives.specs.Marked.{NewMark, ids_of, numbered, next_id, within}
+use Rattle.lt_objectives.specs.Marked.{NewMark, ids_of, numbered, next_id, within, with_marks}
 use Rattle.lt_objective_places.specs.Stands.{IsAmong, IsWithin, Role}
 use Rattle.lt_objective_places.specs.Stands as stands
 use Rattle.lt_objective_places.specs.Pieces.{an_expression, IsIn}
@@ -38,9 +38,10 @@ pub record Setting (new : ℕ → Bool) (unit : c.Unit) (program : Program) (cri
   -- marks can be taken off an expression with an objective in front of it
   pub erasable : (it : Objective) (role : Role) (e : c.Expression) (known : Known) → IsAmong it (objectives unit program criterion) → it.form ≡ in_front → it.place ≡ known.next
       → IsIn unit known.next (an_expression role e) → ComesToIt program.facts known as_value e → CanBeErased as_value known e
-  -- nothing is marked within what counts as a null pointer constant, tests aside
+  -- nothing is marked in what counts as a null pointer constant, tests aside; in a `pc_after` that is a test nothing but what is marked in front of it
   pub nulls : (role : Role) (taken : Use) (e : c.Expression) (known : Known) → IsIn unit known.next (an_expression role e) → (role ≡ stands.in_test → ⊥)
-      → (there : ComesToIt program.facts known taken e) → counts_as_null there.found ≡ true → within (marks_of unit program criterion id) known.next e ≡ e
+      → (there : ComesToIt program.facts known taken e) → counts_as_null there.found ≡ true
+      → (within (marks_of unit program criterion id) known.next e ≡ e) × ((role ≡ stands.in_truth) ⊎ (with_marks (marks_of unit program criterion id) known.next e ≡ e))
   -- the value of a test is no pointer to a function
   pub values : (role : Role) (e : c.Expression) (known : Known) → IsIn unit known.next (an_expression role e)
       → (there : ComesToIt program.facts known as_truth e) → has_pointer_to_function (own_type there.found) ≡ false
@@ -80,8 +81,9 @@ pub data Fits : Role → Position → Type 0 where
   a_place : Fits stands.as_place (in_use as_place)
   a_marked_place : Fits stands.as_place (in_use as_value)
 
--- What the text around an expression asks of it: a test is a scalar, and what is called the name of a function.
-abbrev pub IsTaken : Position → Known → c.Expression → Type 0
-IsTaken in_test known e = (x : Typed) (next : Known) → expression e as_truth known ≡ Goes x next → is_scalar (own_type x) ≡ true
-IsTaken (in_use as_callee) known e = (x : Typed) (next : Known) → expression e as_callee known ≡ Goes x next → (name : List ℕ) × (x.form ≡ a_designator name (own_type x))
-IsTaken (in_use other) known e = Unit {0}
+-- What the text around an expression asks of it: a test is a scalar, also in a `pc_after`, and what is called the name of a function.
+abbrev pub IsTaken : Role → Position → Known → c.Expression → Type 0
+IsTaken stands.in_test position known e = (x : Typed) (next : Known) → expression e as_truth known ≡ Goes x next → is_scalar (own_type x) ≡ true
+IsTaken stands.in_truth position known e = (x : Typed) (next : Known) → expression e as_truth known ≡ Goes x next → is_scalar (own_type x) ≡ true
+IsTaken stands.as_value (in_use as_callee) known e = (x : Typed) (next : Known) → expression e as_callee known ≡ Goes x next → (name : List ℕ) × (x.form ≡ a_designator name (own_type x))
+IsTaken role position known e = Unit {0}
