@@ -1,2 +1,4 @@
 pub mod Ids
 pub mod Given
+pub mod Ends
+pub mod Shapes
