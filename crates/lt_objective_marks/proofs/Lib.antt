@@ -2,3 +2,5 @@ pub mod Ids
 pub mod Given
 pub mod Ends
 pub mod Shapes
+pub mod Made
+pub mod Values
