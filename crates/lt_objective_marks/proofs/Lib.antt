@@ -4,3 +4,4 @@ pub mod Ends
 pub mod Shapes
 pub mod Made
 pub mod Values
+pub mod Noted
