@@ -5,3 +5,5 @@ pub mod Shapes
 pub mod Made
 pub mod Values
 pub mod Noted
+pub mod Predicates
+pub mod Labels

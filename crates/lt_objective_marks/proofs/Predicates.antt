@@ -1,0 +1,152 @@
+-- The objectives at an expression have predicates where it stands.
+use Rattle.std.proofs.Common.{◌≡◌, ◌⊎◌, inl, inr, refl, sym, ap, ◌∙◌, subst, ℕ, List, [], ◌∷◌, ◌++◌, Bool, true, false, ◌&&◌, if◌then◌else◌, Option, Some, None}
+use Rattle.std.proofs.lemmas.Bool.{false≢true}
+use Rattle.std.proofs.lemmas.List.{map-append}
+use Rattle.std.specs.Prelude.{map}
+use Rattle.std.specs.List.{AllByRecursion}
+use Rattle.lt_model.specs.declared.operator.Op.{Op}
+use Rattle.lt_tree.specs.Tree as c
+use Rattle.lt_tree.specs.Erasure.{erased, erased_expressions}
+use Rattle.lt_tree.specs.Comma.{comma_of}
+use Rattle.lt_tree.specs.Purity.{is_pure}
+use Rattle.lt_tree.specs.Typing.Types.{is_integer, is_scalar}
+use Rattle.lt_tree.specs.Typing.Entities.{Known}
+use Rattle.lt_tree.specs.Typing.Expressions.{as_value, own_type}
+use Rattle.lt_tree.specs.Typing.Programs.{Program}
+use Rattle.lt_objectives.specs.declared.criteria.Criterion.{Criterion}
+use Rattle.lt_objectives.specs.declared.criteria.Criterion.TheVariants as C
+use Rattle.lt_objectives.specs.Places.{type_at, is_open, is_value_position}
+use Rattle.lt_objectives.specs.Decisions.{decisions, clauses, inequality}
+use Rattle.lt_objectives.specs.Mutants.{absolute_mutants, connector_mutants, arithmetic_mutants, relational_mutants}
+use Rattle.lt_objectives.specs.Objectives.{in_front, Objective, objective, all_at, decided_at, at_test, left_type, right_type, mutants, differences, is_core, at_expression}
+use Rattle.lt_mark_laws.proofs.TypeLists.{all_both}
+use Rattle.lt_mark_typing.specs.Placed.{IsThere}
+use Rattle.lt_objective_places.specs.Stands.{IsNoTest}
+use Rattle.lt_objective_typing.specs.Laws.{ArePredicates, differences_from, TakesIntegers}
+use Rattle.lt_erased_typing.specs.Erasable.{CanBeErased}
+use Rattle.lt_typed_nodes.specs.Coming.{ComesToIt}
+use Rattle.lt_objective_marks.specs.Settings.{Setting}
+use Rattle.lt_objective_marks.proofs.Given.{Given}
+use Rattle.lt_objective_marks.proofs.Noted.{signed_found, takes_integers}
+
+no_tests : (criterion : Criterion) (k : ℕ) (e : c.Expression) → at_test criterion None None k e ≡ []
+no_tests C.Decision k e = refl
+no_tests C.Condition k e = refl
+no_tests C.MultipleCondition k e = refl
+no_tests C.GeneralActiveClause k e = refl
+no_tests C.Function k e = refl
+no_tests C.InputDomain k e = refl
+no_tests C.CorrelatedActiveClause k e = refl
+no_tests C.RestrictedActiveClause k e = refl
+no_tests C.AllUses k e = refl
+no_tests C.AbsoluteValue k e = refl
+no_tests C.ArithmeticOperator k e = refl
+no_tests C.LogicalConnector k e = refl
+no_tests C.RelationalOperator k e = refl
+
+pub none_at : (unit : c.Unit) (criterion : Criterion) (k : ℕ) (e : c.Expression) → IsNoTest unit k → at_test criterion (decided_at (decisions unit) k) (decided_at (clauses unit) k) k e ≡ []
+none_at unit criterion k e none =
+    ap (λ it. at_test criterion it (decided_at (clauses unit) k) k e) none.0 ∙ ap (λ it. at_test criterion None it k e) none.1 ∙ no_tests criterion k e
+
+pub predicates_of : (k : ℕ) (criterion : Criterion) (list : List c.Expression) → map (λ (it : Objective). it.predicate) (all_at k in_front criterion list) ≡ list
+predicates_of k criterion [] = refl
+predicates_of k criterion (e ∷ es) = ap (λ l. e ∷ l) (predicates_of k criterion es)
+
+module _ (g : Given) {new : ℕ → Bool} {unit : c.Unit} {program : Program} {criterion : Criterion} {id : ℕ} (s : Setting new unit program criterion id) (known : Known) where
+  abbrev Are : List c.Expression → Type 0
+  Are list = (used : List ℕ) → ArePredicates new used known list
+
+  -- operands of what is an operator with its marks, or of what is none without them
+  takes : (e : c.Expression) → is_core e ≡ true → (there : ComesToIt program.facts known as_value e) → CanBeErased as_value known e
+      → is_integer (left_type unit program known.next e) && is_integer (right_type unit program known.next e) ≡ true → TakesIntegers known (erased e)
+  takes (c.Binary op left right) core there erasable are = takes_integers g s op known left right there erasable are
+  takes (c.Name name) core there erasable are = tt
+  takes (c.Constant text) core there erasable are = tt
+  takes (c.Text bytes) core there erasable are = tt
+  takes (c.Index base index) core there erasable are = tt
+  takes (c.Call callee arguments) core there erasable are = tt
+  takes (c.Member base name) core there erasable are = tt
+  takes (c.Arrow pointer name) core there erasable are = tt
+  takes (c.PostInc target) core there erasable are = tt
+  takes (c.PostDec target) core there erasable are = tt
+  takes (c.PreInc target) core there erasable are = tt
+  takes (c.PreDec target) core there erasable are = tt
+  takes (c.Unary op operand) core there erasable are = tt
+  takes (c.SizeofExpr operand) core there erasable are = tt
+  takes (c.SizeofType s d) core there erasable are = tt
+  takes (c.Cast s d operand) core there erasable are = tt
+  takes (c.Logical op left right) core there erasable are = tt
+  takes (c.Conditional test left right) core there erasable are = tt
+  takes (c.Assign op target value) core there erasable are = tt
+  takes (c.Comma (c.an_expression first (c.an_expression second rest))) core there erasable are = of_comma (erased first) second rest
+    where
+      of_comma : (first second : c.Expression) (rest : c.Expressions) → TakesIntegers known (comma_of first (erased_expressions (c.an_expression second rest)))
+      of_comma (c.Comma parts) second rest = tt
+      of_comma first second rest = tt
+  takes (c.Comma c.no_expressions) core there erasable are = absurd erasable
+  takes (c.Comma (c.an_expression first c.no_expressions)) core there erasable are = absurd erasable
+  takes (c.Marked ms value) core there erasable are = absurd (false≢true core)
+  takes (c.Decide operand when_true when_false tag) core there erasable are = absurd (false≢true core)
+  takes (c.After operand id tag) core there erasable are = absurd (false≢true core)
+
+  module _ (e : c.Expression) (core : is_core e ≡ true) (pure : is_pure (erased e) ≡ true) (there : ComesToIt program.facts known as_value e) (erasable : CanBeErased as_value known e) where
+    by_criterion : (criterion : Criterion) (used : List ℕ) → ArePredicates new used known (differences_from (erased e) (mutants unit program criterion known.next e (erased e)))
+    by_criterion criterion used =
+        let typed = g.erased known there.behind e there.found erasable there.goes in
+        let them = g.predicates new used known (erased e) typed.0 typed.1 typed.2 pure typed.3 in
+        by criterion (
+          them.1 program.model (type_at unit program known.next) (λ signed. ap is_integer typed.4 ∙ signed_found g s program.model known e there signed),
+          them.2,
+          (them.3 (left_type unit program known.next e) (right_type unit program known.next e) (takes e core there erasable)).0,
+          (them.3 (left_type unit program known.next e) (right_type unit program known.next e) (takes e core there erasable)).1,
+        )
+      where
+        by : (criterion : Criterion)
+            → ArePredicates new used known (differences_from (erased e) (absolute_mutants program.model (type_at unit program known.next) (erased e)))
+            × ArePredicates new used known (differences_from (erased e) (connector_mutants (erased e)))
+            × ArePredicates new used known (differences_from (erased e) (arithmetic_mutants (left_type unit program known.next e) (right_type unit program known.next e) (erased e)))
+            × ArePredicates new used known (differences_from (erased e) (relational_mutants (left_type unit program known.next e) (right_type unit program known.next e) (erased e)))
+            → ArePredicates new used known (differences_from (erased e) (mutants unit program criterion known.next e (erased e)))
+        by C.AbsoluteValue h = h.0
+        by C.LogicalConnector h = h.1
+        by C.ArithmeticOperator h = h.2
+        by C.RelationalOperator h = h.3
+        by C.Decision h = tt
+        by C.Condition h = tt
+        by C.MultipleCondition h = tt
+        by C.GeneralActiveClause h = tt
+        by C.Function h = tt
+        by C.InputDomain h = tt
+        by C.CorrelatedActiveClause h = tt
+        by C.RestrictedActiveClause h = tt
+        by C.AllUses h = tt
+
+    of_differences : (b : Bool) (used : List ℕ)
+        → ArePredicates new used known (map (λ it. it.predicate) (if b then all_at known.next in_front criterion (map (inequality (erased e)) (mutants unit program criterion known.next e (erased e))) else []))
+    of_differences true used = subst (ArePredicates new used known) (sym (predicates_of known.next criterion (differences_from (erased e) (mutants unit program criterion known.next e (erased e))))) (by_criterion criterion used)
+    of_differences false used = tt
+
+    -- tests are scalars; what isn't one has no objectives as a test
+    of_tests : (is_scalar (own_type there.found) ≡ true) ⊎ IsNoTest unit known.next → (used : List ℕ)
+        → ArePredicates new used known (map (λ it. it.predicate) (at_test criterion (decided_at (decisions unit) known.next) (decided_at (clauses unit) known.next) known.next (erased e)))
+    of_tests (inl scalar) used =
+        let typed = g.erased known there.behind e there.found erasable there.goes in
+        (g.predicates new used known (erased e) typed.0 typed.1 typed.2 pure typed.3).0 (ap is_scalar typed.4 ∙ scalar) criterion (decided_at (decisions unit) known.next) (decided_at (clauses unit) known.next) known.next
+    of_tests (inr none) used = subst (λ list. ArePredicates new used known (map (λ (it : Objective). it.predicate) list)) (sym (none_at unit criterion known.next (erased e) none)) tt
+
+    at_open : (b : Bool) → (is_scalar (own_type there.found) ≡ true) ⊎ IsNoTest unit known.next → (used : List ℕ)
+        → ArePredicates new used known (map (λ it. it.predicate) (if b then at_test criterion (decided_at (decisions unit) known.next) (decided_at (clauses unit) known.next) known.next (erased e)
+        ++ differences unit program criterion known.next e else []))
+    at_open true tested used =
+        let first = at_test criterion (decided_at (decisions unit) known.next) (decided_at (clauses unit) known.next) known.next (erased e) in
+        let second = differences unit program criterion known.next e in
+        subst (ArePredicates new used known) (sym (map-append (λ (it : Objective). it.predicate) first second))
+        (all_both (IsThere is_scalar new used known) (map (λ it. it.predicate) first) (map (λ it. it.predicate) second) (of_tests tested used)
+        (of_differences (is_pure (erased e) && is_value_position unit known.next) used))
+    at_open false tested used = tt
+
+    -- all objectives there have predicates
+    pub are_predicates : (is_scalar (own_type there.found) ≡ true) ⊎ IsNoTest unit known.next → (ps : List c.Expression) → at_expression unit program criterion known.next e ≡ all_at known.next in_front criterion ps
+        → (used : List ℕ) → ArePredicates new used known ps
+    are_predicates tested ps are used =
+        subst (ArePredicates new used known) (ap (map (λ it. it.predicate)) are ∙ predicates_of known.next criterion ps) (at_open (is_core e && is_open unit program known.next) tested used)
