@@ -29,27 +29,27 @@ use Rattle.lt_objective_marks.proofs.Shapes as shapes
 use Rattle.lt_objective_marks.proofs.Shapes.{Shape, shape}
 use Rattle.lt_objective_marks.proofs.Predicates.{are_predicates}
 
-not_used : (b : Bool) → (b ≡ true → ⊥) → b ≡ false
+pub not_used : (b : Bool) → (b ≡ true → ⊥) → b ≡ false
 not_used true h = absurd (h refl)
 not_used false h = refl
 
-none_decided : (place k j : ℕ) (criterion : Criterion) (list : List c.Expression) (x : c.Expression) → decided (numbered j (all_at place in_front criterion list)) k x ≡ x
+pub none_decided : (place k j : ℕ) (criterion : Criterion) (list : List c.Expression) (x : c.Expression) → decided (numbered j (all_at place in_front criterion list)) k x ≡ x
 none_decided place k j criterion [] x = refl
 none_decided place k j criterion (p ∷ ps) x = none_decided place k (j + 1) criterion ps x
 
-core_is : (k : ℕ) (e : c.Expression) → is_core e ≡ true → core k e ≡ part k e
+pub core_is : (k : ℕ) (e : c.Expression) → is_core e ≡ true → core k e ≡ part k e
 core_is k (c.Marked ms e) is = absurd (false≢true is)
 core_is k (c.Decide e when_true when_false tag) is = absurd (false≢true is)
 core_is k (c.After e id tag) is = absurd (false≢true is)
 core_is k e is = refl
 
 module _ (g : Given) {new : ℕ → Bool} {unit : c.Unit} {program : Program} {criterion : Criterion} {id : ℕ} (s : Setting new unit program criterion id) where
-  abbrev marks : List NewMark
+  abbrev pub marks : List NewMark
   marks = marks_of unit program criterion id
 
   -- ---- some objectives among all
 
-  among_all : (these : List Objective) (t : AreTogether unit program criterion these) (o : Objective) → IsAmong o these → IsAmong o (objectives unit program criterion)
+  pub among_all : (these : List Objective) (t : AreTogether unit program criterion these) (o : Objective) → IsAmong o these → IsAmong o (objectives unit program criterion)
   among_all these t o h = subst (IsAmong o) (sym t.all) (in_second o t.before (these ++ t.behind) (in_first o these t.behind h))
 
   marks_are : (these : List Objective) (t : AreTogether unit program criterion these)
@@ -103,13 +103,13 @@ module _ (g : Given) {new : ℕ → Bool} {unit : c.Unit} {program : Program} {c
         → (it : Objective) → MayStand unit program criterion role known.next e it in_front → is_pure (erased e) ≡ true → Labelled used known role e
 
   module _ (role : Role) (e : c.Expression) (known : Known) (isin : IsIn unit known.next (an_expression role e)) where
-    labels_of : LabelsAreOf unit program criterion in_front known.next id (at_expression unit program criterion known.next e)
+    pub labels_of : LabelsAreOf unit program criterion in_front known.next id (at_expression unit program criterion known.next e)
     labels_of = ((g.one_node unit program criterion known.next id).0 role e (g.stand.2 unit known.next (an_expression role e) isin)).0
 
-    pub own_labels : (used : List ℕ) → (comes : is_core e ≡ true → ComesToIt program.facts known as_value e)
-        → ((whole : is_core e ≡ true) → CanBeMarked unit known.next role → (is_scalar (own_type (comes whole).found) ≡ true) ⊎ IsNoTest unit known.next)
+    pub own_labels : (used : List ℕ) → ((it : Objective) → MayStand unit program criterion role known.next e it in_front
+        → (there : ComesToIt program.facts known as_value e) × ((is_scalar (own_type there.found) ≡ true) ⊎ IsNoTest unit known.next))
         → AreUnused marks used known.next 1 → Labelled used known role e
-    own_labels used comes tested unused = by (at_expression unit program criterion known.next e) (shape unit program criterion known.next e) refl
+    own_labels used comes unused = by (at_expression unit program criterion known.next e) (shape unit program criterion known.next e) refl
       where
         by : (list : List Objective) → Shape criterion known.next (erased e) list → at_expression unit program criterion known.next e ≡ list → Labelled used known role e
         by list shapes.nothing are =
@@ -121,8 +121,8 @@ module _ (g : Given) {new : ℕ → Bool} {unit : c.Unit} {program : Program} {c
             let here : IsAmong o (at_expression unit program criterion known.next e) = subst (IsAmong o) (sym are) (inl refl) in
             let all = among_all (at_expression unit program criterion known.next e) labels_of.together o here in
             let may = (g.may_stand unit program criterion known.next o all refl).0 role e isin in
-            let there = comes may.0 in
-            let erasable = s.erasable o role e known all refl refl isin there in
+            let there = comes o may in
+            let erasable = s.erasable o role e known all refl refl isin there.0 in
             let them = subst (LabelsAreOf unit program criterion in_front known.next id) are labels_of in
-            let found = new_labels known.next (p ∷ ps) them.together known used (are_predicates g s known e may.0 pure there erasable (tested may.0 may.2) (p ∷ ps) are) unused in
+            let found = new_labels known.next (p ∷ ps) them.together known used (are_predicates g s known e may.0 pure there.0 erasable there.1 (p ∷ ps) are) unused in
             labelled found.0 (subst (AreNewLabels new used found.0 known) (sym them.labels_are) found.1) found.2 o may pure

@@ -7,3 +7,5 @@ pub mod Values
 pub mod Noted
 pub mod Predicates
 pub mod Labels
+pub mod Decided
+pub mod Whole
