@@ -9,3 +9,6 @@ pub mod Predicates
 pub mod Labels
 pub mod Decided
 pub mod Whole
+pub mod Steps
+pub mod Taken
+pub mod Parts

@@ -77,7 +77,7 @@ is_valued as_truth = true
 is_valued as_place = false
 is_valued as_callee = false
 
-read_value : (x : Typed) (v : Value) → x.form ≡ a_value v → as_it_is_read x ≡ x
+pub read_value : (x : Typed) (v : Value) → x.form ≡ a_value v → as_it_is_read x ≡ x
 read_value x v is = rw is refl
 
 -- what is a value already

@@ -94,7 +94,7 @@ is_whole as_place = false
 is_whole role = true
 
 -- an operator on integers, used as it is read
-used_value : (role : Use) (x : Typed) (v : e.Value) → x.form ≡ a_value v → own_type (used role x) ≡ own_type x
+pub used_value : (role : Use) (x : Typed) (v : e.Value) → x.form ≡ a_value v → own_type (used role x) ≡ own_type x
 used_value as_place x v is = refl
 used_value as_value x v is = rw is refl
 used_value as_truth x v is = rw is refl

@@ -61,7 +61,7 @@ truth_of_value : Given → (facts : List Fact) (known : Known) (e : c.Expression
 truth_of_value g facts known e core there = subst (ComesTo facts known) (g.truths known e core) there
 
 module _ (g : Given) {new : ℕ → Bool} {unit : c.Unit} {program : Program} {criterion : Criterion} {id : ℕ} (s : Setting new unit program criterion id) where
-  abbrev new_marks : List NewMark
+  abbrev pub new_marks : List NewMark
   new_marks = marks_of unit program criterion id
 
   -- an expression where it stands
