@@ -12,3 +12,4 @@ pub mod Whole
 pub mod Steps
 pub mod Taken
 pub mod Parts
+pub mod Expressions

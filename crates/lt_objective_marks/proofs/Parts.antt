@@ -56,7 +56,7 @@ module _ (g : Given) {new : ℕ → Bool} {unit : c.Unit} {program : Program} {c
 
   module _ (role : Role) (position : Position) (used : List ℕ) (known : Known) where
     -- an operand right behind its operator
-    first_in : (e d : c.Expression) (inner_role : Role) (inner_position : Position) → Here g s role position known e → IsIn unit (known.next + 1) (an_expression inner_role d) → Fits inner_role inner_position
+    pub first_in : (e d : c.Expression) (inner_role : Role) (inner_position : Position) → Here g s role position known e → IsIn unit (known.next + 1) (an_expression inner_role d) → Fits inner_role inner_position
         → ComesToIt program.facts (entered known) (use_of inner_position) d → IsTaken inner_role inner_position (entered known) d → Operand inner_role inner_position (entered known) d (known.next + 1)
     first_in e d inner_role inner_position h isin fits comes taken = record { number = refl; isin = isin; fits = fits; marked = h.marked; comes = comes; taken = taken }
 
@@ -75,7 +75,7 @@ module _ (g : Given) {new : ℕ → Bool} {unit : c.Unit} {program : Program} {c
     -- ---- two operands
 
     -- the second, behind the first
-    second_in : (e l r : c.Expression) (first : Use) (inner_role : Role) (inner_position : Position) → Here g s role position known e → (left : ComesToIt program.facts (entered known) first l)
+    pub second_in : (e l r : c.Expression) (first : Use) (inner_role : Role) (inner_position : Position) → Here g s role position known e → (left : ComesToIt program.facts (entered known) first l)
         → IsIn unit (known.next + 1 + length (in_expression l)) (an_expression inner_role r) → Fits inner_role inner_position
         → ComesToIt program.facts left.behind (use_of inner_position) r → IsTaken inner_role inner_position left.behind r → Operand inner_role inner_position left.behind r (known.next + 1 + length (in_expression l))
     second_in e l r first inner_role inner_position h left isin fits comes taken = record {

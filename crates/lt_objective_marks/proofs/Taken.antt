@@ -5,17 +5,17 @@ use Rattle.lt_tree.specs.declared.expression.LogicalOp.{LogicalOp}
 use Rattle.lt_tree.specs.declared.expression.UnaryOp.TheVariants as unary
 use Rattle.lt_tree.specs.Tree as c
 use Rattle.lt_tree.specs.Typing.Types.{is_scalar}
-use Rattle.lt_tree.specs.Typing.Rules.{unless, not_scalar, bad_mark, bad_choice}
+use Rattle.lt_tree.specs.Typing.Rules.{unless, not_scalar, bad_mark, bad_choice, bad_call}
 use Rattle.lt_tree.specs.Typing.TypedTree.{Marks}
 use Rattle.lt_tree.specs.Typing.Entities.{Known}
 use Rattle.lt_tree.specs.Typing.Steps.{Outcome, Goes, Breaks, goes_on}
 use Rattle.lt_tree.specs.Typing.Operands.{can_be_chosen_from}
-use Rattle.lt_tree.specs.Typing.Expressions.{Typed, Use, as_value, as_truth, own_type, as_it_is_read, finish}
-use Rattle.lt_tree.specs.Typing.Operations.{judge_not}
+use Rattle.lt_tree.specs.Typing.Expressions.{Form, a_value, a_place, a_designator, Typed, Judged, judgement, nothing, Use, as_value, as_truth, as_callee, own_type, as_it_is_read, finish}
+use Rattle.lt_tree.specs.Typing.Operations.{judge_not, judge_call, judge_function}
 use Rattle.lt_tree.specs.Typing.BinaryOperations.{judge_logical, judge_conditional}
 use Rattle.lt_tree.specs.Typing.MarkRules.{number_of_id, is_good_id, is_tag, is_truth, is_good_decision, label_of, inside_mark, inside_after, judge_decide, judge_after, judge_marked}
 use Rattle.lt_tree.specs.Typing.NodeEnds.{decision_labels}
-use Rattle.lt_tree.specs.Typing.ExpressionTyping.{expression, marks}
+use Rattle.lt_tree.specs.Typing.ExpressionTyping.{expression, expressions, marks}
 use Rattle.lt_typed_nodes.specs.Coming.{entered}
 use Rattle.lt_objective_marks.proofs.Ends.{Ended, ended, through, part_goes, unless_true, left_empty, and_left, and_right}
 use Rattle.lt_objective_marks.proofs.Made.{read_value}
@@ -107,3 +107,20 @@ not_decided operand when_true when_false tag role known behind z value whole =
     let good = unless_true (is_good_decision role first.1 first.0 when_true when_false tag) bad_mark at.rules in
     first_of (is_truth role) (not first.1.is_unmarked) (is_scalar (own_type first.0)) (is_good_id first.1 when_true) (is_good_id first.1 when_false)
     (not (number_of_id when_true == number_of_id when_false)) (is_tag tag) value good
+
+-- what is called is the name of a function
+pub called : (f : c.Expression) (arguments : c.Expressions) (role : Use) (known k j behind : Known) (x : Typed) (xs : List Typed) (z : Typed) → expression f as_callee (entered known) ≡ Goes x k
+    → expressions arguments k ≡ Goes xs j → expression (c.Call f arguments) role known ≡ Goes z behind → (name : List ℕ) × (x.form ≡ a_designator name (own_type x))
+unfolding judge_call
+called f arguments role known k j behind x xs z first second whole =
+    let at = ended j known.next role (judge_call x xs j) z behind
+        (through (λ (xs : List Typed) (j : Known). finish known.next role (judge_call x xs j) j) second
+        (through (λ (x : Typed) (k : Known). goes_on (expressions arguments k) (λ (xs : List Typed) (j : Known). finish known.next role (judge_call x xs j) j)) first whole)) in
+    by x.form refl at.rules
+  where
+    by : (form : Form) → x.form ≡ form
+        → (elim (form) as (λ _. Judged) [ a_value v ↦ judgement (bad_call ∷ []) nothing | a_place place ↦ judgement (bad_call ∷ []) nothing | a_designator name type ↦ judge_function j name type xs ]).faults ≡ []
+        → (name : List ℕ) × (x.form ≡ a_designator name (own_type x))
+    by (a_value v) is none = absurd cc
+    by (a_place place) is none = absurd cc
+    by (a_designator name t) is none = (name, is ∙ ap (a_designator name) (sym (rw is refl)))
