@@ -13,3 +13,4 @@ pub mod Steps
 pub mod Taken
 pub mod Parts
 pub mod Expressions
+pub mod Behind
