@@ -14,3 +14,5 @@ pub mod Taken
 pub mod Parts
 pub mod Expressions
 pub mod Behind
+pub mod Casts
+pub mod Markable
