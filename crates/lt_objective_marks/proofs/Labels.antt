@@ -21,6 +21,7 @@ use Rattle.lt_objective_places.proofs.Among.{in_first, in_second}
 use Rattle.lt_mark_typing.specs.Beside.{is_used}
 use Rattle.lt_mark_typing.specs.Placed.{AreNewLabels}
 use Rattle.lt_objective_typing.specs.Laws.{ArePredicates}
+use Rattle.lt_erased_typing.specs.Erasable.{CanBeErased}
 use Rattle.lt_typed_nodes.specs.Coming.{ComesToIt}
 use Rattle.lt_objective_marks.specs.Settings.{marks_of, Setting, IsIdAt, AreUnused, AddsIdsOf}
 use Rattle.lt_objective_marks.proofs.Given.{Given}
@@ -100,7 +101,7 @@ module _ (g : Given) {new : ℕ → Bool} {unit : c.Unit} {program : Program} {c
   pub data Labelled (used : List ℕ) (known : Known) (role : Role) (e : c.Expression) : Type 0 where
     unlabelled : labels in_front marks known.next ≡ c.no_marks → Labelled used known role e
     labelled : (between : List ℕ) → AreNewLabels new used between known (labels in_front marks known.next) → AddsIdsOf marks used between known.next 1
-        → (it : Objective) → MayStand unit program criterion role known.next e it in_front → is_pure (erased e) ≡ true → Labelled used known role e
+        → (it : Objective) → MayStand unit program criterion role known.next e it in_front → CanBeErased as_value known e → Labelled used known role e
 
   module _ (role : Role) (e : c.Expression) (known : Known) (isin : IsIn unit known.next (an_expression role e)) where
     pub labels_of : LabelsAreOf unit program criterion in_front known.next id (at_expression unit program criterion known.next e)
@@ -125,4 +126,4 @@ module _ (g : Given) {new : ℕ → Bool} {unit : c.Unit} {program : Program} {c
             let erasable = s.erasable o role e known all refl refl isin there.0 in
             let them = subst (LabelsAreOf unit program criterion in_front known.next id) are labels_of in
             let found = new_labels known.next (p ∷ ps) them.together known used (are_predicates g s known e may.0 pure there.0 erasable there.1 (p ∷ ps) are) unused in
-            labelled found.0 (subst (AreNewLabels new used found.0 known) (sym them.labels_are) found.1) found.2 o may pure
+            labelled found.0 (subst (AreNewLabels new used found.0 known) (sym them.labels_are) found.1) found.2 o may erasable

@@ -22,6 +22,7 @@ use Rattle.lt_objective_places.specs.Pieces.{an_expression, IsIn}
 use Rattle.lt_mark_typing.specs.Beside.{is_used, Position, in_use, in_test, use_of}
 use Rattle.lt_mark_typing.specs.Placed.{AddsTo, AreNewLabels, IsNoNull, IsMarkable, is_good_type, takes_labels}
 use Rattle.lt_mark_typing.specs.Placed as placed
+use Rattle.lt_erased_typing.specs.Erasable.{CanBeErased}
 use Rattle.lt_typed_nodes.specs.Coming.{ComesTo, ComesToIt}
 use Rattle.lt_sites.proofs.Nodes.{expression_node}
 use Rattle.lt_objective_marks.specs.Settings.{marks_of, Setting, IsIdAt, AreUnused, AddsIdsOf, IsAdded, Fits, a_test, a_truth, a_value, a_switch, a_callee, a_place, a_marked_place, IsTaken}
@@ -83,7 +84,7 @@ module _ (g : Given) {new : ℕ → Bool} {unit : c.Unit} {program : Program} {c
 
   -- labels that are new in front of it: none, or such as may stand there
   abbrev pub Stand : Role → Known → c.Expression → Type 0
-  Stand role known e = (labels in_front new_marks known.next ≡ c.no_marks) ⊎ ((it : Objective) × MayStand unit program criterion role known.next e it in_front)
+  Stand role known e = (labels in_front new_marks known.next ≡ c.no_marks) ⊎ ((it : Objective) × MayStand unit program criterion role known.next e it in_front × CanBeErased as_value known e)
 
   -- an expression whose labels are apart
   pub record Split (role : Role) (position : Position) (used : List ℕ) (known : Known) (e : c.Expression) : Type 0 where
@@ -198,12 +199,12 @@ module _ (g : Given) {new : ℕ → Bool} {unit : c.Unit} {program : Program} {c
       by_labels none (unlabelled bare) =
           let inside = with_inside used none (inner role position used known h (inside_unused new_marks used known.next (length (in_expression e)) unused)) in
           as_unlabelled bare (inside.0, inside.1, inside_added new_marks used inside.0 known.next (length (in_expression e)) inside.2)
-      by_labels none (labelled between fresh ids it may pure) =
+      by_labels none (labelled between fresh ids it may erasable) =
           let inside = with_inside between none (inner role position between known h (behind_labels used between known.next (length (in_expression e)) unused ids)) in
           record {
             between = between;
             labels = fresh;
-            stand = inr (it, may);
+            stand = inr (it, may, erasable);
             after = inside.0;
             added = inside.1;
             ids = all_ids used between inside.0 known.next (length (in_expression e)) (some_nodes e) ids inside.2;
@@ -220,7 +221,7 @@ module _ (g : Given) {new : ℕ → Bool} {unit : c.Unit} {program : Program} {c
   -- a value that labels are in front of is an integer, which is neither a call's nor converted
   abbrev pub ValuesAreMarkable : Type 0
   ValuesAreMarkable = (known : Known) (e : c.Expression) (there : ComesToIt program.facts known as_value e) (it : Objective) → IsIn unit known.next (an_expression stands.as_value e)
-      → MayStand unit program criterion stands.as_value known.next e it in_front → (is_integer (own_type there.found) ≡ true) × (is_made_plainly e ≡ true)
+      → MayStand unit program criterion stands.as_value known.next e it in_front → CanBeErased as_value known e → (is_integer (own_type there.found) ≡ true) × (is_made_plainly e ≡ true)
 
   marked_core : (ms : c.Marks) (x e : c.Expression) → (ms ≡ c.no_marks → ⊥) → preceded_by ms x ≡ e → is_core e ≡ true → ⊥
   marked_core c.no_marks x e some is core = some refl
@@ -232,11 +233,11 @@ module _ (g : Given) {new : ℕ → Bool} {unit : c.Unit} {program : Program} {c
 
   value_is_good : ValuesAreMarkable → (taken : Use) (position : Position) (known : Known) (e : c.Expression) → position ≡ in_use taken → is_valued taken ≡ true → IsIn unit known.next (an_expression stands.as_value e)
       → ComesToIt program.facts known taken e → (there : ComesToIt program.facts known as_value e) → expression e taken known ≡ expression e as_value known
-      → (labels in_front new_marks known.next ≡ c.no_marks → ⊥) → (it : Objective) → MayStand unit program criterion stands.as_value known.next e it in_front → IsGood (in_use taken) known e
-  value_is_good markable taken position known e position_is valued isin comes there same some it may x next goes =
+      → (labels in_front new_marks known.next ≡ c.no_marks → ⊥) → (it : Objective) → MayStand unit program criterion stands.as_value known.next e it in_front → CanBeErased as_value known e → IsGood (in_use taken) known e
+  value_is_good markable taken position known e position_is valued isin comes there same some it may erasable x next goes =
       let found : x ≡ there.found = same_found (sym same ∙ goes) there.goes in
       let found_here : x ≡ comes.found = same_found goes comes.goes in
-      let good = markable known e there it isin may in
+      let good = markable known e there it isin may erasable in
       let integer : is_integer (own_type x) ≡ true = ap (λ (y : Typed). is_integer (own_type y)) found ∙ good.0 in
       let value = value_found taken valued e known next x goes in (
         by (counts_as_null x) refl (λ is. s.nulls stands.as_value taken e known isin (λ r. absurd cc) comes (ap counts_as_null (sym found_here) ∙ is)),
@@ -249,9 +250,9 @@ module _ (g : Given) {new : ℕ → Bool} {unit : c.Unit} {program : Program} {c
       by true is h = elim ((h refl).1) [ inl r ↦ absurd cc | inr r ↦ absurd (marked_core (labels in_front new_marks known.next) _ e some r may.0) ]
 
   is_good : ValuesAreMarkable → (role : Role) (position : Position) (known : Known) (e : c.Expression) → Here role position known e → (role ≡ stands.in_truth → ⊥) → (position ≡ in_use as_callee → ⊥)
-      → (labels in_front new_marks known.next ≡ c.no_marks → ⊥) → (it : Objective) → MayStand unit program criterion role known.next e it in_front
+      → (labels in_front new_marks known.next ≡ c.no_marks → ⊥) → (it : Objective) → MayStand unit program criterion role known.next e it in_front → CanBeErased as_value known e
       → (takes_labels position ≡ true) × IsGood position known e
-  is_good markable role position known e h no_truth other some it may = by h.fits h.isin h.comes h.taken no_truth other may
+  is_good markable role position known e h no_truth other some it may erasable = by h.fits h.isin h.comes h.taken no_truth other may
     where
       by : {role : Role} {position : Position} → Fits role position → IsIn unit known.next (an_expression role e) → ComesToIt program.facts known (use_of position) e → IsTaken role position known e
           → (role ≡ stands.in_truth → ⊥) → (position ≡ in_use as_callee → ⊥) → MayStand unit program criterion role known.next e it in_front → (takes_labels position ≡ true) × IsGood position known e
@@ -261,9 +262,9 @@ module _ (g : Given) {new : ℕ → Bool} {unit : c.Unit} {program : Program} {c
             (subst (λ (y : Typed). has_pointer_to_function (own_type y) ≡ false) (same_found comes.goes goes) (s.values stands.in_test e known isin comes))),
       )
       by a_truth isin comes taken no_truth other may = absurd (no_truth refl)
-      by a_value isin comes taken no_truth other may = (refl, value_is_good markable as_value (in_use as_value) known e refl refl isin comes comes refl some it may)
+      by a_value isin comes taken no_truth other may = (refl, value_is_good markable as_value (in_use as_value) known e refl refl isin comes comes refl some it may erasable)
       by a_switch isin comes taken no_truth other may =
-          (refl, value_is_good markable as_truth (in_use as_truth) known e refl refl isin comes (truth_of_value g program.facts known e may.0 comes) (g.truths known e may.0) some it may)
+          (refl, value_is_good markable as_truth (in_use as_truth) known e refl refl isin comes (truth_of_value g program.facts known e may.0 comes) (g.truths known e may.0) some it may erasable)
       by a_callee isin comes taken no_truth other may = absurd (other refl)
       by a_place isin comes taken no_truth other may = absurd may.2
       by a_marked_place isin comes taken no_truth other may = absurd may.2
@@ -284,7 +285,7 @@ module _ (g : Given) {new : ℕ → Bool} {unit : c.Unit} {program : Program} {c
           no_mark : c.a_mark m ms ≡ c.no_marks → ⊥
           no_mark is = cc
       by (c.a_mark m ms) are fresh (inr stand) adds =
-          let good = is_good markable role position known e h no_truth other (λ none. no_mark (sym are ∙ none)) stand.0 stand.1 in
+          let good = is_good markable role position known e h no_truth other (λ none. no_mark (sym are ∙ none)) stand.0 stand.1 stand.2 in
           placed.in_front h.marked good.0 good.1 fresh adds
         where
           no_mark : c.a_mark m ms ≡ c.no_marks → ⊥
