@@ -16,3 +16,4 @@ pub mod Expressions
 pub mod Behind
 pub mod Casts
 pub mod Markable
+pub mod StaysUnmarked
