@@ -17,3 +17,5 @@ pub mod Behind
 pub mod Casts
 pub mod Markable
 pub mod StaysUnmarked
+pub mod Callees
+pub mod All

@@ -18,7 +18,7 @@ use Rattle.lt_tree.specs.Typing.TypedTree.{Value, Place, When, before, after, ty
 use Rattle.lt_tree.specs.Typing.Entities.{Known, Entity, an_object, a_function, a_typedef, an_enumerator, meaning_of, type_of_object}
 use Rattle.lt_tree.specs.Typing.Steps.{Outcome, Goes, Breaks, goes_on}
 use Rattle.lt_tree.specs.Typing.Operands.{points_to, are_integers}
-use Rattle.lt_tree.specs.Typing.Expressions.{Form, a_value, a_place, a_designator, Typed, Use, as_value, as_truth, as_place, as_callee, valued, varies, placed, constant, own_type, value_in, place_in, scalar_in, converted_to, value_at, read, as_it_is_read, used, Judged, judgement, nothing, finish}
+use Rattle.lt_tree.specs.Typing.Expressions.{Form, a_value, a_place, a_designator, Typed, Use, as_value, as_truth, as_place, as_callee, valued, varies, placed, constant, own_type, value_in, place_in, scalar_in, converted_to, value_at, read, as_it_is_read, is_read, used, Judged, judgement, nothing, finish}
 use Rattle.lt_tree.specs.Typing.Operations.{judge_name, judge_constant, judge_plus, judge_minus, judge_complement, judge_not, judge_address_of, judge_dereference, judge_step, judge_size, judge_member, judge_arrow, judge_part, judge_index, judge_call, judge_function, judge_cast, is_callee, object_named, part_of, target_in, constant_address, element_size}
 use Rattle.lt_tree.specs.Typing.BinaryOperations.{on_integers, on_pointers, judge_binary, judge_logical, judge_conditional, judge_assignment, judge_assign, judge_update, judge_comma, distance, moved, compared, operation_type, right_type}
 use Rattle.lt_tree.specs.Typing.MarkRules.{judge_decide, judge_after, judge_marked}
@@ -112,28 +112,28 @@ read_place plainly x place is = subst (IsValue plainly) (sym as_read) (by (is_ar
     by true = (value_at (type_at place) place, refl, λ p. value_is_plain (type_at place) place)
     by false = (value_at (type_at place) place, refl, λ p. value_is_plain (type_at place) place)
 
-pub place_of : (plainly : Bool) (role : Use) (x : Typed) (place : Place) → is_valued role ≡ true → x.form ≡ a_place place → IsValue plainly (used role x)
+pub place_of : (plainly : Bool) (role : Use) (x : Typed) (place : Place) → is_read role ≡ true → x.form ≡ a_place place → IsValue plainly (used role x)
 place_of plainly as_value x place valued is = read_place plainly x place is
 place_of plainly as_truth x place valued is = read_place plainly x place is
 place_of plainly as_place x place valued is = absurd cc
-place_of plainly as_callee x place valued is = absurd cc
+place_of plainly as_callee x place valued is = read_place plainly x place is
 
 -- ---- expressions
 
-no_callee : (role : Use) → is_valued role ≡ true → unless (is_callee role) function_as_value ≡ [] → ⊥
-no_callee as_value valued is = cc
-no_callee as_truth valued is = cc
-no_callee as_place valued is = cc
-no_callee as_callee valued is = cc
+no_callee : (role : Use) → (role ≡ as_callee → ⊥) → unless (is_callee role) function_as_value ≡ [] → ⊥
+no_callee as_value other is = cc
+no_callee as_truth other is = cc
+no_callee as_place other is = cc
+no_callee as_callee other is = other refl
 
-module _ (plainly : Bool) (role : Use) (valued : is_valued role ≡ true) where
-  pub of_name : (name : List ℕ) (found : Option Entity) (k : Known) → (judge_name role name found k).faults ≡ [] → IsValue plainly (used role (judge_name role name found k).typed)
+module _ (plainly : Bool) (role : Use) (valued : is_read role ≡ true) where
+  pub of_name : (role ≡ as_callee → ⊥) → (name : List ℕ) (found : Option Entity) (k : Known) → (judge_name role name found k).faults ≡ [] → IsValue plainly (used role (judge_name role name found k).typed)
   unfolding judge_name
-  of_name name None k none = absurd cc
-  of_name name (Some (a_typedef t)) k none = absurd cc
-  of_name name (Some (an_object n is_register)) k none = place_of plainly role (object_named k n is_register) (e.Object (type_of_object k n) n) valued refl
-  of_name name (Some a_function) k none = absurd (no_callee role valued none)
-  of_name name (Some (an_enumerator z)) k none = value_of plainly role (constant S.Int z) (e.Constant (Num S.Int) z) refl (λ p. refl)
+  of_name other name None k none = absurd cc
+  of_name other name (Some (a_typedef t)) k none = absurd cc
+  of_name other name (Some (an_object n is_register)) k none = place_of plainly role (object_named k n is_register) (e.Object (type_of_object k n) n) valued refl
+  of_name other name (Some a_function) k none = absurd (no_callee role other none)
+  of_name other name (Some (an_enumerator z)) k none = value_of plainly role (constant S.Int z) (e.Constant (Num S.Int) z) refl (λ p. refl)
 
   pub of_constant : (found : Option TypedConstant) → IsValue plainly (used role (judge_constant found).typed)
   unfolding judge_constant

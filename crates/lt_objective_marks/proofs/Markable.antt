@@ -56,7 +56,7 @@ module _ (unit : c.Unit) (program : Program) where
 
 -- ---- by criteria
 
-both_there : (a b : Bool) (list : List c.Expression) → ((if a && b then list else []) ≡ [] → ⊥) → (a ≡ true) × (b ≡ true)
+pub both_there : (a b : Bool) (list : List c.Expression) → ((if a && b then list else []) ≡ [] → ⊥) → (a ≡ true) × (b ≡ true)
 both_there true true list some = (refl, refl)
 both_there true false list some = absurd (some refl)
 both_there false b list some = absurd (some refl)

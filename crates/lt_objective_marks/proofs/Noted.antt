@@ -9,7 +9,7 @@ use Rattle.lt_tree.specs.Erasure.{erased}
 use Rattle.lt_tree.specs.Typing.Types.{CType, Void, Num, Pointer, Array, Struct, Function, Floating, Qualified, scalar_of, is_integer}
 use Rattle.lt_tree.specs.Typing.Entities.{Known, Fact}
 use Rattle.lt_tree.specs.Typing.Steps.{Outcome, Goes, Breaks}
-use Rattle.lt_tree.specs.Typing.Expressions.{Typed, Use, as_value, own_type}
+use Rattle.lt_tree.specs.Typing.Expressions.{Typed, Use, as_value, as_callee, own_type}
 use Rattle.lt_tree.specs.Typing.ExpressionTyping.{expression}
 use Rattle.lt_tree.specs.Typing.UnitTyping.{typing, answer, IsProgramOf}
 use Rattle.lt_tree.specs.Typing.Programs.{Program, Typing, typed, program_of}
@@ -83,6 +83,17 @@ module _ (g : Given) {new : ℕ → Bool} {unit : c.Unit} {program : Program} {c
   signed_found m known e there is =
       let fact = noted (is_signed_integer m) refl known.next is in
       let at = g.known.0 program.facts known as_value e there in
+      let same = some_same program.facts known.next fact.0 _ fact.1 at.2 in
+      let signed : is_signed_integer m (own_type at.0) ≡ true = subst (λ (it : Fact). is_signed_integer m it.type ≡ true) same fact.2 in
+      subst (λ (x : Typed). is_integer (own_type x) ≡ true) (sym at.1)
+      ((g.values at.0).integer ∙ signed_is_integer m (own_type at.0) signed)
+
+  -- so it is where it is called
+  pub signed_called : (m : DataModel) (known : Known) (e : c.Expression) (there : ComesToIt program.facts known as_callee e) → is_signed_integer m (type_at unit program known.next) ≡ true
+      → is_integer (own_type there.found) ≡ true
+  signed_called m known e there is =
+      let fact = noted (is_signed_integer m) refl known.next is in
+      let at = g.known.0 program.facts known as_callee e there in
       let same = some_same program.facts known.next fact.0 _ fact.1 at.2 in
       let signed : is_signed_integer m (own_type at.0) ≡ true = subst (λ (it : Fact). is_signed_integer m it.type ≡ true) same fact.2 in
       subst (λ (x : Typed). is_integer (own_type x) ≡ true) (sym at.1)

@@ -4,7 +4,7 @@ use Rattle.std.specs.Prelude.{◌==◌}
 use Rattle.lt_tree.specs.declared.expression.LogicalOp.{LogicalOp}
 use Rattle.lt_tree.specs.declared.expression.UnaryOp.TheVariants as unary
 use Rattle.lt_tree.specs.Tree as c
-use Rattle.lt_tree.specs.Typing.Types.{is_scalar}
+use Rattle.lt_tree.specs.Typing.Types.{CType, Void, Num, Pointer, Array, Struct, Function, Floating, Qualified, is_scalar, is_function}
 use Rattle.lt_tree.specs.Typing.Rules.{unless, not_scalar, bad_mark, bad_choice, bad_call}
 use Rattle.lt_tree.specs.Typing.TypedTree.{Marks}
 use Rattle.lt_tree.specs.Typing.Entities.{Known}
@@ -110,17 +110,28 @@ not_decided operand when_true when_false tag role known behind z value whole =
 
 -- what is called is the name of a function
 pub called : (f : c.Expression) (arguments : c.Expressions) (role : Use) (known k j behind : Known) (x : Typed) (xs : List Typed) (z : Typed) → expression f as_callee (entered known) ≡ Goes x k
-    → expressions arguments k ≡ Goes xs j → expression (c.Call f arguments) role known ≡ Goes z behind → (name : List ℕ) × (x.form ≡ a_designator name (own_type x))
-unfolding judge_call
+    → expressions arguments k ≡ Goes xs j → expression (c.Call f arguments) role known ≡ Goes z behind → (name : List ℕ) × (x.form ≡ a_designator name (own_type x)) × (is_function (own_type x) ≡ true)
+unfolding judge_call judge_function
 called f arguments role known k j behind x xs z first second whole =
     let at = ended j known.next role (judge_call x xs j) z behind
         (through (λ (xs : List Typed) (j : Known). finish known.next role (judge_call x xs j) j) second
         (through (λ (x : Typed) (k : Known). goes_on (expressions arguments k) (λ (xs : List Typed) (j : Known). finish known.next role (judge_call x xs j) j)) first whole)) in
     by x.form refl at.rules
   where
+    function_there : (name : List ℕ) (t : CType) → (judge_function j name t xs).faults ≡ [] → is_function t ≡ true
+    function_there name (Function result ts dots) none = refl
+    function_there name Void none = absurd cc
+    function_there name (Num n) none = absurd cc
+    function_there name (Pointer t) none = absurd cc
+    function_there name (Array t n) none = absurd cc
+    function_there name (Struct n) none = absurd cc
+    function_there name Floating none = absurd cc
+    function_there name (Qualified q t) none = absurd cc
+
     by : (form : Form) → x.form ≡ form
         → (elim (form) as (λ _. Judged) [ a_value v ↦ judgement (bad_call ∷ []) nothing | a_place place ↦ judgement (bad_call ∷ []) nothing | a_designator name type ↦ judge_function j name type xs ]).faults ≡ []
-        → (name : List ℕ) × (x.form ≡ a_designator name (own_type x))
+        → (name : List ℕ) × (x.form ≡ a_designator name (own_type x)) × (is_function (own_type x) ≡ true)
     by (a_value v) is none = absurd cc
     by (a_place place) is none = absurd cc
-    by (a_designator name t) is none = (name, is ∙ ap (a_designator name) (sym (rw is refl)))
+    by (a_designator name t) is none =
+        let type : own_type x ≡ t = rw is refl in (name, is ∙ ap (a_designator name) (sym type), ap is_function type ∙ function_there name t none)

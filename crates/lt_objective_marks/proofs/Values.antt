@@ -1,5 +1,6 @@
 -- What is read where the typing of an expression goes on is a value; that of an operator is an integer.
 use Rattle.std.proofs.Common.{◌≡◌, refl, sym, ap, ◌∙◌, subst, ℕ, ◌+◌, List, [], ◌∷◌, Bool, true, false, ◌&&◌, ◌||◌, if◌then◌else◌, Option, Some, None}
+use Rattle.std.proofs.lemmas.Bool.{false≢true}
 use Rattle.std.specs.Prelude.{length, option_and_then}
 use Rattle.lt_model.specs.declared.scalar.Scalar.{Scalar}
 use Rattle.lt_model.specs.declared.scalar.Scalar.TheVariants as S
@@ -16,7 +17,7 @@ use Rattle.lt_tree.specs.Typing.TypedTree.{before, after}
 use Rattle.lt_tree.specs.Typing.Entities.{Known, meaning_of}
 use Rattle.lt_tree.specs.Typing.Steps.{Outcome, Goes, goes_on, marked_again}
 use Rattle.lt_tree.specs.Typing.Operands.{are_integers, is_relation, is_equality}
-use Rattle.lt_tree.specs.Typing.Expressions.{a_value, a_designator, Typed, Use, as_value, as_truth, as_place, as_callee, own_type, placed, value_in, used, finish}
+use Rattle.lt_tree.specs.Typing.Expressions.{a_value, a_designator, Typed, Use, as_value, as_truth, as_place, as_callee, own_type, placed, value_in, is_read, used, finish}
 use Rattle.lt_tree.specs.Typing.Operations.{judge_name, judge_constant, judge_plus, judge_minus, judge_complement, judge_not, judge_address_of, judge_step, judge_size, judge_member, judge_arrow, judge_index, judge_call, judge_cast, member_in, target_in, text_type, pointer_among, element_size, side_of, constant_address}
 use Rattle.lt_tree.specs.Typing.BinaryOperations.{on_integers, on_pointers, compared, result_type, operation_type, judge_binary, judge_logical, judge_conditional, judge_assignment, judge_comma}
 use Rattle.lt_tree.specs.Typing.MarkRules.{label_of, judge_decide, inside_mark, inside_after, judge_after, judge_marked}
@@ -29,7 +30,11 @@ use Rattle.lt_objective_marks.proofs.Made.{EachIs, bound, ends, ends_so, one_fou
 
 -- ---- values
 
-module _ (role : Use) (valued : is_valued role ≡ true) where
+abbrev pub is_named : c.Expression → Bool
+is_named (c.Name name) = true
+is_named it = false
+
+module _ (role : Use) (valued : is_read role ≡ true) where
   of_unary : (op : UnaryOp) (operand : c.Expression) (x : Typed) (k : Known) → IsValue (is_made_plainly (c.Unary op operand)) (used role (judge_unary op x k).typed)
   unfolding judge_plus judge_minus judge_complement judge_not judge_address_of
   of_unary unary.Plus operand x k = value_of false role _ _ refl (λ p. absurd cc)
@@ -51,38 +56,48 @@ module _ (role : Use) (valued : is_valued role ≡ true) where
   unfolding judge_arrow
   of_arrow x name k = of_part true role valued (placed (e.Pointed (target_in x) (value_in x)) (constant_address x.constancy)) (option_and_then (λ t. member_in k t name) (target_of (own_type x)))
 
-  made : (it : c.Expression) (k : Known) → EachIs (IsValue (is_made_plainly it)) (expression it role k)
+  made : (it : c.Expression) (k : Known) → (is_named it ≡ true → role ≡ as_callee → ⊥) → EachIs (IsValue (is_made_plainly it)) (expression it role k)
   unfolding judge_member judge_size judge_cast judge_logical judge_conditional judge_comma judge_marked judge_decide judge_after judge_call
-  made (c.Name name) k = ends _ role _ _ (λ none. of_name true role valued name (meaning_of name k) (record k { next = k.next + 1 }) none)
-  made (c.Constant text) k = ends _ role _ _ (λ none. of_constant true role valued (constant_of k.model text))
-  made (c.Text bytes) k = ends _ role _ _ (λ none. of_text (record k { next = k.next + 1 }) bytes (length k.objects))
-  made (c.Index base index) k = bound (expression base as_value (record k { next = k.next + 1 })) (λ x j. bound (expression index as_value j) (λ y i. ends _ role _ _ (λ none. of_index x y i)))
-  made (c.Call callee arguments) k = bound (expression callee as_callee (record k { next = k.next + 1 })) (λ f j. bound (expressions arguments j) (λ xs i. ends _ role _ _ (λ none. of_call false role valued f.form xs i refl)))
-  made (c.Member base name) k = bound (expression base as_place (record k { next = k.next + 1 })) (λ x j. ends _ role _ _ (λ none. of_part true role valued x (member_in j (own_type x) name)))
-  made (c.Arrow pointer name) k = bound (expression pointer as_value (record k { next = k.next + 1 })) (λ x j. ends _ role _ _ (λ none. of_arrow x name j))
-  made (c.PostInc target) k = bound (expression target as_place (record k { next = k.next + 1 })) (λ x j. ends _ role _ _ (λ none. of_stepped true role valued before O.Add x j))
-  made (c.PostDec target) k = bound (expression target as_place (record k { next = k.next + 1 })) (λ x j. ends _ role _ _ (λ none. of_stepped true role valued before O.Sub x j))
-  made (c.PreInc target) k = bound (expression target as_place (record k { next = k.next + 1 })) (λ x j. ends _ role _ _ (λ none. of_stepped true role valued after O.Add x j))
-  made (c.PreDec target) k = bound (expression target as_place (record k { next = k.next + 1 })) (λ x j. ends _ role _ _ (λ none. of_stepped true role valued after O.Sub x j))
-  made (c.Unary op operand) k = bound (expression operand (operand_of op) (record k { next = k.next + 1 })) (λ x j. ends _ role _ _ (λ none. of_unary op operand x j))
-  made (c.SizeofExpr operand) k =
+  made (c.Name name) k other = ends _ role _ _ (λ none. of_name true role valued (other refl) name (meaning_of name k) (record k { next = k.next + 1 }) none)
+  made (c.Constant text) k other = ends _ role _ _ (λ none. of_constant true role valued (constant_of k.model text))
+  made (c.Text bytes) k other = ends _ role _ _ (λ none. of_text (record k { next = k.next + 1 }) bytes (length k.objects))
+  made (c.Index base index) k other = bound (expression base as_value (record k { next = k.next + 1 })) (λ x j. bound (expression index as_value j) (λ y i. ends _ role _ _ (λ none. of_index x y i)))
+  made (c.Call callee arguments) k other = bound (expression callee as_callee (record k { next = k.next + 1 })) (λ f j. bound (expressions arguments j) (λ xs i. ends _ role _ _ (λ none. of_call false role valued f.form xs i refl)))
+  made (c.Member base name) k other = bound (expression base as_place (record k { next = k.next + 1 })) (λ x j. ends _ role _ _ (λ none. of_part true role valued x (member_in j (own_type x) name)))
+  made (c.Arrow pointer name) k other = bound (expression pointer as_value (record k { next = k.next + 1 })) (λ x j. ends _ role _ _ (λ none. of_arrow x name j))
+  made (c.PostInc target) k other = bound (expression target as_place (record k { next = k.next + 1 })) (λ x j. ends _ role _ _ (λ none. of_stepped true role valued before O.Add x j))
+  made (c.PostDec target) k other = bound (expression target as_place (record k { next = k.next + 1 })) (λ x j. ends _ role _ _ (λ none. of_stepped true role valued before O.Sub x j))
+  made (c.PreInc target) k other = bound (expression target as_place (record k { next = k.next + 1 })) (λ x j. ends _ role _ _ (λ none. of_stepped true role valued after O.Add x j))
+  made (c.PreDec target) k other = bound (expression target as_place (record k { next = k.next + 1 })) (λ x j. ends _ role _ _ (λ none. of_stepped true role valued after O.Sub x j))
+  made (c.Unary op operand) k other = bound (expression operand (operand_of op) (record k { next = k.next + 1 })) (λ x j. ends _ role _ _ (λ none. of_unary op operand x j))
+  made (c.SizeofExpr operand) k other =
       bound (marked_again k.is_unmarked (expression operand as_place (record k { next = k.next + 1; is_unmarked = true }))) (λ x j. ends _ role _ _ (λ none. value_of true role _ _ refl (λ p. refl)))
-  made (c.SizeofType s d) k = bound (specifiers s (setting_in_sizeof d) (record k { next = k.next + 1 })) (λ it j. bound (declarator d it false (λ name known b. type_name_faults b) j) (λ t i. ends _ role _ _ (λ none. value_of true role _ _ refl (λ p. refl))))
-  made (c.Cast s d operand) k =
+  made (c.SizeofType s d) k other = bound (specifiers s (setting_in_sizeof d) (record k { next = k.next + 1 })) (λ it j. bound (declarator d it false (λ name known b. type_name_faults b) j) (λ t i. ends _ role _ _ (λ none. value_of true role _ _ refl (λ p. refl))))
+  made (c.Cast s d operand) k other =
       bound (specifiers s elsewhere (record k { next = k.next + 1 })) (λ it j. bound (declarator d it false (λ name known b. type_name_faults b) j) (λ t i. bound (expression operand as_value i) (λ x l. ends _ role _ _ (λ none. value_of false role _ _ refl (λ p. absurd cc)))))
-  made (c.Binary op left right) k = bound (expression left as_value (record k { next = k.next + 1 })) (λ x j. bound (expression right as_value j) (λ y i. ends _ role _ _ (λ none. of_binary true role valued op x y i)))
-  made (c.Logical op left right) k = bound (expression left as_truth (record k { next = k.next + 1 })) (λ x j. bound (expression right as_truth j) (λ y i. ends _ role _ _ (λ none. value_of true role _ _ refl (λ p. refl))))
-  made (c.Conditional test left right) k =
+  made (c.Binary op left right) k other = bound (expression left as_value (record k { next = k.next + 1 })) (λ x j. bound (expression right as_value j) (λ y i. ends _ role _ _ (λ none. of_binary true role valued op x y i)))
+  made (c.Logical op left right) k other = bound (expression left as_truth (record k { next = k.next + 1 })) (λ x j. bound (expression right as_truth j) (λ y i. ends _ role _ _ (λ none. value_of true role _ _ refl (λ p. refl))))
+  made (c.Conditional test left right) k other =
       bound (expression test as_truth (record k { next = k.next + 1 })) (λ p j. bound (expression left as_value j) (λ x i. bound (expression right as_value i) (λ y l. ends _ role _ _ (λ none. value_of true role _ _ refl (λ p. refl)))))
-  made (c.Assign op target value) k = bound (expression target as_place (record k { next = k.next + 1 })) (λ x j. bound (expression value as_value j) (λ y i. ends _ role _ _ (λ none. of_assignment true role valued op x y i)))
-  made (c.Comma list) k = bound (expressions list (record k { next = k.next + 1 })) (λ xs j. ends _ role _ _ (λ none. value_of true role _ _ refl (λ p. refl)))
-  made (c.Marked ms value) k = bound (marks ms (record k { next = k.next + 1 })) (λ typed j. bound (expression value (inside_mark role) j) (λ x i. ends _ role _ _ (λ none. value_of true role _ _ refl (λ p. refl))))
-  made (c.Decide operand when_true when_false tag) k = bound (expression operand (inside_mark role) (record k { next = k.next + 1 })) (λ x j. ends_so _ (ends _ role _ _ (λ none. value_of true role _ _ refl (λ p. refl))))
-  made (c.After operand id tag) k = bound (expression operand (inside_after role) (record k { next = k.next + 1 })) (λ x j. ends_so _ (ends _ role _ _ (λ none. value_of true role _ _ refl (λ p. refl))))
+  made (c.Assign op target value) k other = bound (expression target as_place (record k { next = k.next + 1 })) (λ x j. bound (expression value as_value j) (λ y i. ends _ role _ _ (λ none. of_assignment true role valued op x y i)))
+  made (c.Comma list) k other = bound (expressions list (record k { next = k.next + 1 })) (λ xs j. ends _ role _ _ (λ none. value_of true role _ _ refl (λ p. refl)))
+  made (c.Marked ms value) k other = bound (marks ms (record k { next = k.next + 1 })) (λ typed j. bound (expression value (inside_mark role) j) (λ x i. ends _ role _ _ (λ none. value_of true role _ _ refl (λ p. refl))))
+  made (c.Decide operand when_true when_false tag) k other = bound (expression operand (inside_mark role) (record k { next = k.next + 1 })) (λ x j. ends_so _ (ends _ role _ _ (λ none. value_of true role _ _ refl (λ p. refl))))
+  made (c.After operand id tag) k other = bound (expression operand (inside_after role) (record k { next = k.next + 1 })) (λ x j. ends_so _ (ends _ role _ _ (λ none. value_of true role _ _ refl (λ p. refl))))
+
+valued_is_read : (role : Use) → is_valued role ≡ true → (is_read role ≡ true) × (role ≡ as_callee → ⊥)
+valued_is_read as_value is = (refl, λ e. absurd cc)
+valued_is_read as_truth is = (refl, λ e. absurd cc)
+valued_is_read as_place is = absurd cc
+valued_is_read as_callee is = absurd cc
 
 -- what is found is a value
 pub value_found : (role : Use) → is_valued role ≡ true → (it : c.Expression) (known behind : Known) (x : Typed) → expression it role known ≡ Goes x behind → IsValue (is_made_plainly it) x
-value_found role valued it known behind x is = one_found x behind is (made role valued it known)
+value_found role valued it known behind x is = let read = valued_is_read role valued in one_found x behind is (made role read.0 it known (λ n. read.1))
+
+-- so it is where it is called, unless it is a name
+pub value_called : (it : c.Expression) (known behind : Known) (x : Typed) → is_named it ≡ false → expression it as_callee known ≡ Goes x behind → IsValue (is_made_plainly it) x
+value_called it known behind x other is = one_found x behind is (made as_callee refl it known (λ n. absurd (false≢true (sym other ∙ n))))
 
 -- ---- integers
 

@@ -43,10 +43,10 @@ UnusedInside marks used k size = (n place : ℕ) → is_used n used ≡ true →
 abbrev pub AddsInside : List NewMark → (used after : List ℕ) → (k size : ℕ) → Type 0
 AddsInside marks used after k size = (n : ℕ) → is_used n after ≡ true → (is_used n used ≡ true) ⊎ ((place : ℕ) × IsIdAt marks place n × (k < place) × (place < k + size))
 
-inside_unused : (marks : List NewMark) (used : List ℕ) (k size : ℕ) → AreUnused marks used k size → UnusedInside marks used k size
+pub inside_unused : (marks : List NewMark) (used : List ℕ) (k size : ℕ) → AreUnused marks used k size → UnusedInside marks used k size
 inside_unused marks used k size unused = λ n place is at low high. unused n place is at (omega arith, high)
 
-inside_added : (marks : List NewMark) (used after : List ℕ) (k size : ℕ) → AddsInside marks used after k size → AddsIdsOf marks used after k size
+pub inside_added : (marks : List NewMark) (used after : List ℕ) (k size : ℕ) → AddsInside marks used after k size → AddsIdsOf marks used after k size
 inside_added marks used after k size adds = λ n is. elim (adds n is) [
   | inl old ↦ inl old
   | inr it ↦ let low = it.2 in inr (it.0, it.1, (omega arith, it.3))

@@ -3,7 +3,7 @@ use Rattle.std.specs.Prelude.{◌≡◌, ◌≤◌, ◌<◌, ◌⊎◌, ℕ, suc
 use Rattle.lt_model.specs.declared.scalar.DataModel.{DataModel}
 use Rattle.lt_tree.specs.Tree as c
 use Rattle.lt_tree.specs.Nodes.{nodes}
-use Rattle.lt_tree.specs.Typing.Types.{is_scalar}
+use Rattle.lt_tree.specs.Typing.Types.{is_scalar, is_function}
 use Rattle.lt_tree.specs.Typing.MarkRules.{greatest_written_id}
 use Rattle.lt_tree.specs.Typing.Entities.{Known}
 use Rattle.lt_tree.specs.Typing.Steps.{Goes}
@@ -85,5 +85,5 @@ pub data Fits : Role → Position → Type 0 where
 abbrev pub IsTaken : Role → Position → Known → c.Expression → Type 0
 IsTaken stands.in_test position known e = (x : Typed) (next : Known) → expression e as_truth known ≡ Goes x next → is_scalar (own_type x) ≡ true
 IsTaken stands.in_truth position known e = (x : Typed) (next : Known) → expression e as_truth known ≡ Goes x next → is_scalar (own_type x) ≡ true
-IsTaken stands.as_value (in_use as_callee) known e = (x : Typed) (next : Known) → expression e as_callee known ≡ Goes x next → (name : List ℕ) × (x.form ≡ a_designator name (own_type x))
+IsTaken stands.as_value (in_use as_callee) known e = (x : Typed) (next : Known) → expression e as_callee known ≡ Goes x next → (name : List ℕ) × (x.form ≡ a_designator name (own_type x)) × (is_function (own_type x) ≡ true)
 IsTaken role position known e = Unit {0}

@@ -1,0 +1,28 @@
+//! Laws of the definitions; the functions call those on which they rest.
+
+ghost use Rattle.lt_objective_marks.specs.Laws.{ObjectivesAreAddedToExpressions};
+
+use lt_erased_typing::{
+    operands_keep_their_types, pure_expressions_are_typed_without_marks, truths_are_typed_as_values,
+};
+use lt_objective_places::{marks_are_of_one_node, objectives_stand_where_they_may, pieces_stand};
+use lt_objective_typing::{labels_of_objectives_are_new, objectives_have_predicates};
+use lt_tree_laws::nodes_are_numbered;
+use lt_typed_nodes::{operands_have_their_types, parts_are_come_to};
+
+/// The marks of objectives are added to an expression where they may stand.
+pub fn objectives_are_added_to_expressions()
+    ensures { ObjectivesAreAddedToExpressions }
+{
+    nodes_are_numbered();
+    pieces_stand();
+    objectives_stand_where_they_may();
+    marks_are_of_one_node();
+    objectives_have_predicates();
+    labels_of_objectives_are_new();
+    pure_expressions_are_typed_without_marks();
+    operands_keep_their_types();
+    truths_are_typed_as_values();
+    operands_have_their_types();
+    parts_are_come_to();
+}
