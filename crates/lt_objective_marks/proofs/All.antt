@@ -1,22 +1,12 @@
 -- All expressions have the marks of objectives.
-use Rattle.std.proofs.Common.{◌≡◌, refl, ℕ, Bool, false, List, length}
+use Rattle.std.proofs.Common.{ℕ, Bool}
 use Rattle.lt_tree.specs.Tree as c
-use Rattle.lt_tree.specs.Nodes.{in_expression}
-use Rattle.lt_tree.specs.Typing.Entities.{Known}
-use Rattle.lt_tree.specs.Typing.Expressions.{as_callee}
 use Rattle.lt_tree.specs.Typing.Programs.{Program}
 use Rattle.lt_objectives.specs.declared.criteria.Criterion.{Criterion}
-use Rattle.lt_objectives.specs.Marked.{with_marks}
-use Rattle.lt_objective_places.specs.Stands.{Role}
-use Rattle.lt_objective_places.specs.Stands as stands
-use Rattle.lt_objective_places.specs.Pieces.{an_expression, IsIn}
-use Rattle.lt_mark_typing.specs.Beside.{Position, in_use, use_of}
-use Rattle.lt_mark_typing.specs.Placed.{AddsTo}
-use Rattle.lt_typed_nodes.specs.Coming.{ComesToIt}
-use Rattle.lt_objective_marks.specs.Settings.{marks_of, Setting, AreUnused, IsAdded, Fits, IsTaken}
+use Rattle.lt_objective_marks.specs.Settings.{Setting}
 use Rattle.lt_objective_marks.specs.Laws.{ObjectivesAreAddedToExpressions}
 use Rattle.lt_objective_marks.proofs.Given.{Given}
-use Rattle.lt_objective_marks.proofs.Whole.{whole, Inner, Here}
+use Rattle.lt_objective_marks.proofs.Whole.{whole}
 use Rattle.lt_objective_marks.proofs.Expressions.{Others, inner}
 use Rattle.lt_objective_marks.proofs.Behind.{marked, after}
 use Rattle.lt_objective_marks.proofs.Casts.{cast}

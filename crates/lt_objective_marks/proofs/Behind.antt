@@ -1,7 +1,7 @@
 -- What stands behind marks and in a `pc_after` has its marks.
-use Rattle.std.proofs.Common.{◌≡◌, ◌⊎◌, inl, inr, refl, sym, ap, ◌∙◌, subst, ℕ, suc, ◌+◌, ◌<◌, ◌≤◌, List, [], ◌∷◌, ◌++◌, length, length-append, Bool, true, false, Option, arith}
+use Rattle.std.proofs.Common.{◌≡◌, inl, refl, sym, ap, ◌∙◌, subst, ℕ, suc, ◌+◌, ◌≤◌, List, length, length-append, Bool, true, false, arith}
 use Rattle.lt_tree.specs.Tree as c
-use Rattle.lt_tree.specs.Nodes.{Node, an_expression as an_expression_node, in_expression, in_marks}
+use Rattle.lt_tree.specs.Nodes.{in_expression, in_marks}
 use Rattle.lt_tree.specs.Typing.Types.{is_scalar}
 use Rattle.lt_tree.specs.Typing.TypedTree.{Marks, Value}
 use Rattle.lt_tree.specs.Typing.Entities.{Known}
@@ -11,8 +11,8 @@ use Rattle.lt_tree.specs.Typing.MarkRules.{number_of_id, inside_mark, inside_aft
 use Rattle.lt_tree.specs.Typing.ExpressionTyping.{expression, marks}
 use Rattle.lt_tree.specs.Typing.Programs.{Program}
 use Rattle.lt_objectives.specs.declared.criteria.Criterion.{Criterion}
-use Rattle.lt_objectives.specs.Objectives.{in_front, objectives}
-use Rattle.lt_objectives.specs.Marked.{labels, decided, preceded_by, within, with_marks, joined}
+use Rattle.lt_objectives.specs.Objectives.{in_front}
+use Rattle.lt_objectives.specs.Marked.{labels, decided, preceded_by, within, joined}
 use Rattle.lt_objective_places.specs.Stands.{Role}
 use Rattle.lt_objective_places.specs.Stands as stands
 use Rattle.lt_objective_places.specs.Pieces.{an_expression, IsIn, a_piece}
@@ -21,11 +21,11 @@ use Rattle.lt_mark_typing.specs.Placed.{AddsTo, AddsToParts, AreNewLabels, behin
 use Rattle.lt_mark_typing.specs.Placed as placed
 use Rattle.lt_mark_typing.proofs.Unchanged.{old_first}
 use Rattle.lt_typed_nodes.specs.Coming.{ComesToIt, entered}
-use Rattle.lt_objective_marks.specs.Settings.{Setting, AreUnused, IsAdded, Fits, a_test, a_truth, a_value, a_switch, a_callee, a_place, a_marked_place, IsTaken}
+use Rattle.lt_objective_marks.specs.Settings.{Setting, Fits, a_test, a_truth, a_value, a_switch, a_callee, a_place, a_marked_place, IsTaken}
 use Rattle.lt_objective_marks.proofs.Given.{Given}
 use Rattle.lt_objective_marks.proofs.Ends.{part_goes, same_found, same_behind, good_scalar}
 use Rattle.lt_objective_marks.proofs.Values.{value_found}
-use Rattle.lt_objective_marks.proofs.Whole.{UnusedInside, new_marks, Here, Inside, Inner, Split, split, ValuesAreMarkable}
+use Rattle.lt_objective_marks.proofs.Whole.{UnusedInside, new_marks, Here, Inside, Inner, split, ValuesAreMarkable}
 use Rattle.lt_objective_marks.proofs.Steps.{unused_of, inside_of, old_here, from_parts, number_behind}
 use Rattle.lt_objective_marks.proofs.Taken.{behind_marks_type, after_type}
 use Rattle.lt_objective_marks.proofs.Parts.{first_in, one}
@@ -41,11 +41,17 @@ module _ (g : Given) {new : ℕ → Bool} {unit : c.Unit} {program : Program} {c
       → Fits role position → IsIn unit next.next (an_expression role d) → next.is_unmarked ≡ false → (whole : ComesToIt program.facts known (use_of position) (c.Marked ms d)) → IsTaken role position known (c.Marked ms d)
       → ComesToIt program.facts next (inside_mark (use_of position)) d → Here g s role (behind_marks position) next d
   behind_here known next ms d typed goes a_test isin marked whole taken comes = record {
-    isin = isin; fits = a_test; marked = marked; comes = comes;
+    isin = isin;
+    fits = a_test;
+    marked = marked;
+    comes = comes;
     taken = λ x j there. ap is_scalar (sym (behind_marks_type ms d as_truth known next j whole.behind typed x whole.found goes there whole.goes).0) ∙ taken whole.found whole.behind whole.goes;
   }
   behind_here known next ms d typed goes a_truth isin marked whole taken comes = record {
-    isin = isin; fits = a_truth; marked = marked; comes = comes;
+    isin = isin;
+    fits = a_truth;
+    marked = marked;
+    comes = comes;
     taken = λ x j there. ap is_scalar (sym (behind_marks_type ms d as_truth known next j whole.behind typed x whole.found goes there whole.goes).0) ∙ taken whole.found whole.behind whole.goes;
   }
   behind_here known next ms d typed goes a_value isin marked whole taken comes = record { isin = isin; fits = a_value; marked = marked; comes = comes; taken = tt }
@@ -67,7 +73,7 @@ module _ (g : Given) {new : ℕ → Bool} {unit : c.Unit} {program : Program} {c
   marked ms d inner_d role position used known h unused =
       let e = c.Marked ms d in
       let goes = part_goes (marks ms (entered known)) (λ (typed : Marks) (k : Known). goes_on (expression d (inside_mark (use_of position)) k)
-          (λ (x : Typed) (j : Known). finish known.next (use_of position) (judge_marked typed x) j)) h.comes.goes in
+      (λ (x : Typed) (j : Known). finish known.next (use_of position) (judge_marked typed x) j)) h.comes.goes in
       let typed = goes.0 in
       let next = goes.1 in
       let comes = g.operands.0 program.facts known (use_of position) e h.comes typed next goes.2 in
@@ -79,11 +85,11 @@ module _ (g : Given) {new : ℕ → Bool} {unit : c.Unit} {program : Program} {c
       let here = behind_here known next ms d typed goes.2 h.fits (subst (λ n. IsIn unit n (an_expression role d)) (sym number) (a_piece h.isin (inl refl))) is_open h.comes h.taken comes in
       let fits : next.next + length (in_expression d) ≤ known.next + length (in_expression e) = omega (arith, size, number) in
       let it = split g s role (behind_marks position) used next d here (not_called h.fits) inner_d
-          (unused_of (new_marks g s) used known.next (length (in_expression e)) next.next (length (in_expression d)) (omega (arith, number)) fits unused) in
+      (unused_of (new_marks g s) used known.next (length (in_expression e)) next.next (length (in_expression d)) (omega (arith, number)) fits unused) in
       let parts : AddsToParts new position used it.after known e (c.Marked (placed.joined ms (labels in_front (new_marks g s) next.next)) (decided (new_marks g s) next.next (within (new_marks g s) next.next d))) =
-          placed.Marked (labels in_front (new_marks g s) next.next) (old_first new (in_marks ms) (in_expression d) (old_here g s known.next e h.isin).1)
-          (λ t n there. subst (λ n. (n.is_unmarked ≡ false) × AreNewLabels new used it.between n (labels in_front (new_marks g s) next.next)) (same_behind goes.2 there) (is_open, it.labels))
-          (λ t n there. subst (λ n. AddsTo new (behind_marks position) it.between it.after n d (decided (new_marks g s) next.next (within (new_marks g s) next.next d))) (same_behind goes.2 there) it.added) in
+      placed.Marked (labels in_front (new_marks g s) next.next) (old_first new (in_marks ms) (in_expression d) (old_here g s known.next e h.isin).1)
+      (λ t n there. subst (λ n. (n.is_unmarked ≡ false) × AreNewLabels new used it.between n (labels in_front (new_marks g s) next.next)) (same_behind goes.2 there) (is_open, it.labels))
+      (λ t n there. subst (λ n. AddsTo new (behind_marks position) it.between it.after n d (decided (new_marks g s) next.next (within (new_marks g s) next.next d))) (same_behind goes.2 there) it.added) in
       from_parts g s role position used it.after known e h
       (subst (λ n. AddsToParts new position used it.after known e (c.Marked (joined ms (labels in_front (new_marks g s) n)) (decided (new_marks g s) n (within (new_marks g s) n d)))) number
       (subst (λ ls. AddsToParts new position used it.after known e (c.Marked ls (decided (new_marks g s) next.next (within (new_marks g s) next.next d)))) (joined_same ms (labels in_front (new_marks g s) next.next)) parts))
@@ -98,7 +104,7 @@ module _ (g : Given) {new : ℕ → Bool} {unit : c.Unit} {program : Program} {c
       let whole = c.After e number tag in
       let old = (old_here g s known.next whole h.isin).0 in
       let it = split g s stands.in_truth (in_use as_truth) used (entered known) e here (λ is. not_truth is) inner_e
-          (unused_of (new_marks g s) used known.next (length (in_expression whole)) (known.next + 1) (length (in_expression e)) (omega arith) (omega arith) unused) in
+      (unused_of (new_marks g s) used known.next (length (in_expression whole)) (known.next + 1) (length (in_expression e)) (omega arith) (omega arith) unused) in
       from_parts g s role position used it.after known whole h (by (labels in_front (new_marks g s) (known.next + 1)) old it.labels it.added)
       (inside_of (new_marks g s) used it.after known.next (length (in_expression whole)) (known.next + 1) (length (in_expression e)) (omega arith) (omega arith) it.ids)
     where

@@ -1,12 +1,12 @@
 -- No label stands in front of what is called.
-use Rattle.std.proofs.Common.{◌≡◌, ◌⊎◌, inl, inr, refl, sym, ap, ◌∙◌, subst, ℕ, ◌+◌, ◌<◌, ◌≤◌, List, [], length, Bool, true, false, arith}
+use Rattle.std.proofs.Common.{◌≡◌, refl, sym, subst, ℕ, List, [], length, Bool, true, false, arith}
 use Rattle.lt_tree.specs.Tree as c
 use Rattle.lt_tree.specs.Nodes.{in_expression}
 use Rattle.lt_tree.specs.Erasure.{erased}
-use Rattle.lt_tree.specs.Typing.Types.{is_scalar, is_integer}
+use Rattle.lt_tree.specs.Typing.Types.{is_integer}
 use Rattle.lt_tree.specs.Typing.TypedTree.{Value}
 use Rattle.lt_tree.specs.Typing.Entities.{Known}
-use Rattle.lt_tree.specs.Typing.Expressions.{Form, a_value as a_value_form, a_designator, Typed, as_value, as_callee, own_type}
+use Rattle.lt_tree.specs.Typing.Expressions.{a_value as a_value_form, a_designator, as_callee, own_type}
 use Rattle.lt_tree.specs.Typing.Programs.{Program}
 use Rattle.lt_objectives.specs.declared.criteria.Criterion.{Criterion}
 use Rattle.lt_objectives.specs.declared.criteria.Criterion.TheVariants as C
@@ -16,7 +16,6 @@ use Rattle.lt_objectives.specs.Objectives.{in_front, Objective, mutants}
 use Rattle.lt_objectives.specs.Marked.{labels, decided, preceded_by, within, with_marks}
 use Rattle.lt_objective_places.specs.Stands.{MayStand}
 use Rattle.lt_objective_places.specs.Stands as stands
-use Rattle.lt_objective_places.specs.Pieces.{an_expression, IsIn}
 use Rattle.lt_mark_typing.specs.Beside.{in_use}
 use Rattle.lt_mark_typing.specs.Placed.{AddsTo}
 use Rattle.lt_typed_nodes.specs.Coming.{ComesToIt}

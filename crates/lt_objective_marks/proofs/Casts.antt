@@ -1,14 +1,13 @@
 -- The operand of a cast has its marks.
-use Rattle.std.proofs.Common.{◌≡◌, inl, refl, sym, ap, ◌∙◌, subst, ℕ, suc, ◌+◌, ◌<◌, ◌≤◌, List, [], ◌∷◌, ◌++◌, length, length-append, Bool, false, Option, arith}
+use Rattle.std.proofs.Common.{◌≡◌, inl, refl, ap, ◌∙◌, subst, ℕ, suc, ◌+◌, ◌≤◌, ◌++◌, length, length-append, Bool, false, arith}
 use Rattle.lt_tree.specs.Tree as c
 use Rattle.lt_tree.specs.Nodes.{in_expression, in_specifiers, in_declarator}
-use Rattle.lt_tree.specs.Typing.Rules.{Rule}
 use Rattle.lt_tree.specs.Typing.Entities.{Known}
-use Rattle.lt_tree.specs.Typing.Steps.{Outcome, Goes, goes_on}
-use Rattle.lt_tree.specs.Typing.Expressions.{Typed, Use, as_value, as_callee, finish}
+use Rattle.lt_tree.specs.Typing.Steps.{Outcome, goes_on}
+use Rattle.lt_tree.specs.Typing.Expressions.{Typed, as_value, as_callee, finish}
 use Rattle.lt_tree.specs.Typing.Operations.{judge_cast}
 use Rattle.lt_tree.specs.Typing.Specifying.{Specified, elsewhere}
-use Rattle.lt_tree.specs.Typing.Declarators.{Built, Declares, type_name_faults}
+use Rattle.lt_tree.specs.Typing.Declarators.{Declares, type_name_faults}
 use Rattle.lt_tree.specs.Typing.NodeEnds.{also}
 use Rattle.lt_tree.specs.Typing.ExpressionTyping.{expression, specifiers, declarator}
 use Rattle.lt_tree.specs.Typing.Programs.{Program}
@@ -16,15 +15,15 @@ use Rattle.lt_objectives.specs.declared.criteria.Criterion.{Criterion}
 use Rattle.lt_objectives.specs.Marked.{with_marks}
 use Rattle.lt_objective_places.specs.Stands as stands
 use Rattle.lt_objective_places.specs.Pieces.{a_piece}
-use Rattle.lt_mark_typing.specs.Beside.{Position, in_use, use_of}
+use Rattle.lt_mark_typing.specs.Beside.{in_use, use_of}
 use Rattle.lt_mark_typing.specs.Placed.{AreOld, AddsTo, any_type_name}
 use Rattle.lt_mark_typing.specs.Placed as placed
 use Rattle.lt_mark_typing.proofs.Unchanged.{old_first, old_second}
-use Rattle.lt_typed_nodes.specs.Coming.{ComesToIt, entered}
+use Rattle.lt_typed_nodes.specs.Coming.{entered}
 use Rattle.lt_objective_marks.specs.Settings.{Setting, a_value}
 use Rattle.lt_objective_marks.proofs.Given.{Given}
 use Rattle.lt_objective_marks.proofs.Ends.{ended, through, part_goes, same_found, same_behind}
-use Rattle.lt_objective_marks.proofs.Whole.{UnusedInside, new_marks, Here, Inside, Inner, ValuesAreMarkable}
+use Rattle.lt_objective_marks.proofs.Whole.{new_marks, Inner, ValuesAreMarkable}
 use Rattle.lt_objective_marks.proofs.Steps.{unused_of, inside_of, old_here, from_parts, number_behind}
 use Rattle.lt_objective_marks.proofs.Parts.{operand}
 
@@ -52,14 +51,14 @@ module _ (g : Given) {new : ℕ → Bool} {unit : c.Unit} {program : Program} {c
       let comes = g.operands.0 program.facts known taken e h.comes a.0 a.1 a.2 b.0 b.1 b.2 in
       let at = ended comes.behind known.next taken (also b.0.faults (judge_cast b.0.type comes.found comes.behind)) h.comes.found h.comes.behind (through (last b.0) comes.goes behind_b) in
       let size : length (in_expression e) ≡ suc (length (in_specifiers types) + length (in_declarator d) + length (in_expression operated)) =
-          ap suc (length-append (in_specifiers types ++ in_declarator d) (in_expression operated) ∙ ap (λ n. n + length (in_expression operated)) (length-append (in_specifiers types) (in_declarator d))) in
+      ap suc (length-append (in_specifiers types ++ in_declarator d) (in_expression operated) ∙ ap (λ n. n + length (in_expression operated)) (length-append (in_specifiers types) (in_declarator d))) in
       let n = known.next + 1 + length (in_specifiers types) + length (in_declarator d) in
       let number : b.1.next ≡ n = omega (arith, ap (λ (it : Known). it.next) at.next, number_behind g s e taken known h.comes, number_behind g s operated as_value b.1 comes, size) in
       let is_open = g.unmarked.declarator d a.0 false (λ name known b. type_name_faults b) a.1 b.0 b.1 b.2 ∙ g.unmarked.specifiers types elsewhere (entered known) a.0 a.1 a.2 ∙ h.marked in
       let fits : n + length (in_expression operated) ≤ known.next + length (in_expression e) = omega (arith, size) in
       let it = operand g s markable stands.as_value (in_use as_value) used b.1 operated n
-          (record { number = number; isin = a_piece h.isin (inl refl); fits = a_value; marked = is_open; comes = comes; taken = tt }) no_truth no_callee inner_e
-          (unused_of (new_marks g s) used known.next (length (in_expression e)) n (length (in_expression operated)) (omega arith) fits unused) in
+      (record { number = number; isin = a_piece h.isin (inl refl); fits = a_value; marked = is_open; comes = comes; taken = tt }) no_truth no_callee inner_e
+      (unused_of (new_marks g s) used known.next (length (in_expression e)) n (length (in_expression operated)) (omega arith) fits unused) in
       let old = (old_here g s known.next e h.isin).1 in
       let front = old_first new (in_specifiers types ++ in_declarator d) (in_expression operated) old in
       from_parts g s role position used it.after known e h

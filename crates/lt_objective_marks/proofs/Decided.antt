@@ -1,6 +1,6 @@
 -- The new `pc_decide` around an expression.
-use Rattle.std.proofs.Common.{◌≡◌, ◌⊎◌, inl, inr, refl, sym, ap, ◌∙◌, subst, ℕ, suc, ◌+◌, ◌<◌, ◌≤◌, List, [], ◌∷◌, ◌++◌, length, Bool, true, false, ◌&&◌, if◌then◌else◌, eqb, Some, arith}
-use Rattle.std.proofs.lemmas.Bool.{false≢true, eqb-true}
+use Rattle.std.proofs.Common.{◌≡◌, inl, refl, sym, ap, ◌∙◌, subst, ℕ, suc, ◌+◌, ◌<◌, ◌≤◌, List, [], ◌∷◌, ◌++◌, Bool, true, false, ◌&&◌, if◌then◌else◌, eqb, Some, arith}
+use Rattle.std.proofs.lemmas.Bool.{eqb-true}
 use Rattle.std.specs.Prelude.{pos, codes}
 use Rattle.std.specs.Fmt.{decimal}
 use Rattle.lt_model.specs.declared.scalar.DataModel.{DataModel}
@@ -15,21 +15,21 @@ use Rattle.lt_tree.specs.Typing.Programs.{Program}
 use Rattle.lt_objectives.specs.declared.criteria.Criterion.{Criterion}
 use Rattle.lt_objectives.specs.Criteria.{tag_of}
 use Rattle.lt_objectives.specs.Decisions.{one, decisions, clauses}
-use Rattle.lt_objectives.specs.Places.{part, core, is_open}
-use Rattle.lt_objectives.specs.Objectives.{in_front, around, Objective, objective, all_at, is_core, at_test, differences, at_expression, decided_at, objectives}
-use Rattle.lt_objectives.specs.Marked.{NewMark, numbered, next_id, labels, decided}
+use Rattle.lt_objectives.specs.Places.{core, is_open}
+use Rattle.lt_objectives.specs.Objectives.{in_front, around, Objective, objective, is_core, at_test, differences, at_expression, decided_at, objectives}
+use Rattle.lt_objectives.specs.Marked.{numbered, next_id, labels, decided}
 use Rattle.lt_objective_places.specs.Stands.{IsAmong, Role, in_test, can_be_decided}
 use Rattle.lt_objective_places.specs.Pieces.{an_expression, IsIn}
 use Rattle.lt_objective_places.specs.Laws.{AreTogether, DecidedAreOf}
 use Rattle.lt_mark_typing.specs.Beside.{is_used}
 use Rattle.lt_mark_typing.specs.Placed.{IsNewId}
 use Rattle.lt_mark_typing.proofs.Predicates.{constant_there, integer_there}
-use Rattle.lt_objective_typing.specs.Laws.{ArePredicates, AddsIds}
+use Rattle.lt_objective_typing.specs.Laws.{AddsIds}
 use Rattle.lt_objective_marks.specs.Settings.{marks_of, Setting, IsIdAt}
 use Rattle.lt_objective_marks.proofs.Given.{Given}
 use Rattle.lt_objective_marks.proofs.Shapes as shapes
 use Rattle.lt_objective_marks.proofs.Shapes.{Shape, shape}
-use Rattle.lt_objective_marks.proofs.Labels.{core_is, none_decided, marks, among_all, id_among, least_id, last_id, labels_of}
+use Rattle.lt_objective_marks.proofs.Labels.{core_is, none_decided, among_all, id_among, least_id, last_id}
 
 -- ---- two new ids
 

@@ -1,5 +1,5 @@
 -- How nodes end whose typing goes on.
-use Rattle.std.proofs.Common.{◌≡◌, refl, sym, ap, ◌∙◌, subst, ℕ, List, [], ◌∷◌, ◌++◌, Bool, true, false, not, ◌&&◌, ◌||◌, length}
+use Rattle.std.proofs.Common.{◌≡◌, refl, sym, ap, ◌∙◌, ℕ, List, [], ◌∷◌, ◌++◌, Bool, true, false, not, ◌&&◌, ◌||◌, length}
 use Rattle.std.specs.Prelude.{nat_lt}
 use Rattle.lt_tree.specs.Typing.Types.{CType, Void, Num, Pointer, Array, Struct, Function, Floating, Qualified, is_scalar, is_integer, is_pointer, is_function, is_floating, is_pointer_to_function, element}
 use Rattle.lt_tree.specs.Typing.Extents.{Structs, most_cells, type_cells, has_too_many_cells, struct_cells}

@@ -1,30 +1,29 @@
 -- All expressions have their marks, from their parts on.
-use Rattle.std.proofs.Common.{◌≡◌, ◌⊎◌, inl, inr, refl, sym, ap, ◌∙◌, subst, ℕ, suc, ◌+◌, ◌<◌, ◌≤◌, List, [], ◌∷◌, ◌++◌, length, length-append, Bool, true, false, Option, arith}
+use Rattle.std.proofs.Common.{◌≡◌, inl, inr, refl, ap, ◌∙◌, subst, ℕ, suc, ◌+◌, ◌≤◌, List, ◌∷◌, ◌++◌, length, length-append, Bool, false, arith}
 use Rattle.lt_tree.specs.declared.expression.UnaryOp.TheVariants as unary
 use Rattle.lt_tree.specs.Tree as c
 use Rattle.lt_tree.specs.Nodes.{Node, an_expression as an_expression_node, in_expression, in_expressions}
 use Rattle.lt_tree.specs.Typing.Entities.{Known}
-use Rattle.lt_tree.specs.Typing.Steps.{Goes}
-use Rattle.lt_tree.specs.Typing.Expressions.{Typed, Use, as_value, as_truth, as_place, as_callee}
+use Rattle.lt_tree.specs.Typing.Expressions.{Use, as_value, as_truth, as_place, as_callee}
 use Rattle.lt_tree.specs.Typing.MarkRules.{is_truth}
 use Rattle.lt_tree.specs.Typing.ExpressionTyping.{expression}
 use Rattle.lt_tree.specs.Typing.Programs.{Program}
 use Rattle.lt_objectives.specs.declared.criteria.Criterion.{Criterion}
 use Rattle.lt_objectives.specs.Objectives.{Objective, objectives}
-use Rattle.lt_objectives.specs.Marked.{NewMark, numbered, within_all, with_marks}
+use Rattle.lt_objectives.specs.Marked.{numbered, within_all, with_marks}
 use Rattle.lt_objective_places.specs.Stands.{Role}
 use Rattle.lt_objective_places.specs.Stands as stands
-use Rattle.lt_objective_places.specs.Pieces.{an_expression, expressions as several, IsIn, a_piece}
+use Rattle.lt_objective_places.specs.Pieces.{expressions as several, IsIn, a_piece}
 use Rattle.lt_mark_typing.specs.Beside.{Position, in_use, in_test, use_of}
 use Rattle.lt_mark_typing.specs.Placed.{AreOld, AddsTo, AddsToAll}
 use Rattle.lt_mark_typing.specs.Placed as placed
 use Rattle.lt_typed_nodes.specs.Coming.{ComesToIt, ComesToAll, entered}
-use Rattle.lt_objective_marks.specs.Settings.{Setting, AreUnused, AddsIdsOf, IsAdded, Fits, a_test, a_truth, a_value, a_switch, a_callee, a_place, a_marked_place}
+use Rattle.lt_objective_marks.specs.Settings.{Setting, AreUnused, IsAdded, a_test, a_value, a_callee, a_place}
 use Rattle.lt_objective_marks.proofs.Given.{Given}
 use Rattle.lt_objective_marks.proofs.Ids.{fewer_unused, more_added, then_added, behind}
 use Rattle.lt_objective_marks.proofs.Ends.{same_behind}
 use Rattle.lt_objective_marks.proofs.Whole.{UnusedInside, new_marks, Here, Inside, Inner, ValuesAreMarkable}
-use Rattle.lt_objective_marks.proofs.Steps.{unused_of, inside_of, Two, two, at_behind, old_here, from_parts, as_it_stands, number_behind}
+use Rattle.lt_objective_marks.proofs.Steps.{unused_of, inside_of, two, at_behind, old_here, from_parts, as_it_stands, number_behind}
 use Rattle.lt_objective_marks.proofs.Taken.{both_scalars, negated_scalar, tested_scalar, decided_scalar, not_decided, called}
 use Rattle.lt_objective_marks.proofs.Parts.{Added, Operand, operand, first_in, second_in, one, both}
 
@@ -227,14 +226,14 @@ module _ (g : Given) {new : ℕ → Bool} {unit : c.Unit} {program : Program} {c
           let j = known.next + 1 + length (in_expression f) in
           let size = two_sizes (an_expression_node e) (in_expression f) (in_expressions arguments) in
           let it = two id (objectives unit program criterion) used known.next (length (in_expression e)) (known.next + 1) (length (in_expression f)) j (length (in_expressions arguments))
-              {F = λ between. AddsTo new (in_use as_callee) used between (entered known) f (with_marks (new_marks g s) (known.next + 1) f)}
-              {G = λ between after. AddsToAll new between after first.behind arguments (within_all (new_marks g s) j arguments)}
-              (omega arith) (omega arith) (omega (arith, size)) unused
-              (others.callee used (entered known) f (known.next + 1)
-              (first_in g s markable role position used known e f stands.as_value (in_use as_callee) h (a_piece h.isin (inl refl)) a_callee first
-              (λ x next goes. let more = ops.1 x next goes in called f arguments (use_of position) known next more.behind h.comes.behind x more.found h.comes.found goes more.goes h.comes.goes)) (inner f))
-              (λ between. all arguments between first.behind j (number_behind g s f as_callee (entered known) first) (a_piece h.isin (inr (inl refl)))
-              (g.unmarked.expression f as_callee (entered known) first.found first.behind first.goes ∙ h.marked) (ops.1 first.found first.behind first.goes)) in
+          {F = λ between. AddsTo new (in_use as_callee) used between (entered known) f (with_marks (new_marks g s) (known.next + 1) f)}
+          {G = λ between after. AddsToAll new between after first.behind arguments (within_all (new_marks g s) j arguments)}
+          (omega arith) (omega arith) (omega (arith, size)) unused
+          (others.callee used (entered known) f (known.next + 1)
+          (first_in g s markable role position used known e f stands.as_value (in_use as_callee) h (a_piece h.isin (inl refl)) a_callee first
+          (λ x next goes. let more = ops.1 x next goes in called f arguments (use_of position) known next more.behind h.comes.behind x more.found h.comes.found goes more.goes h.comes.goes)) (inner f))
+          (λ between. all arguments between first.behind j (number_behind g s f as_callee (entered known) first) (a_piece h.isin (inr (inl refl)))
+          (g.unmarked.expression f as_callee (entered known) first.found first.behind first.goes ∙ h.marked) (ops.1 first.found first.behind first.goes)) in
           from_parts g s role position used it.after known e h
           (placed.Call it.first (at_behind first.goes (λ next. AddsToAll new it.between it.after next arguments (within_all (new_marks g s) j arguments)) it.second)) it.ids
       inner (c.Conditional test left right) role position used known h unused =
@@ -251,22 +250,22 @@ module _ (g : Given) {new : ℕ → Bool} {unit : c.Unit} {program : Program} {c
           let test_number = number_behind g s test as_truth (entered known) p in
           let left_number : x.behind.next ≡ j = omega (arith, number_behind g s left as_value p.behind x, test_number) in
           let it = two id (objectives unit program criterion) used known.next (length (in_expression e)) (known.next + 1) (length (in_expression test)) i (length (in_expression left) + length (in_expression right))
-              {F = λ first. AddsTo new in_test used first (entered known) test (with_marks (new_marks g s) (known.next + 1) test)}
-              {G = λ first after. (second : List ℕ) × AddsTo new (in_use as_value) first second p.behind left (with_marks (new_marks g s) i left)
-              × AddsTo new (in_use as_value) second after x.behind right (with_marks (new_marks g s) j right)}
-              (omega arith) (omega arith) (omega (arith, sizes)) unused
-              (operand g s markable stands.in_test in_test used (entered known) test (known.next + 1)
-              (first_in g s markable role position used known e test stands.in_test in_test h (a_piece h.isin (inl refl)) a_test p
-              (λ p next goes. let more = ops.0.1 p next goes in let most = ops.1 p next goes more.found more.behind more.goes in
-              tested_scalar test left right (use_of position) known next more.behind most.behind h.comes.behind p more.found most.found h.comes.found goes more.goes most.goes h.comes.goes)) no_truth_test no_callee_test (inner test))
-              (λ first unused. pair_added id (objectives unit program criterion) first i (length (in_expression left) + length (in_expression right)) i (length (in_expression left)) j (length (in_expression right))
-              {F = λ second. AddsTo new (in_use as_value) first second p.behind left (with_marks (new_marks g s) i left)}
-              {G = λ second after. AddsTo new (in_use as_value) second after x.behind right (with_marks (new_marks g s) j right)}
-              (omega arith) (omega arith) (omega arith) unused
-              (operand g s markable stands.as_value (in_use as_value) first p.behind left i
-              (record { number = test_number; isin = a_piece h.isin (inr (inl refl)); fits = a_value; marked = test_marked; comes = x; taken = tt }) no_truth_value no_callee_value (inner left))
-              (λ second. operand g s markable stands.as_value (in_use as_value) second x.behind right j
-              (record { number = left_number; isin = a_piece h.isin (inr (inr (inl refl))); fits = a_value; marked = left_marked; comes = y; taken = tt }) no_truth_value no_callee_value (inner right))) in
+          {F = λ first. AddsTo new in_test used first (entered known) test (with_marks (new_marks g s) (known.next + 1) test)}
+          {G = λ first after. (second : List ℕ) × AddsTo new (in_use as_value) first second p.behind left (with_marks (new_marks g s) i left)
+          × AddsTo new (in_use as_value) second after x.behind right (with_marks (new_marks g s) j right)}
+          (omega arith) (omega arith) (omega (arith, sizes)) unused
+          (operand g s markable stands.in_test in_test used (entered known) test (known.next + 1)
+          (first_in g s markable role position used known e test stands.in_test in_test h (a_piece h.isin (inl refl)) a_test p
+          (λ p next goes. let more = ops.0.1 p next goes in let most = ops.1 p next goes more.found more.behind more.goes in
+          tested_scalar test left right (use_of position) known next more.behind most.behind h.comes.behind p more.found most.found h.comes.found goes more.goes most.goes h.comes.goes)) no_truth_test no_callee_test (inner test))
+          (λ first unused. pair_added id (objectives unit program criterion) first i (length (in_expression left) + length (in_expression right)) i (length (in_expression left)) j (length (in_expression right))
+          {F = λ second. AddsTo new (in_use as_value) first second p.behind left (with_marks (new_marks g s) i left)}
+          {G = λ second after. AddsTo new (in_use as_value) second after x.behind right (with_marks (new_marks g s) j right)}
+          (omega arith) (omega arith) (omega arith) unused
+          (operand g s markable stands.as_value (in_use as_value) first p.behind left i
+          (record { number = test_number; isin = a_piece h.isin (inr (inl refl)); fits = a_value; marked = test_marked; comes = x; taken = tt }) no_truth_value no_callee_value (inner left))
+          (λ second. operand g s markable stands.as_value (in_use as_value) second x.behind right j
+          (record { number = left_number; isin = a_piece h.isin (inr (inr (inl refl))); fits = a_value; marked = left_marked; comes = y; taken = tt }) no_truth_value no_callee_value (inner right))) in
           from_parts g s role position used it.after known e h
           (placed.Conditional it.first
           (at_behind p.goes (λ next. AddsTo new (in_use as_value) it.between it.second.0 next left (with_marks (new_marks g s) i left)) it.second.1)
@@ -276,7 +275,7 @@ module _ (g : Given) {new : ℕ → Bool} {unit : c.Unit} {program : Program} {c
           let e = c.Comma list in
           let ops = g.operands.0 program.facts known (use_of position) e h.comes in
           let it = all list used (entered known) (known.next + 1) refl (a_piece h.isin (inl refl)) h.marked ops
-              (unused_of (new_marks g s) used known.next (length (in_expression e)) (known.next + 1) (length (in_expressions list)) (omega arith) (omega arith) unused) in
+          (unused_of (new_marks g s) used known.next (length (in_expression e)) (known.next + 1) (length (in_expressions list)) (omega arith) (omega arith) unused) in
           from_parts g s role position used it.after known e h (placed.Comma it.added)
           (inside_of (new_marks g s) used it.after known.next (length (in_expression e)) (known.next + 1) (length (in_expressions list)) (omega arith) (omega arith) it.ids)
       inner (c.Decide d when_true when_false tag) role position used known h unused = decide d when_true when_false tag role position used known h unused (inner d)
@@ -288,13 +287,13 @@ module _ (g : Given) {new : ℕ → Bool} {unit : c.Unit} {program : Program} {c
           let first = each.0 in
           let size = length-append (in_expression e) (in_expressions es) in
           let it = pair_added id (objectives unit program criterion) used k (length (in_expressions (c.an_expression e es))) k (length (in_expression e)) (k + length (in_expression e)) (length (in_expressions es))
-              {F = λ between. AddsTo new (in_use as_value) used between known e (with_marks (new_marks g s) k e)}
-              {G = λ between after. AddsToAll new between after first.behind es (within_all (new_marks g s) (k + length (in_expression e)) es)}
-              (omega arith) (omega arith) (omega (arith, size)) unused
-              (operand g s markable stands.as_value (in_use as_value) used known e k
-              (record { number = number; isin = a_piece isin (inl refl); fits = a_value; marked = marked; comes = first; taken = tt }) no_truth_value no_callee_value (inner e))
-              (λ between. all es between first.behind (k + length (in_expression e)) (number_behind g s e as_value known first ∙ ap (λ n. n + length (in_expression e)) number) (a_piece isin (inr (inl refl)))
-              (g.unmarked.expression e as_value known first.found first.behind first.goes ∙ marked) (each.1 first.found first.behind first.goes)) in
+          {F = λ between. AddsTo new (in_use as_value) used between known e (with_marks (new_marks g s) k e)}
+          {G = λ between after. AddsToAll new between after first.behind es (within_all (new_marks g s) (k + length (in_expression e)) es)}
+          (omega arith) (omega arith) (omega (arith, size)) unused
+          (operand g s markable stands.as_value (in_use as_value) used known e k
+          (record { number = number; isin = a_piece isin (inl refl); fits = a_value; marked = marked; comes = first; taken = tt }) no_truth_value no_callee_value (inner e))
+          (λ between. all es between first.behind (k + length (in_expression e)) (number_behind g s e as_value known first ∙ ap (λ n. n + length (in_expression e)) number) (a_piece isin (inr (inl refl)))
+          (g.unmarked.expression e as_value known first.found first.behind first.goes ∙ marked) (each.1 first.found first.behind first.goes)) in
           record {
             after = it.after;
             added = placed.an_expression it.added.1 (at_behind first.goes (λ next. AddsToAll new it.added.0 it.after next es (within_all (new_marks g s) (k + length (in_expression e)) es)) it.added.2);

@@ -1,13 +1,11 @@
 -- Which ids marks have: each is of one place.
-use Rattle.std.proofs.Common.{◌≡◌, ◌⊎◌, inl, inr, refl, sym, ap, ◌∙◌, subst, ℕ, suc, ◌+◌, ◌<◌, ◌≤◌, List, [], ◌∷◌, ◌++◌, length, Bool, true, false, eqb, eq-eqb, arith}
+use Rattle.std.proofs.Common.{◌≡◌, ◌⊎◌, inl, inr, refl, sym, ap, ◌∙◌, subst, ℕ, ◌+◌, ◌<◌, ◌≤◌, List, [], ◌∷◌, ◌++◌, length, true, false, eqb, eq-eqb, arith}
 use Rattle.std.proofs.lemmas.Bool.{false≢true, eqb-true}
 use Rattle.lt_tree.specs.Tree as c
 use Rattle.lt_objectives.specs.declared.criteria.Criterion.{Criterion}
 use Rattle.lt_objectives.specs.Objectives.{Form, Objective, objective, all_at}
 use Rattle.lt_objectives.specs.Marked.{NewMark, ids_of, numbered, next_id}
-use Rattle.lt_mark_typing.specs.Beside.{is_used}
 use Rattle.lt_objective_places.specs.Stands.{IsAmong, IsWithin}
-use Rattle.lt_objective_places.proofs.Among.{in_first, in_second}
 use Rattle.lt_objective_marks.specs.Settings.{IsIdAt, AreUnused, AddsIdsOf}
 
 -- ---- numbers

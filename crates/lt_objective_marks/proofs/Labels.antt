@@ -1,22 +1,19 @@
 -- The new labels in front of an expression, and the new `pc_decide` around it.
-use Rattle.std.proofs.Common.{◌≡◌, ◌⊎◌, inl, inr, refl, sym, ap, ◌∙◌, subst, ℕ, suc, ◌+◌, ◌<◌, ◌≤◌, List, [], ◌∷◌, ◌++◌, length, Bool, true, false, ◌&&◌, if◌then◌else◌, eqb, arith}
-use Rattle.std.proofs.lemmas.Bool.{false≢true, eqb-true}
-use Rattle.std.specs.Fmt.{decimal}
+use Rattle.std.proofs.Common.{◌≡◌, ◌⊎◌, inl, inr, refl, sym, ap, ◌∙◌, subst, ℕ, ◌+◌, ◌<◌, ◌≤◌, List, [], ◌∷◌, ◌++◌, length, Bool, true, false, arith}
+use Rattle.std.proofs.lemmas.Bool.{false≢true}
 use Rattle.lt_tree.specs.Tree as c
 use Rattle.lt_tree.specs.Erasure.{erased}
-use Rattle.lt_tree.specs.Purity.{is_pure}
 use Rattle.lt_tree.specs.Typing.Types.{is_scalar}
 use Rattle.lt_tree.specs.Typing.Entities.{Known}
 use Rattle.lt_tree.specs.Typing.Expressions.{as_value, own_type}
 use Rattle.lt_tree.specs.Typing.Programs.{Program}
 use Rattle.lt_objectives.specs.declared.criteria.Criterion.{Criterion}
-use Rattle.lt_objectives.specs.Criteria.{tag_of}
-use Rattle.lt_objectives.specs.Places.{part, core, is_open}
-use Rattle.lt_objectives.specs.Objectives.{in_front, around, Objective, objective, all_at, is_core, at_expression, objectives}
+use Rattle.lt_objectives.specs.Places.{part, core}
+use Rattle.lt_objectives.specs.Objectives.{in_front, Objective, objective, all_at, is_core, at_expression, objectives}
 use Rattle.lt_objectives.specs.Marked.{NewMark, numbered, next_id, labels, decided}
-use Rattle.lt_objective_places.specs.Stands.{IsAmong, IsWithin, Role, in_test, IsNoTest, CanBeMarked, can_be_decided, MayStand}
+use Rattle.lt_objective_places.specs.Stands.{IsAmong, IsWithin, Role, IsNoTest, MayStand}
 use Rattle.lt_objective_places.specs.Pieces.{an_expression, IsIn}
-use Rattle.lt_objective_places.specs.Laws.{AreTogether, LabelsAreOf, DecidedAreOf}
+use Rattle.lt_objective_places.specs.Laws.{AreTogether, LabelsAreOf}
 use Rattle.lt_objective_places.proofs.Among.{in_first, in_second}
 use Rattle.lt_mark_typing.specs.Beside.{is_used}
 use Rattle.lt_mark_typing.specs.Placed.{AreNewLabels}
@@ -74,7 +71,7 @@ module _ (g : Given) {new : ℕ → Bool} {unit : c.Unit} {program : Program} {c
   pub last_id : (these : List Objective) (t : AreTogether unit program criterion these) → next_id (next_id id t.before) these ≤ next_id id (objectives unit program criterion)
   last_id these t =
       let all : next_id id (objectives unit program criterion) ≡ next_id (next_id (next_id id t.before) these) t.behind =
-          ap (next_id id) t.all ∙ next_both id t.before (these ++ t.behind) ∙ next_both (next_id id t.before) these t.behind in
+      ap (next_id id) t.all ∙ next_both id t.before (these ++ t.behind) ∙ next_both (next_id id t.before) these t.behind in
       let more = next_from (next_id (next_id id t.before) these) t.behind in
       omega (arith, all, more)
 
@@ -94,7 +91,7 @@ module _ (g : Given) {new : ℕ → Bool} {unit : c.Unit} {program : Program} {c
       let at : (n : ℕ) → j ≤ n → n < j + length ps → IsIdAt marks k n = λ n from to. id_among (all_at k in_front criterion ps) t k n (id_of_all k in_front criterion refl j n ps from to) in
       let here : IsWithin k 1 k = (omega arith, omega arith) in
       let it = g.labels new used known in_front criterion k j ps refl are (omega (arith, low, first)) (omega (arith, end, last))
-          (λ n from to. (s.fresh n (omega (arith, low, from)) (omega (arith, end, to)), not_used (is_used n used) (λ is. unused n k is (at n from to) here))) in
+      (λ n from to. (s.fresh n (omega (arith, low, from)) (omega (arith, end, to)), not_used (is_used n used) (λ is. unused n k is (at n from to) here))) in
       (it.0, it.1, λ n is. elim (it.2 n is) [ inl old ↦ inl old | inr r ↦ inr (k, at n r.0 r.1, here) ])
 
   -- No label is new in front of an expression, or such are whose objectives may stand there.

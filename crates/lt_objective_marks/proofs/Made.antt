@@ -1,30 +1,25 @@
 -- What the values of expressions are made of: a call's and a conversion aside, labels may stand in front of each.
-use Rattle.std.proofs.Common.{◌≡◌, refl, sym, ap, ◌∙◌, subst, ℕ, List, [], ◌∷◌, ◌++◌, Bool, true, false, not, ◌&&◌, if◌then◌else◌, Option, Some, None}
+use Rattle.std.proofs.Common.{◌≡◌, refl, sym, ap, ◌∙◌, subst, ℕ, List, [], ◌∷◌, Bool, true, false, ◌&&◌, if◌then◌else◌, Option, Some, None}
 use Rattle.std.proofs.lemmas.Bool.{false≢true}
 use Rattle.std.specs.Prelude.{pos}
 use Rattle.lt_model.specs.Conversions.{promoted}
 use Rattle.lt_model.specs.declared.scalar.Scalar.TheVariants as S
 use Rattle.lt_model.specs.declared.operator.Op.{Op}
 use Rattle.lt_model.specs.declared.operator.Op.TheVariants as O
-use Rattle.lt_tree.specs.declared.expression.UnaryOp.{UnaryOp}
 use Rattle.lt_tree.specs.declared.expression.UnaryOp.TheVariants as unary
 use Rattle.lt_tree.specs.Tree as c
-use Rattle.lt_tree.specs.Typing.Types.{CType, is_array, Void, Num, Pointer, Array, Struct, Function, Floating, Qualified, is_integer, is_struct, is_pointer, unqualified}
+use Rattle.lt_tree.specs.Typing.Types.{CType, is_array, Void, Num, Pointer, Array, Struct, Function, Floating, Qualified, is_struct, is_pointer, unqualified}
 use Rattle.lt_tree.specs.Typing.Extents.{is_complete, size_of, Placed}
-use Rattle.lt_tree.specs.Typing.Constants.{TypedConstant, constant_of}
+use Rattle.lt_tree.specs.Typing.Constants.{TypedConstant}
 use Rattle.lt_tree.specs.Typing.Rules.{Rule, unless, function_as_value, bad_address, bad_call}
 use Rattle.lt_tree.specs.Typing.TypedTree as e
 use Rattle.lt_tree.specs.Typing.TypedTree.{Value, Place, When, before, after, type_at}
-use Rattle.lt_tree.specs.Typing.Entities.{Known, Entity, an_object, a_function, a_typedef, an_enumerator, meaning_of, type_of_object}
+use Rattle.lt_tree.specs.Typing.Entities.{Known, Entity, an_object, a_function, a_typedef, an_enumerator, type_of_object}
 use Rattle.lt_tree.specs.Typing.Steps.{Outcome, Goes, Breaks, goes_on}
 use Rattle.lt_tree.specs.Typing.Operands.{points_to, are_integers}
 use Rattle.lt_tree.specs.Typing.Expressions.{Form, a_value, a_place, a_designator, Typed, Use, as_value, as_truth, as_place, as_callee, valued, varies, placed, constant, own_type, value_in, place_in, scalar_in, converted_to, value_at, read, as_it_is_read, is_read, used, Judged, judgement, nothing, finish}
-use Rattle.lt_tree.specs.Typing.Operations.{judge_name, judge_constant, judge_plus, judge_minus, judge_complement, judge_not, judge_address_of, judge_dereference, judge_step, judge_size, judge_member, judge_arrow, judge_part, judge_index, judge_call, judge_function, judge_cast, is_callee, object_named, part_of, target_in, constant_address, element_size}
-use Rattle.lt_tree.specs.Typing.BinaryOperations.{on_integers, on_pointers, judge_binary, judge_logical, judge_conditional, judge_assignment, judge_assign, judge_update, judge_comma, distance, moved, compared, operation_type, right_type}
-use Rattle.lt_tree.specs.Typing.MarkRules.{judge_decide, judge_after, judge_marked}
-use Rattle.lt_tree.specs.Typing.NodeEnds.{text_at, judge_unary, also}
-use Rattle.lt_tree.specs.Typing.ExpressionTyping.{expression}
-use Rattle.lt_objectives.specs.Mutants.{is_one_of, relations}
+use Rattle.lt_tree.specs.Typing.Operations.{judge_name, judge_constant, judge_dereference, judge_step, judge_part, judge_function, is_callee, object_named, part_of, target_in, constant_address, element_size}
+use Rattle.lt_tree.specs.Typing.BinaryOperations.{on_integers, on_pointers, judge_binary, judge_assignment, judge_assign, judge_update, distance, moved, compared, operation_type, right_type}
 use Rattle.lt_mark_laws.specs.Added.{can_be_marked}
 use Rattle.lt_objective_marks.proofs.Ends.{ended}
 

@@ -1,7 +1,7 @@
 -- Labels stand in front of values that are integers, neither calls nor conversions.
-use Rattle.std.proofs.Common.{◌≡◌, ◌⊎◌, inl, inr, refl, sym, ap, ◌∙◌, subst, ℕ, ◌+◌, List, [], ◌∷◌, ◌++◌, Bool, true, false, not, ◌&&◌, if◌then◌else◌, Option, Some, None}
+use Rattle.std.proofs.Common.{◌≡◌, refl, ap, ◌∙◌, subst, ℕ, List, [], ◌∷◌, ◌++◌, Bool, true, false, ◌&&◌, if◌then◌else◌}
 use Rattle.std.proofs.lemmas.Bool.{false≢true}
-use Rattle.std.specs.Prelude.{map, filter}
+use Rattle.std.specs.Prelude.{map}
 use Rattle.lt_model.specs.declared.operator.Op.{Op}
 use Rattle.lt_model.specs.declared.operator.Op.TheVariants as O
 use Rattle.lt_tree.specs.declared.expression.LogicalOp.{LogicalOp}
@@ -21,8 +21,8 @@ use Rattle.lt_objectives.specs.declared.criteria.Criterion.{Criterion}
 use Rattle.lt_objectives.specs.declared.criteria.Criterion.TheVariants as C
 use Rattle.lt_objectives.specs.Places.{type_at, is_open, is_value_position}
 use Rattle.lt_objectives.specs.Decisions.{decisions, clauses, inequality}
-use Rattle.lt_objectives.specs.Mutants.{is_one_of, relations, pointer_relations, is_fitting, is_signed_integer, absolute, minus, absolute_mutants, arithmetic_mutants, relational_mutants, connector_mutants}
-use Rattle.lt_objectives.specs.Objectives.{in_front, Objective, all_at, decided_at, at_test, left_type, right_type, mutants, differences, is_core, at_expression}
+use Rattle.lt_objectives.specs.Mutants.{is_one_of, relations, pointer_relations, is_fitting, is_signed_integer, arithmetic_mutants, relational_mutants, connector_mutants}
+use Rattle.lt_objectives.specs.Objectives.{in_front, Objective, all_at, decided_at, at_test, left_type, right_type, mutants, differences, is_core}
 use Rattle.lt_objective_places.specs.Stands.{IsAmong, MayStand}
 use Rattle.lt_objective_places.specs.Stands as stands
 use Rattle.lt_erased_typing.specs.Erasable.{CanBeErased}
@@ -113,8 +113,8 @@ module _ (g : Given) {new : ℕ → Bool} {unit : c.Unit} {program : Program} {c
       let are = one_there _ _ some in
       let them = integer_operands g s as_value op known left right there are in
       let at = ended them.second.behind known.next as_value (judge_binary op them.first.found them.second.found them.second.behind) there.found there.behind
-          (through (λ (y : Typed) (j : Known). finish known.next as_value (judge_binary op them.first.found y j) j) them.second.goes
-          (through (λ (x : Typed) (k : Known). goes_on (expression right as_value k) (λ (y : Typed) (j : Known). finish known.next as_value (judge_binary op x y j) j)) them.first.goes there.goes)) in
+      (through (λ (y : Typed) (j : Known). finish known.next as_value (judge_binary op them.first.found y j) j) them.second.goes
+      (through (λ (x : Typed) (k : Known). goes_on (expression right as_value k) (λ (y : Typed) (j : Known). finish known.next as_value (judge_binary op x y j) j)) them.first.goes there.goes)) in
       (ap (λ (x : Typed). is_integer (own_type x)) at.found ∙ of_integers as_value op them.first.found them.second.found them.second.behind them.left_integer them.right_integer, refl)
   of_arithmetic known (c.Logical op left right) there connector some = absurd (some refl)
   of_arithmetic known e there (neither a r l) some = absurd (some (a (left_type unit program known.next e) (right_type unit program known.next e)))

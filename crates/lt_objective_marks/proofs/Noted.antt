@@ -1,21 +1,20 @@
 -- The types that are noted of an expression and of its operands are those that typing finds.
-use Rattle.std.proofs.Common.{◌≡◌, ◌⊎◌, inl, inr, refl, sym, ap, ◌∙◌, subst, ℕ, ◌+◌, List, [], ◌∷◌, length, Bool, true, false, ◌&&◌, if◌then◌else◌, eqb, Option, Some, None}
+use Rattle.std.proofs.Common.{◌≡◌, refl, sym, ap, ◌∙◌, subst, ℕ, ◌+◌, List, [], ◌∷◌, length, Bool, true, false, ◌&&◌, if◌then◌else◌, eqb, Option, Some, None}
 use Rattle.std.proofs.lemmas.Bool.{false≢true, eqb-true}
 use Rattle.lt_model.specs.declared.scalar.DataModel.{DataModel}
 use Rattle.lt_model.specs.declared.operator.Op.{Op}
 use Rattle.lt_tree.specs.Tree as c
 use Rattle.lt_tree.specs.Nodes.{in_expression}
 use Rattle.lt_tree.specs.Erasure.{erased}
-use Rattle.lt_tree.specs.Typing.Types.{CType, Void, Num, Pointer, Array, Struct, Function, Floating, Qualified, scalar_of, is_integer}
+use Rattle.lt_tree.specs.Typing.Types.{CType, Void, Num, Pointer, Array, Struct, Function, Floating, Qualified, is_integer}
 use Rattle.lt_tree.specs.Typing.Entities.{Known, Fact}
 use Rattle.lt_tree.specs.Typing.Steps.{Outcome, Goes, Breaks}
 use Rattle.lt_tree.specs.Typing.Expressions.{Typed, Use, as_value, as_callee, own_type}
-use Rattle.lt_tree.specs.Typing.ExpressionTyping.{expression}
 use Rattle.lt_tree.specs.Typing.UnitTyping.{typing, answer, IsProgramOf}
-use Rattle.lt_tree.specs.Typing.Programs.{Program, Typing, typed, program_of}
+use Rattle.lt_tree.specs.Typing.Programs.{Program, typed, program_of}
 use Rattle.lt_tree_laws.specs.Typing.NodeNumbers.{GoesOver}
 use Rattle.lt_objectives.specs.declared.criteria.Criterion.{Criterion}
-use Rattle.lt_objectives.specs.Places.{unmarked_numbers, corresponding, corresponding_node, fact_among, fact_at, type_at, value_part}
+use Rattle.lt_objectives.specs.Places.{unmarked_numbers, corresponding, corresponding_node, fact_among, type_at, value_part}
 use Rattle.lt_objectives.specs.Mutants.{is_signed_integer}
 use Rattle.lt_objectives.specs.Objectives.{left_type, right_type}
 use Rattle.lt_objective_typing.specs.Laws.{TakesIntegers}

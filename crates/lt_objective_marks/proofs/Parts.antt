@@ -1,32 +1,25 @@
 -- The operands of an expression have their marks.
-use Rattle.std.proofs.Common.{◌≡◌, ◌⊎◌, inl, inr, refl, sym, ap, ◌∙◌, subst, ℕ, suc, ◌+◌, ◌<◌, ◌≤◌, List, [], ◌∷◌, ◌++◌, length, length-append, Bool, true, false, Option, arith}
-use Rattle.lt_model.specs.declared.operator.Op.{Op}
-use Rattle.lt_tree.specs.declared.expression.LogicalOp.{LogicalOp}
-use Rattle.lt_tree.specs.declared.expression.UnaryOp.{UnaryOp}
-use Rattle.lt_tree.specs.declared.expression.UnaryOp.TheVariants as unary
+use Rattle.std.proofs.Common.{◌≡◌, refl, sym, ◌∙◌, subst, ℕ, suc, ◌+◌, ◌≤◌, List, length, Bool, false, arith}
 use Rattle.lt_tree.specs.Tree as c
-use Rattle.lt_tree.specs.Nodes.{in_expression, in_expressions, in_marks, in_specifiers, in_declarator}
+use Rattle.lt_tree.specs.Nodes.{in_expression}
 use Rattle.lt_tree.specs.Typing.Entities.{Known}
-use Rattle.lt_tree.specs.Typing.Steps.{Outcome, Goes}
-use Rattle.lt_tree.specs.Typing.Expressions.{Typed, Use, as_value, as_truth, as_place, as_callee, own_type}
-use Rattle.lt_tree.specs.Typing.ExpressionTyping.{expression, expressions, marks}
+use Rattle.lt_tree.specs.Typing.Steps.{Goes}
+use Rattle.lt_tree.specs.Typing.Expressions.{Typed, Use, as_callee}
+use Rattle.lt_tree.specs.Typing.ExpressionTyping.{expression}
 use Rattle.lt_tree.specs.Typing.Programs.{Program}
 use Rattle.lt_objectives.specs.declared.criteria.Criterion.{Criterion}
-use Rattle.lt_objectives.specs.Objectives.{Objective, objectives}
-use Rattle.lt_objectives.specs.Marked.{labels, decided, preceded_by, within, within_all, with_marks}
+use Rattle.lt_objectives.specs.Objectives.{objectives}
+use Rattle.lt_objectives.specs.Marked.{within, with_marks}
 use Rattle.lt_objective_places.specs.Stands.{IsAmong, Role}
 use Rattle.lt_objective_places.specs.Stands as stands
-use Rattle.lt_objective_places.specs.Pieces.{Piece, an_expression, expressions as several, at, role_of, IsIn, a_piece}
-use Rattle.lt_mark_typing.specs.Beside.{Position, in_use, in_test, use_of}
-use Rattle.lt_mark_typing.specs.Placed.{AddsTo, AddsToParts, AddsToAll, position_of}
-use Rattle.lt_mark_typing.specs.Placed as placed
-use Rattle.lt_typed_nodes.specs.Coming.{ComesToIt, ComesToAll, entered}
-use Rattle.lt_objective_marks.specs.Settings.{Setting, AreUnused, IsAdded, Fits, a_test, a_truth, a_value, a_switch, a_callee, a_place, a_marked_place, IsTaken}
+use Rattle.lt_objective_places.specs.Pieces.{an_expression, IsIn}
+use Rattle.lt_mark_typing.specs.Beside.{Position, in_use, use_of}
+use Rattle.lt_mark_typing.specs.Placed.{AddsTo, AddsToParts}
+use Rattle.lt_typed_nodes.specs.Coming.{ComesToIt, entered}
+use Rattle.lt_objective_marks.specs.Settings.{Setting, AreUnused, IsAdded, Fits, IsTaken}
 use Rattle.lt_objective_marks.proofs.Given.{Given}
-use Rattle.lt_objective_marks.proofs.Ends.{same_found}
-use Rattle.lt_objective_marks.proofs.Whole.{UnusedInside, AddsInside, new_marks, Here, Inside, Inner, ValuesAreMarkable, whole}
-use Rattle.lt_objective_marks.proofs.Steps.{unused_of, inside_of, Two, two, at_behind, from_parts, as_it_stands, number_behind, moved_to}
-use Rattle.lt_objective_marks.proofs.Taken.{both_scalars, negated_scalar, tested_scalar}
+use Rattle.lt_objective_marks.proofs.Whole.{UnusedInside, new_marks, Here, Inside, Inner, ValuesAreMarkable, whole}
+use Rattle.lt_objective_marks.proofs.Steps.{unused_of, inside_of, two, at_behind, from_parts, number_behind, moved_to}
 
 module _ (g : Given) {new : ℕ → Bool} {unit : c.Unit} {program : Program} {criterion : Criterion} {id : ℕ} (s : Setting new unit program criterion id) (markable : ValuesAreMarkable g s) where
   -- the marks of an operand
@@ -68,7 +61,7 @@ module _ (g : Given) {new : ℕ → Bool} {unit : c.Unit} {program : Program} {c
     one e d inner_role inner_position size h unused o no_truth other inner build =
         let fits : known.next + 1 + length (in_expression d) ≤ known.next + length (in_expression e) = omega (arith, size) in
         let it = operand inner_role inner_position used (entered known) d (known.next + 1) o no_truth other inner
-            (unused_of (new_marks g s) used known.next (length (in_expression e)) (known.next + 1) (length (in_expression d)) (omega arith) fits unused) in
+        (unused_of (new_marks g s) used known.next (length (in_expression e)) (known.next + 1) (length (in_expression d)) (omega arith) fits unused) in
         from_parts g s role position used it.after known e h (build it.after it.added)
         (inside_of (new_marks g s) used it.after known.next (length (in_expression e)) (known.next + 1) (length (in_expression d)) (omega arith) fits it.ids)
 
@@ -99,10 +92,10 @@ module _ (g : Given) {new : ℕ → Bool} {unit : c.Unit} {program : Program} {c
     both e l r first_role second_role first_position second_position size h unused left a b no_first no_second first_other second_other inner_l inner_r build =
         let j = known.next + 1 + length (in_expression l) in
         let it = two id (objectives unit program criterion) used known.next (length (in_expression e)) (known.next + 1) (length (in_expression l)) j (length (in_expression r))
-            {F = λ between. AddsTo new first_position used between (entered known) l (with_marks (new_marks g s) (known.next + 1) l)}
-            {G = λ between after. AddsTo new second_position between after left.behind r (with_marks (new_marks g s) j r)}
-            (omega arith) (omega arith) (omega (arith, size)) unused
-            (operand first_role first_position used (entered known) l (known.next + 1) a no_first first_other inner_l)
-            (λ between. operand second_role second_position between left.behind r j b no_second second_other inner_r) in
+        {F = λ between. AddsTo new first_position used between (entered known) l (with_marks (new_marks g s) (known.next + 1) l)}
+        {G = λ between after. AddsTo new second_position between after left.behind r (with_marks (new_marks g s) j r)}
+        (omega arith) (omega arith) (omega (arith, size)) unused
+        (operand first_role first_position used (entered known) l (known.next + 1) a no_first first_other inner_l)
+        (λ between. operand second_role second_position between left.behind r j b no_second second_other inner_r) in
         from_parts g s role position used it.after known e h
         (build it.between it.after it.first (at_behind left.goes (λ next. AddsTo new second_position it.between it.after next r (with_marks (new_marks g s) j r)) it.second)) it.ids

@@ -1,10 +1,8 @@
 -- The objectives at an expression have predicates where it stands.
-use Rattle.std.proofs.Common.{◌≡◌, ◌⊎◌, inl, inr, refl, sym, ap, ◌∙◌, subst, ℕ, List, [], ◌∷◌, ◌++◌, Bool, true, false, ◌&&◌, if◌then◌else◌, Option, Some, None}
+use Rattle.std.proofs.Common.{◌≡◌, ◌⊎◌, inl, inr, refl, sym, ap, ◌∙◌, subst, ℕ, List, [], ◌∷◌, ◌++◌, Bool, true, false, ◌&&◌, if◌then◌else◌, None}
 use Rattle.std.proofs.lemmas.Bool.{false≢true}
 use Rattle.std.proofs.lemmas.List.{map-append}
 use Rattle.std.specs.Prelude.{map}
-use Rattle.std.specs.List.{AllByRecursion}
-use Rattle.lt_model.specs.declared.operator.Op.{Op}
 use Rattle.lt_tree.specs.Tree as c
 use Rattle.lt_tree.specs.Erasure.{erased, erased_expressions}
 use Rattle.lt_tree.specs.Comma.{comma_of}
@@ -18,7 +16,7 @@ use Rattle.lt_objectives.specs.declared.criteria.Criterion.TheVariants as C
 use Rattle.lt_objectives.specs.Places.{type_at, is_open, is_value_position}
 use Rattle.lt_objectives.specs.Decisions.{decisions, clauses, inequality}
 use Rattle.lt_objectives.specs.Mutants.{absolute_mutants, connector_mutants, arithmetic_mutants, relational_mutants}
-use Rattle.lt_objectives.specs.Objectives.{in_front, Objective, objective, all_at, decided_at, at_test, left_type, right_type, mutants, differences, is_core, at_expression}
+use Rattle.lt_objectives.specs.Objectives.{in_front, Objective, all_at, decided_at, at_test, left_type, right_type, mutants, differences, is_core, at_expression}
 use Rattle.lt_mark_laws.proofs.TypeLists.{all_both}
 use Rattle.lt_mark_typing.specs.Placed.{IsThere}
 use Rattle.lt_objective_places.specs.Stands.{IsNoTest}

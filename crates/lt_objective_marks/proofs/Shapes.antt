@@ -1,6 +1,5 @@
 -- Which objectives stand at an expression: labels in front of it, or one `pc_decide` around it.
-use Rattle.std.proofs.Common.{◌≡◌, ◌⊎◌, inl, inr, refl, sym, ap, ◌∙◌, subst, ℕ, List, [], ◌∷◌, ◌++◌, Bool, true, false, ◌&&◌, if◌then◌else◌, Option, Some, None}
-use Rattle.std.proofs.lemmas.List.{map-append}
+use Rattle.std.proofs.Common.{◌≡◌, refl, sym, ap, ◌∙◌, subst, ℕ, List, [], ◌∷◌, ◌++◌, Bool, true, false, ◌&&◌, if◌then◌else◌, Option, Some, None}
 use Rattle.std.specs.Prelude.{map}
 use Rattle.lt_tree.specs.Tree as c
 use Rattle.lt_tree.specs.Erasure.{erased}
@@ -10,7 +9,7 @@ use Rattle.lt_objectives.specs.declared.criteria.Criterion.{Criterion}
 use Rattle.lt_objectives.specs.declared.criteria.Criterion.TheVariants as C
 use Rattle.lt_objectives.specs.Places.{is_open, is_value_position}
 use Rattle.lt_objectives.specs.Decisions.{decisions, clauses, negation, inequality, clause_list, conjunctions, active_clauses, has_few_clauses}
-use Rattle.lt_objectives.specs.Objectives.{Form, in_front, around, Objective, objective, all_at, decided_at, both_truths, combinations, at_test, mutants, differences, is_core, at_expression}
+use Rattle.lt_objectives.specs.Objectives.{in_front, around, Objective, objective, all_at, decided_at, at_test, mutants, differences, is_core, at_expression}
 
 -- nothing stands there, or labels with these predicates in front of a pure expression, or a `pc_decide` around what is decided
 pub data Shape (criterion : Criterion) (k : ℕ) (plain : c.Expression) : List Objective → Type 0 where

@@ -1,5 +1,5 @@
 -- Typing takes labels behind a part as it does before it.
-use Rattle.std.proofs.Common.{◌≡◌, ℕ, ◌+◌, Bool, true, false, List, [], ◌∷◌, ◌++◌, length, Option, Some, None, refl, ap, ◌∙◌, subst}
+use Rattle.std.proofs.Common.{◌≡◌, ℕ, ◌+◌, Bool, true, false, List, [], ◌∷◌, ◌++◌, length, Option, Some, None, refl, ◌∙◌, subst}
 use Rattle.std.specs.Prelude.{ℤ, pos, if◌then◌else◌}
 use Rattle.lt_model.specs.declared.operator.Op.TheVariants as O
 use Rattle.lt_tree.specs.Tree as c
@@ -8,18 +8,18 @@ use Rattle.lt_tree.specs.Typing.Extents.{Member}
 use Rattle.lt_tree.specs.Typing.Constants.{constant_of}
 use Rattle.lt_tree.specs.Typing.Rules.{Rule, broken_if, unless, incomplete_type, bad_mark, least}
 use Rattle.lt_tree.specs.Typing.TypedTree.{before, after as behind}
-use Rattle.lt_tree.specs.Typing.Entities.{Known, Frame, no_names, Tagged, a_struct, an_enum, meaning_of, tag_here, tagged_in}
+use Rattle.lt_tree.specs.Typing.Entities.{Known, Frame, Tagged, a_struct, an_enum, meaning_of, tag_here, tagged_in}
 use Rattle.lt_tree.specs.Typing.Steps.{Outcome, Goes, Breaks, goes_on, unless_broken, settle, gives, left, marked_again}
-use Rattle.lt_tree.specs.Typing.Expressions.{Typed, Use, as_value, as_truth, as_place, as_callee, own_type, used, fact_of, Judged, faults_of_any, finish}
+use Rattle.lt_tree.specs.Typing.Expressions.{Use, as_value, as_truth, as_place, as_callee, own_type, Judged, faults_of_any, finish}
 use Rattle.lt_tree.specs.Typing.Operations.{judge_name, judge_constant, judge_step, judge_size, judge_member, judge_arrow, judge_index, judge_call, judge_cast}
 use Rattle.lt_tree.specs.Typing.BinaryOperations.{judge_binary, judge_logical, judge_conditional, judge_assignment, judge_comma}
 use Rattle.lt_tree.specs.Typing.MarkRules.{is_good_mark, judge_decide, inside_mark, inside_after, judge_after, judge_marked}
 use Rattle.lt_tree.specs.Typing.Specifying.{OpenStruct, Specified, is_register, is_complete_struct, struct_tagged, Setting, is_alone, elsewhere, beside_words, open_tagged, open_struct, open_enum, close_enum, with_members, close_struct, value_given, enumerator_faults}
-use Rattle.lt_tree.specs.Typing.Declarators.{Built, Parameters, Declares, all_faults, setting_in_sizeof, is_written, type_name_faults, parameter_faults, binds_parameter, member_faults, with_member, has_width}
+use Rattle.lt_tree.specs.Typing.Declarators.{Built, all_faults, setting_in_sizeof, is_written, type_name_faults, parameter_faults, binds_parameter, member_faults, with_member, has_width}
 use Rattle.lt_tree.specs.Typing.NodeEnds.{text_object, text_at, judge_unary, operand_of, also, is_no_declarator, alone_faults, enter_if, end_of_declarator}
 use Rattle.lt_tree.specs.Typing.ExpressionTyping.{expression, expressions, maybe, marks, mark, bindings, specifiers, type_specifiers, type_specifier, members, struct_member, member_declarators, enumerators, declarator, parts, parameters, parameter_list}
 use Rattle.lt_typed_nodes.specs.Coming.{entered, in_new_block as in_new_frame}
-use Rattle.lt_objective_marks.proofs.Given.{KeepsUnmarked, KeptUnmarked}
+use Rattle.lt_objective_marks.proofs.Given.{KeptUnmarked}
 
 data Keeps {A : Type 0} (b : Bool) : Outcome A → Type 0 where
   done : {a : A} {known : Known} → known.is_unmarked ≡ b → Keeps b (Goes a known)

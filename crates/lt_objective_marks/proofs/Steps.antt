@@ -1,12 +1,11 @@
 -- From an expression to its operands, one behind the other.
-use Rattle.std.proofs.Common.{◌≡◌, ◌⊎◌, inl, inr, refl, sym, ap, ◌∙◌, subst, ℕ, suc, ◌+◌, ◌<◌, ◌≤◌, List, [], ◌∷◌, ◌++◌, length, drop, zero, Bool, true, false, arith}
+use Rattle.std.proofs.Common.{◌≡◌, inl, inr, refl, sym, ap, ◌∙◌, subst, ℕ, suc, ◌+◌, ◌<◌, ◌≤◌, List, [], ◌∷◌, length, drop, zero, Bool, true, false, arith}
 use Rattle.lt_tree.specs.Tree as c
 use Rattle.lt_tree.specs.Nodes.{Node, nodes, in_expression}
 use Rattle.lt_tree.specs.Typing.Entities.{Known}
 use Rattle.lt_tree.specs.Typing.Steps.{Outcome, Goes}
-use Rattle.lt_tree.specs.Typing.Expressions.{Typed, Use, as_value, as_truth, as_place, as_callee}
+use Rattle.lt_tree.specs.Typing.Expressions.{Use}
 use Rattle.lt_tree.specs.Typing.Operations.{counts_as_null}
-use Rattle.lt_tree.specs.Typing.ExpressionTyping.{expression}
 use Rattle.lt_tree.specs.Typing.Programs.{Program}
 use Rattle.lt_tree_laws.specs.Typing.NodeNumbers.{GoesOver}
 use Rattle.lt_objectives.specs.declared.criteria.Criterion.{Criterion}
@@ -15,13 +14,13 @@ use Rattle.lt_objectives.specs.Marked.{NewMark, numbered, within, with_marks}
 use Rattle.lt_objective_places.specs.Stands.{IsAmong, IsWithin, Role, GoOn}
 use Rattle.lt_objective_places.specs.Stands as stands
 use Rattle.lt_objective_places.specs.Pieces.{an_expression, IsIn}
-use Rattle.lt_mark_typing.specs.Beside.{is_used, Position, in_use, in_test, use_of}
+use Rattle.lt_mark_typing.specs.Beside.{Position, in_use, in_test, use_of}
 use Rattle.lt_mark_typing.specs.Placed.{AreOld, AddsTo, AddsToParts, as_it_is, in_parts}
-use Rattle.lt_mark_typing.proofs.Unchanged.{old_first, old_second}
-use Rattle.lt_typed_nodes.specs.Coming.{ComesTo, ComesToIt, entered}
-use Rattle.lt_objective_marks.specs.Settings.{marks_of, Setting, IsIdAt, AreUnused, AddsIdsOf, IsAdded, Fits, a_test, a_truth, a_value, a_switch, a_callee, a_place, a_marked_place, IsTaken}
+use Rattle.lt_mark_typing.proofs.Unchanged.{old_first}
+use Rattle.lt_typed_nodes.specs.Coming.{ComesToIt}
+use Rattle.lt_objective_marks.specs.Settings.{Setting, AreUnused, AddsIdsOf, IsAdded, Fits, a_truth, a_value, a_switch, a_callee, a_place, a_marked_place}
 use Rattle.lt_objective_marks.proofs.Given.{Given}
-use Rattle.lt_objective_marks.proofs.Ids.{one_place, behind}
+use Rattle.lt_objective_marks.proofs.Ids.{behind}
 use Rattle.lt_objective_marks.proofs.Ends.{same_found, same_behind}
 use Rattle.lt_objective_marks.proofs.Whole.{UnusedInside, AddsInside, new_marks, Here, Inside}
 

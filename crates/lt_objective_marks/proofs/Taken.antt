@@ -1,5 +1,5 @@
 -- What the operators around operands ask of them: tests are scalars.
-use Rattle.std.proofs.Common.{◌≡◌, refl, sym, ap, ◌∙◌, subst, ℕ, ◌+◌, List, [], ◌∷◌, ◌++◌, length, Bool, true, false, not, ◌&&◌}
+use Rattle.std.proofs.Common.{◌≡◌, refl, sym, ap, ◌∙◌, ℕ, List, [], ◌∷◌, ◌++◌, Bool, true, false, not, ◌&&◌}
 use Rattle.std.specs.Prelude.{◌==◌}
 use Rattle.lt_tree.specs.declared.expression.LogicalOp.{LogicalOp}
 use Rattle.lt_tree.specs.declared.expression.UnaryOp.TheVariants as unary
@@ -10,14 +10,13 @@ use Rattle.lt_tree.specs.Typing.TypedTree.{Marks}
 use Rattle.lt_tree.specs.Typing.Entities.{Known}
 use Rattle.lt_tree.specs.Typing.Steps.{Outcome, Goes, Breaks, goes_on}
 use Rattle.lt_tree.specs.Typing.Operands.{can_be_chosen_from}
-use Rattle.lt_tree.specs.Typing.Expressions.{Form, a_value, a_place, a_designator, Typed, Judged, judgement, nothing, Use, as_value, as_truth, as_callee, own_type, as_it_is_read, finish}
+use Rattle.lt_tree.specs.Typing.Expressions.{Form, a_value, a_place, a_designator, Typed, Judged, judgement, nothing, Use, as_value, as_truth, as_callee, own_type, finish}
 use Rattle.lt_tree.specs.Typing.Operations.{judge_not, judge_call, judge_function}
 use Rattle.lt_tree.specs.Typing.BinaryOperations.{judge_logical, judge_conditional}
-use Rattle.lt_tree.specs.Typing.MarkRules.{number_of_id, is_good_id, is_tag, is_truth, is_good_decision, label_of, inside_mark, inside_after, judge_decide, judge_after, judge_marked}
-use Rattle.lt_tree.specs.Typing.NodeEnds.{decision_labels}
+use Rattle.lt_tree.specs.Typing.MarkRules.{number_of_id, is_good_id, is_tag, is_truth, is_good_decision, label_of, inside_mark, judge_decide, judge_after, judge_marked}
 use Rattle.lt_tree.specs.Typing.ExpressionTyping.{expression, expressions, marks}
 use Rattle.lt_typed_nodes.specs.Coming.{entered}
-use Rattle.lt_objective_marks.proofs.Ends.{Ended, ended, through, part_goes, unless_true, left_empty, and_left, and_right}
+use Rattle.lt_objective_marks.proofs.Ends.{ended, through, part_goes, unless_true, left_empty, and_left, and_right}
 use Rattle.lt_objective_marks.proofs.Made.{read_value}
 use Rattle.lt_objective_marks.proofs.Values.{used_value, value_found}
 
@@ -26,8 +25,8 @@ pub both_scalars : (op : LogicalOp) (left right : c.Expression) (role : Use) (kn
 unfolding judge_logical
 both_scalars op left right role known k j behind x y z first second whole =
     let at = ended j known.next role (judge_logical op x y) z behind
-        (through (λ (y : Typed) (j : Known). finish known.next role (judge_logical op x y) j) second
-        (through (λ (x : Typed) (k : Known). goes_on (expression right as_truth k) (λ (y : Typed) (j : Known). finish known.next role (judge_logical op x y) j)) first whole)) in
+    (through (λ (y : Typed) (j : Known). finish known.next role (judge_logical op x y) j) second
+    (through (λ (x : Typed) (k : Known). goes_on (expression right as_truth k) (λ (y : Typed) (j : Known). finish known.next role (judge_logical op x y) j)) first whole)) in
     let both = unless_true (is_scalar (own_type x) && is_scalar (own_type y)) not_scalar at.rules in
     (and_left (is_scalar (own_type x)) (is_scalar (own_type y)) both, and_right (is_scalar (own_type x)) (is_scalar (own_type y)) both)
 
@@ -43,9 +42,9 @@ pub tested_scalar : (test left right : c.Expression) (role : Use) (known k j i b
 unfolding judge_conditional
 tested_scalar test left right role known k j i behind p x y z first second third whole =
     let at = ended i known.next role (judge_conditional p x y i) z behind
-        (through (λ (y : Typed) (i : Known). finish known.next role (judge_conditional p x y i) i) third
-        (through (λ (x : Typed) (j : Known). goes_on (expression right as_value j) (λ (y : Typed) (i : Known). finish known.next role (judge_conditional p x y i) i)) second
-        (through (λ (p : Typed) (k : Known). goes_on (expression left as_value k) (λ (x : Typed) (j : Known). goes_on (expression right as_value j) (λ (y : Typed) (i : Known). finish known.next role (judge_conditional p x y i) i))) first whole))) in
+    (through (λ (y : Typed) (i : Known). finish known.next role (judge_conditional p x y i) i) third
+    (through (λ (x : Typed) (j : Known). goes_on (expression right as_value j) (λ (y : Typed) (i : Known). finish known.next role (judge_conditional p x y i) i)) second
+    (through (λ (p : Typed) (k : Known). goes_on (expression left as_value k) (λ (x : Typed) (j : Known). goes_on (expression right as_value j) (λ (y : Typed) (i : Known). finish known.next role (judge_conditional p x y i) i))) first whole))) in
     unless_true (is_scalar (own_type p)) not_scalar
     (left_empty (unless (is_scalar (own_type p)) not_scalar) (unless (can_be_chosen_from (own_type x) x.constancy (own_type y) y.constancy) bad_choice) at.rules)
 
@@ -55,8 +54,8 @@ pub behind_marks_type : (ms : c.Marks) (value : c.Expression) (role : Use) (know
 unfolding judge_marked
 behind_marks_type ms value role known k j behind typed x z first second whole =
     let at = ended j known.next role (judge_marked typed x) z behind
-        (through (λ (x : Typed) (j : Known). finish known.next role (judge_marked typed x) j) second
-        (through (λ (typed : Marks) (k : Known). goes_on (expression value (inside_mark role) k) (λ (x : Typed) (j : Known). finish known.next role (judge_marked typed x) j)) first whole)) in
+    (through (λ (x : Typed) (j : Known). finish known.next role (judge_marked typed x) j) second
+    (through (λ (typed : Marks) (k : Known). goes_on (expression value (inside_mark role) k) (λ (x : Typed) (j : Known). finish known.next role (judge_marked typed x) j)) first whole)) in
     (ap own_type at.found ∙ used_value role (judge_marked typed x).typed _ refl, ap (λ (it : Known). it.next) at.next)
 
 labels_behind : {z : Typed} {behind : Known} (o : Outcome Typed) (f : Known → Known) → goes_on o (λ x k. Goes x (f k)) ≡ Goes z behind → (k : Known) × (o ≡ Goes z k)
@@ -87,7 +86,7 @@ pub decided_scalar : (operand : c.Expression) (when_true when_false tag : List �
 unfolding judge_decide
 decided_scalar operand when_true when_false tag known k behind x z first whole =
     let rest = through (λ (x : Typed) (k : Known). goes_on (finish known.next as_truth (judge_decide as_truth x when_true when_false tag k) k) (λ (result : Typed) (j : Known).
-        Goes result (record j { labels = (j.labels ++ label_of when_true tag [] ∷ []) ++ label_of when_false tag [] ∷ [] }))) first whole in
+    Goes result (record j { labels = (j.labels ++ label_of when_true tag [] ∷ []) ++ label_of when_false tag [] ∷ [] }))) first whole in
     let it = labels_behind (finish known.next as_truth (judge_decide as_truth x when_true when_false tag k) k) (λ (j : Known). record j { labels = (j.labels ++ label_of when_true tag [] ∷ []) ++ label_of when_false tag [] ∷ [] }) rest in
     let at = ended k known.next as_truth (judge_decide as_truth x when_true when_false tag k) z it.0 it.1 in
     let good = unless_true (is_good_decision as_truth k x when_true when_false tag) bad_mark at.rules in
@@ -99,9 +98,9 @@ pub not_decided : (operand : c.Expression) (when_true when_false tag : List ℕ)
 unfolding judge_decide
 not_decided operand when_true when_false tag role known behind z value whole =
     let first = part_goes (expression operand (inside_mark role) (entered known)) (λ (x : Typed) (k : Known). goes_on (finish known.next role (judge_decide role x when_true when_false tag k) k) (λ (result : Typed) (j : Known).
-        Goes result (record j { labels = (j.labels ++ label_of when_true tag [] ∷ []) ++ label_of when_false tag [] ∷ [] }))) whole in
+    Goes result (record j { labels = (j.labels ++ label_of when_true tag [] ∷ []) ++ label_of when_false tag [] ∷ [] }))) whole in
     let rest = through (λ (x : Typed) (k : Known). goes_on (finish known.next role (judge_decide role x when_true when_false tag k) k) (λ (result : Typed) (j : Known).
-        Goes result (record j { labels = (j.labels ++ label_of when_true tag [] ∷ []) ++ label_of when_false tag [] ∷ [] }))) first.2 whole in
+    Goes result (record j { labels = (j.labels ++ label_of when_true tag [] ∷ []) ++ label_of when_false tag [] ∷ [] }))) first.2 whole in
     let it = labels_behind (finish known.next role (judge_decide role first.0 when_true when_false tag first.1) first.1) (λ (j : Known). record j { labels = (j.labels ++ label_of when_true tag [] ∷ []) ++ label_of when_false tag [] ∷ [] }) rest in
     let at = ended first.1 known.next role (judge_decide role first.0 when_true when_false tag first.1) z it.0 it.1 in
     let good = unless_true (is_good_decision role first.1 first.0 when_true when_false tag) bad_mark at.rules in
@@ -114,8 +113,8 @@ pub called : (f : c.Expression) (arguments : c.Expressions) (role : Use) (known 
 unfolding judge_call judge_function
 called f arguments role known k j behind x xs z first second whole =
     let at = ended j known.next role (judge_call x xs j) z behind
-        (through (λ (xs : List Typed) (j : Known). finish known.next role (judge_call x xs j) j) second
-        (through (λ (x : Typed) (k : Known). goes_on (expressions arguments k) (λ (xs : List Typed) (j : Known). finish known.next role (judge_call x xs j) j)) first whole)) in
+    (through (λ (xs : List Typed) (j : Known). finish known.next role (judge_call x xs j) j) second
+    (through (λ (x : Typed) (k : Known). goes_on (expressions arguments k) (λ (xs : List Typed) (j : Known). finish known.next role (judge_call x xs j) j)) first whole)) in
     by x.form refl at.rules
   where
     function_there : (name : List ℕ) (t : CType) → (judge_function j name t xs).faults ≡ [] → is_function t ≡ true

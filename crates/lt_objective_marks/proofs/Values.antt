@@ -1,5 +1,5 @@
 -- What is read where the typing of an expression goes on is a value; that of an operator is an integer.
-use Rattle.std.proofs.Common.{◌≡◌, refl, sym, ap, ◌∙◌, subst, ℕ, ◌+◌, List, [], ◌∷◌, Bool, true, false, ◌&&◌, ◌||◌, if◌then◌else◌, Option, Some, None}
+use Rattle.std.proofs.Common.{◌≡◌, refl, sym, ap, ◌∙◌, subst, ℕ, ◌+◌, List, Bool, true, false, ◌&&◌, ◌||◌, if◌then◌else◌}
 use Rattle.std.proofs.lemmas.Bool.{false≢true}
 use Rattle.std.specs.Prelude.{length, option_and_then}
 use Rattle.lt_model.specs.declared.scalar.Scalar.{Scalar}
@@ -15,17 +15,17 @@ use Rattle.lt_tree.specs.Typing.Constants.{constant_of}
 use Rattle.lt_tree.specs.Typing.TypedTree as e
 use Rattle.lt_tree.specs.Typing.TypedTree.{before, after}
 use Rattle.lt_tree.specs.Typing.Entities.{Known, meaning_of}
-use Rattle.lt_tree.specs.Typing.Steps.{Outcome, Goes, goes_on, marked_again}
+use Rattle.lt_tree.specs.Typing.Steps.{Goes, marked_again}
 use Rattle.lt_tree.specs.Typing.Operands.{are_integers, is_relation, is_equality}
-use Rattle.lt_tree.specs.Typing.Expressions.{a_value, a_designator, Typed, Use, as_value, as_truth, as_place, as_callee, own_type, placed, value_in, is_read, used, finish}
-use Rattle.lt_tree.specs.Typing.Operations.{judge_name, judge_constant, judge_plus, judge_minus, judge_complement, judge_not, judge_address_of, judge_step, judge_size, judge_member, judge_arrow, judge_index, judge_call, judge_cast, member_in, target_in, text_type, pointer_among, element_size, side_of, constant_address}
-use Rattle.lt_tree.specs.Typing.BinaryOperations.{on_integers, on_pointers, compared, result_type, operation_type, judge_binary, judge_logical, judge_conditional, judge_assignment, judge_comma}
-use Rattle.lt_tree.specs.Typing.MarkRules.{label_of, judge_decide, inside_mark, inside_after, judge_after, judge_marked}
+use Rattle.lt_tree.specs.Typing.Expressions.{a_value, Typed, Use, as_value, as_truth, as_place, as_callee, own_type, placed, value_in, is_read, used}
+use Rattle.lt_tree.specs.Typing.Operations.{judge_plus, judge_minus, judge_complement, judge_not, judge_address_of, judge_size, judge_member, judge_arrow, judge_index, judge_call, judge_cast, member_in, target_in, text_type, pointer_among, element_size, side_of, constant_address}
+use Rattle.lt_tree.specs.Typing.BinaryOperations.{on_integers, on_pointers, compared, result_type, operation_type, judge_binary, judge_logical, judge_conditional, judge_comma}
+use Rattle.lt_tree.specs.Typing.MarkRules.{judge_decide, inside_mark, inside_after, judge_after, judge_marked}
 use Rattle.lt_tree.specs.Typing.Specifying.{elsewhere}
 use Rattle.lt_tree.specs.Typing.Declarators.{type_name_faults, setting_in_sizeof}
-use Rattle.lt_tree.specs.Typing.NodeEnds.{text_object, text_at, judge_unary, operand_of, also}
+use Rattle.lt_tree.specs.Typing.NodeEnds.{text_at, judge_unary, operand_of}
 use Rattle.lt_tree.specs.Typing.ExpressionTyping.{expression, expressions, marks, specifiers, declarator}
-use Rattle.lt_objectives.specs.Mutants.{is_one_of, arithmetic, relations}
+use Rattle.lt_objectives.specs.Mutants.{is_one_of, relations}
 use Rattle.lt_objective_marks.proofs.Made.{EachIs, bound, ends, ends_so, one_found, is_made_plainly, is_valued, IsValue, value_of, place_of, of_name, of_constant, of_part, of_dereference, of_stepped, of_binary, of_assignment, of_call}
 
 -- ---- values

@@ -1,5 +1,5 @@
 -- An expression with its marks, once its parts have theirs.
-use Rattle.std.proofs.Common.{◌≡◌, ◌⊎◌, inl, inr, refl, sym, ap, ◌∙◌, subst, ℕ, suc, ◌+◌, ◌<◌, ◌≤◌, List, [], ◌∷◌, length, Bool, true, false, arith}
+use Rattle.std.proofs.Common.{◌≡◌, ◌⊎◌, inl, inr, refl, sym, ap, ◌∙◌, subst, ℕ, suc, ◌+◌, ◌<◌, ◌≤◌, List, ◌∷◌, length, Bool, true, false, arith}
 use Rattle.std.proofs.lemmas.Bool.{false≢true}
 use Rattle.std.specs.Fmt.{decimal}
 use Rattle.lt_tree.specs.Tree as c
@@ -8,7 +8,7 @@ use Rattle.lt_tree.specs.Typing.Types.{is_scalar, is_integer}
 use Rattle.lt_tree.specs.Typing.MarkRules.{greatest_written_id, number_of_id}
 use Rattle.lt_tree.specs.Typing.Entities.{Known, Fact}
 use Rattle.lt_tree.specs.Typing.Steps.{Goes}
-use Rattle.lt_tree.specs.Typing.Expressions.{Typed, Use, as_value, as_truth, as_place, as_callee, own_type, has_pointer_to_function}
+use Rattle.lt_tree.specs.Typing.Expressions.{Typed, Use, as_value, as_truth, as_callee, own_type, has_pointer_to_function}
 use Rattle.lt_tree.specs.Typing.Operations.{counts_as_null}
 use Rattle.lt_tree.specs.Typing.ExpressionTyping.{expression}
 use Rattle.lt_tree.specs.Typing.Programs.{Program}
@@ -133,14 +133,17 @@ module _ (g : Given) {new : ℕ → Bool} {unit : c.Unit} {program : Program} {c
   decide_around role position used known e h unused inside tested j are first last at =
       let some = some_nodes e in
       let here : IsWithin known.next (length (in_expression e)) known.next = (omega arith, omega (arith, some)) in
-      let ids = two_ids g new criterion known inside.after j first last (λ n from to. ((at n from to).0, not_used (is_used n inside.after) (λ is. elim (inside.ids n is) [
-        | inl old ↦ unused n known.next old (at n from to).1 here
-        | inr it ↦ let low = it.2 in let same = one_place id (objectives unit program criterion) it.0 known.next n it.1 (at n from to).1 in omega (arith, low, same)
-      ]))) in
+      let ids = two_ids g new criterion known inside.after j first last (λ n from to. (
+        (at n from to).0,
+        not_used (is_used n inside.after) (λ is. elim (inside.ids n is) [
+          | inl old ↦ unused n known.next old (at n from to).1 here
+          | inr it ↦ let low = it.2 in let same = one_place id (objectives unit program criterion) it.0 known.next n it.1 (at n from to).1 in omega (arith, low, same)
+        ]),
+      )) in
       let position_is = only_test h.fits tested in
       let decision : AddsTo new in_test used (number_of_id (decimal (suc j)) ∷ number_of_id (decimal j) ∷ inside.after) known e (c.Decide (within new_marks known.next e) (decimal j) (decimal (suc j)) (tag_of criterion)) =
-          placed.around (λ x next is. (scalar_test role position known e tested h.taken x next is, g.unmarked.expression e as_truth known x next is ∙ h.marked)) ids.0 ids.1 ids.2
-          (subst (λ p. AddsTo new p used inside.after known e (within new_marks known.next e)) position_is inside.added) in (
+      placed.around (λ x next is. (scalar_test role position known e tested h.taken x next is, g.unmarked.expression e as_truth known x next is ∙ h.marked)) ids.0 ids.1 ids.2
+      (subst (λ p. AddsTo new p used inside.after known e (within new_marks known.next e)) position_is inside.added) in (
         number_of_id (decimal (suc j)) ∷ number_of_id (decimal j) ∷ inside.after,
         subst (λ x. AddsTo new position used (number_of_id (decimal (suc j)) ∷ number_of_id (decimal j) ∷ inside.after) known e x) (sym (are (within new_marks known.next e)))
             (subst (λ p. AddsTo new p used (number_of_id (decimal (suc j)) ∷ number_of_id (decimal j) ∷ inside.after) known e (c.Decide (within new_marks known.next e) (decimal j) (decimal (suc j)) (tag_of criterion))) (sym position_is) decision),
@@ -258,8 +261,12 @@ module _ (g : Given) {new : ℕ → Bool} {unit : c.Unit} {program : Program} {c
           → (role ≡ stands.in_truth → ⊥) → (position ≡ in_use as_callee → ⊥) → MayStand unit program criterion role known.next e it in_front → (takes_labels position ≡ true) × IsGood position known e
       by a_test isin comes taken no_truth other may = (
         refl,
-        λ x next goes. (tt, tt, good_scalar next.structs (own_type x) (taken x next goes)
-            (subst (λ (y : Typed). has_pointer_to_function (own_type y) ≡ false) (same_found comes.goes goes) (s.values stands.in_test e known isin comes))),
+        λ x next goes. (
+          tt,
+          tt,
+          good_scalar next.structs (own_type x) (taken x next goes)
+              (subst (λ (y : Typed). has_pointer_to_function (own_type y) ≡ false) (same_found comes.goes goes) (s.values stands.in_test e known isin comes)),
+        ),
       )
       by a_truth isin comes taken no_truth other may = absurd (no_truth refl)
       by a_value isin comes taken no_truth other may = (refl, value_is_good markable as_value (in_use as_value) known e refl refl isin comes comes refl some it may erasable)
