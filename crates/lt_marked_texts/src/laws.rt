@@ -2,7 +2,6 @@
 
 ghost use Rattle.lt_marked_texts.specs.Laws.{MarkedUnitsAreWellMade, AnnotatedTextsAreOfUnitsAlone};
 
-use lt_print::canonical_text_is_of_unit_alone;
 use lt_tree_laws::nodes_are_numbered;
 
 /// A well-made unit that has a typed program is well-made with the marks of objectives too.
@@ -17,5 +16,4 @@ pub fn annotated_texts_are_of_units_alone()
     ensures { AnnotatedTextsAreOfUnitsAlone }
 {
     marked_units_are_well_made();
-    canonical_text_is_of_unit_alone();
 }
