@@ -1,2 +1,4 @@
 pub mod Settings
 pub mod Laws
+pub mod Bodies
+pub mod Units

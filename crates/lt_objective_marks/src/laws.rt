@@ -1,12 +1,16 @@
-//! Laws of the definitions; the functions call those on which they rest.
+//! Laws of the marks of objectives; the functions call those on which they rest.
 
 ghost use Rattle.lt_objective_marks.specs.Laws.{ObjectivesAreAddedToExpressions};
+ghost use Rattle.lt_objective_marks.specs.Units.{MarkedUnitsRunAsTheyDid, ObjectivesAreAdded};
 
 use lt_erased_typing::{
     operands_keep_their_types, pure_expressions_are_typed_without_marks, truths_are_typed_as_values,
 };
+use lt_mark_typing::marked_units_run_the_same;
 use lt_objective_places::{marks_are_of_one_node, objectives_stand_where_they_may, pieces_stand};
-use lt_objective_typing::{labels_of_objectives_are_new, objectives_have_predicates};
+use lt_objective_typing::{
+    domains_give_predicates, labels_of_objectives_are_new, objectives_have_predicates,
+};
 use lt_tree_laws::nodes_are_numbered;
 use lt_typed_nodes::{operands_have_their_types, parts_are_come_to};
 
@@ -25,4 +29,23 @@ pub fn objectives_are_added_to_expressions()
     truths_are_typed_as_values();
     operands_have_their_types();
     parts_are_come_to();
+}
+
+/// Each new mark of a unit stands where it may.
+pub fn objectives_are_added()
+    ensures { ObjectivesAreAdded }
+{
+    objectives_are_added_to_expressions();
+    domains_give_predicates();
+    labels_of_objectives_are_new();
+    marks_are_of_one_node();
+    nodes_are_numbered();
+}
+
+/// So the marked unit runs as the unit does, new marks aside.
+pub fn marked_units_run_as_they_did()
+    ensures { MarkedUnitsRunAsTheyDid }
+{
+    marked_units_run_the_same();
+    objectives_are_added();
 }

@@ -1,4 +1,4 @@
-use Rattle.lt_objective_marks.proofs.StaysUnmarked.{kept_unmarked}
+use Rattle.lt_objective_marks.proofs.Unmarked.{kept_unmarked}
 use Rattle.lt_objective_marks.proofs.All.{all_added}
 use Rattle.lt_objective_marks.proofs.laws.objectives_are_added_to_expressions.Goals as goal
 
