@@ -6,8 +6,6 @@ use Rattle.std.specs.List.{flat_map}
 use Rattle.std.proofs.lemmas.List.{append-nil}
 use Rattle.std.proofs.lemmas.Option.{get_or_from_slice_get, slice_get-map}
 use Rattle.lt_tree.specs.Tree as c
-use Rattle.lt_tree.specs.Erasure.{erased}
-use Rattle.lt_tree.specs.Purity.{is_pure}
 use Rattle.lt_tree.specs.View.{expression_of}
 use Rattle.lt_tree.specs.UnitView.{external_of}
 use Rattle.lt_tree.specs.declared.expression.Expr.{Expr}
@@ -23,7 +21,8 @@ use Rattle.lt_objectives.specs.declared.criteria.Criterion.{Criterion}
 use Rattle.lt_objectives.specs.declared.criteria.Criterion.TheVariants as C
 use Rattle.lt_objectives.specs.Places.{Site, sites, is_open, is_value_position}
 use Rattle.lt_objectives.specs.Decisions.{decisions, clauses}
-use Rattle.lt_objectives.specs.Objectives.{Objective, all_at, at_start, at_body, at_expression, at_node, at_test, decided_at, differences, domains_of_object, is_core, parameters_at}
+use Rattle.lt_objectives.specs.Copies.{is_core, can_be_copied}
+use Rattle.lt_objectives.specs.Objectives.{Objective, all_at, at_start, at_body, at_expression, at_node, at_test, decided_at, differences, domains_of_object, parameters_at}
 use Rattle.lt_facts.specs.Indices.{at_place}
 use Rattle.lt_facts.specs.Facts.{AreFunctionIndices, parameters_of}
 use Rattle.lt_survey.specs.declared.survey.Survey.{Survey}
@@ -50,15 +49,15 @@ nothing true = refl
 nothing false = refl
 
 no_differences : (unit : c.Unit) (program : Program) (criterion : Criterion) → IsOneOfThem criterion → (k : ℕ) (e : c.Expression) → differences unit program criterion k e ≡ []
-no_differences unit program C.Function is k e = nothing (is_pure (erased e) && is_value_position unit k)
-no_differences unit program C.InputDomain is k e = nothing (is_pure (erased e) && is_value_position unit k)
-no_differences unit program C.Decision is k e = nothing (is_pure (erased e) && is_value_position unit k)
-no_differences unit program C.Condition is k e = nothing (is_pure (erased e) && is_value_position unit k)
+no_differences unit program C.Function is k e = nothing (can_be_copied e && is_value_position unit k)
+no_differences unit program C.InputDomain is k e = nothing (can_be_copied e && is_value_position unit k)
+no_differences unit program C.Decision is k e = nothing (can_be_copied e && is_value_position unit k)
+no_differences unit program C.Condition is k e = nothing (can_be_copied e && is_value_position unit k)
 no_differences unit program _ is k e = absurd is
 
 pub truths_at_expression : (unit : c.Unit) (program : Program) (criterion : Criterion) (survey : Survey) (k : ℕ) (e : c.Expression) → IsOneOfThem criterion
     → IsSurvey unit program survey → slice_get (nodes unit) k ≡ Some (an_expression e)
-    → truths_where_open (is_core e && get_or survey.open.items k false) criterion k (tested criterion (get_or survey.decisions.items k None) (get_or survey.clauses.items k None)) (erased e)
+    → truths_where_open (is_core e && get_or survey.open.items k false) criterion k (tested criterion (get_or survey.decisions.items k None) (get_or survey.clauses.items k None)) e
     ≡ at_expression unit program criterion k e
 truths_at_expression unit program criterion survey k e is known here =
     let node = an_expression e in
@@ -68,12 +67,12 @@ truths_at_expression unit program criterion survey k e is known here =
     let of_decision = decided_at (decisions unit) k in
     let of_clause = decided_at (clauses unit) k in
     let place = is_core e && is_open unit program k in
-    ap (λ b. truths_where_open (is_core e && b) criterion k (tested criterion (get_or survey.decisions.items k None) (get_or survey.clauses.items k None)) (erased e)) places
-    ∙ ap (λ d. truths_where_open place criterion k (tested criterion d (get_or survey.clauses.items k None)) (erased e)) decision
-    ∙ ap (λ d. truths_where_open place criterion k (tested criterion of_decision d) (erased e)) clause
+    ap (λ b. truths_where_open (is_core e && b) criterion k (tested criterion (get_or survey.decisions.items k None) (get_or survey.clauses.items k None)) e) places
+    ∙ ap (λ d. truths_where_open place criterion k (tested criterion d (get_or survey.clauses.items k None)) e) decision
+    ∙ ap (λ d. truths_where_open place criterion k (tested criterion of_decision d) e) clause
     ∙ ap (λ them. cond place them [])
-    (truths_are criterion is of_decision of_clause k (erased e) ∙ sym (append-nil (at_test criterion of_decision of_clause k (erased e)))
-    ∙ ap (λ rest. at_test criterion of_decision of_clause k (erased e) ++ rest) (sym (no_differences unit program criterion is k e)))
+    (truths_are criterion is of_decision of_clause k e ∙ sym (append-nil (at_test criterion of_decision of_clause k e))
+    ∙ ap (λ rest. at_test criterion of_decision of_clause k e ++ rest) (sym (no_differences unit program criterion is k e)))
 
 -- ---- bodies
 
@@ -107,7 +106,7 @@ labels_of_body unit program criterion survey k node known here =
 pub marks_of_expression : (unit : c.Unit) (program : Program) (criterion : Criterion) (survey : Survey) (k : ℕ) (node : NodeRef) (x : Bor Expr) → node ≡ at.Expression x → IsOneOfThem criterion
     → IsSurvey unit program survey → slice_get (nodes unit) k ≡ Some (node_of node)
     → truths_where_open (is_core (expression_of x.now) && get_or survey.open.items k false) criterion k (tested criterion (get_or survey.decisions.items k None) (get_or survey.clauses.items k None))
-    (erased (expression_of x.now)) ≡ at_node unit program criterion (site k (node_of node))
+    (expression_of x.now) ≡ at_node unit program criterion (site k (node_of node))
 marks_of_expression unit program criterion survey k node x is one known here =
     truths_at_expression unit program criterion survey k (expression_of x.now) one known (here ∙ ap (λ n. Some (node_of n)) is)
     ∙ sym (ap (λ n. at_node unit program criterion (site k (node_of n))) is)

@@ -2,8 +2,8 @@
 
 ghost use Rattle.std.specs.Prelude.{◌≡◌, ◌≤◌, ◌+◌, ◌&&◌, false, IfErr, OnOk, None, slice_index_or};
 ghost use Rattle.lt_tree.specs.View.{expression_of};
-ghost use Rattle.lt_tree.specs.Erasure.{erased};
-ghost use Rattle.lt_objectives.specs.Objectives.{is_core, both_truths};
+ghost use Rattle.lt_objectives.specs.Copies.{is_core};
+ghost use Rattle.lt_objectives.specs.Objectives.{both_truths};
 ghost use Rattle.lt_numbering.specs.Numbering.{Adds, IdsAreOut, most_id};
 ghost use Rattle.lt_crit.specs.Known.{tested, truths_where_open};
 
@@ -11,7 +11,7 @@ use lt_marks::erase_expression;
 use lt_numbering::{MarkStop, NewMarks};
 use lt_objectives::Criterion;
 use lt_placing::Form;
-use lt_predicates::both_truths;
+use lt_predicates::{both_truths, hides};
 use lt_survey::Survey;
 use lt_tree::{Expr, is_pure};
 use std::alloc::Global;
@@ -28,9 +28,9 @@ pub fn add_at_expression(
     requires { new.old.next ≤ most_id + 1 }
     ensures within { OnOk result (new.new.next ≤ most_id + 1) }
     ensures added { OnOk result (Adds new.old new.new (truths_where_open (is_core (expression_of e.now) && slice_index_or survey.now.open.items number false) criterion number
-        (tested criterion (slice_index_or survey.now.decisions.items number None) (slice_index_or survey.now.clauses.items number None)) (erased (expression_of e.now)))) }
+        (tested criterion (slice_index_or survey.now.decisions.items number None) (slice_index_or survey.now.clauses.items number None)) (expression_of e.now))) }
     ensures ids { IfErr result (IdsAreOut new.old (truths_where_open (is_core (expression_of e.now) && slice_index_or survey.now.open.items number false) criterion number
-        (tested criterion (slice_index_or survey.now.decisions.items number None) (slice_index_or survey.now.clauses.items number None)) (erased (expression_of e.now)))) }
+        (tested criterion (slice_index_or survey.now.decisions.items number None) (slice_index_or survey.now.clauses.items number None)) (expression_of e.now))) }
 {
     let is_place = is_core(e) && is_true_at(&survey.open, number);
     if !is_place {
@@ -78,7 +78,7 @@ pub fn place_at(places: &[Option<usize>], number: usize) -> Option<usize>
     }
 }
 
-/// Two labels in front of a pure expression; a `pc_decide` around what stands at `decided`, if the expression isn't pure.
+/// Two labels in front of an expression that predicates may copy; else a `pc_decide` around what stands at `decided`.
 fn add_both_truths(
     alloc: Global,
     criterion: Criterion,
@@ -89,11 +89,11 @@ fn add_both_truths(
 ) -> Result<(), MarkStop>
     requires { new.old.next ≤ most_id + 1 }
     ensures within { OnOk result (new.new.next ≤ most_id + 1) }
-    ensures added { OnOk result (Adds new.old new.new (both_truths criterion number decided (erased (expression_of e.now)))) }
-    ensures ids { IfErr result (IdsAreOut new.old (both_truths criterion number decided (erased (expression_of e.now)))) }
+    ensures added { OnOk result (Adds new.old new.new (both_truths criterion number decided (expression_of e.now))) }
+    ensures ids { IfErr result (IdsAreOut new.old (both_truths criterion number decided (expression_of e.now))) }
 {
     let plain = erase_expression(alloc, e)?;
-    if is_pure(&plain) {
+    if is_pure(&plain) && !hides(e) {
         let predicates = both_truths(alloc, &plain)?;
         new.add(alloc, number as u64, Form::InFront, criterion, predicates)
     } else {

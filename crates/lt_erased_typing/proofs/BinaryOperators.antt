@@ -162,7 +162,7 @@ module _ {x y v w : Typed} (p : BareValue x y) (q : BareValue v w) (shows : Show
       pointer_by : Bool → Bool → CType
       pointer_by a b =
           if point_alike (own_type x) (own_type v) then common_pointer (unqualified (target_in x)) (target_in x) (target_in v)
-          else (if a then own_type v else (if b then own_type x else common_pointer Void (target_in x) (target_in v)))
+          else (if a && is_pointer (own_type v) then own_type v else (if b && is_pointer (own_type x) then own_type x else common_pointer Void (target_in x) (target_in v)))
 
       by : (b : Bool) → is_pointer (own_type x) || is_pointer (own_type v) ≡ b
           → (if b then pointer_by (is_null_constant y.constancy) (is_null_constant w.constancy) else own_type x) ≡ (if b then pointer_by (is_null_constant x.constancy) (is_null_constant v.constancy) else own_type x)

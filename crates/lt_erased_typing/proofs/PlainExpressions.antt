@@ -17,7 +17,7 @@ use Rattle.lt_tree.specs.Typing.NodeEnds.{judge_unary, operand_of, also, end_of_
 use Rattle.lt_tree.specs.Typing.Specifying.{Setting, alone, in_sizeof, elsewhere, is_alone, beside_words, struct_tagged, Specified}
 use Rattle.lt_tree.specs.Typing.Declarators.{Built, built, type_name_faults, setting_in_sizeof}
 use Rattle.lt_tree.specs.Typing.ExpressionTyping.{expression, expressions, marks, mark, bindings, specifiers, type_specifiers, type_specifier, declarator, parts}
-use Rattle.lt_objectives.specs.Objectives.{is_core}
+use Rattle.lt_objectives.specs.Copies.{is_core}
 use Rattle.lt_erased_typing.specs.Erasable.{CanBeErased, CanEachBeErased, CanLengthsBeErased, CanPartsBeErased, AreKnown, AreKnownTypes, IsKnownType, ShowsNull, Behind, entered, unmarked}
 use Rattle.lt_erased_typing.specs.Plain.{HasScalarRegisters, IsPlain, ArePlain, ArePlainMarks, IsPlainMark, ArePlainBindings, IsPlainDeclarator, ArePlainParts, MayTake}
 use Rattle.lt_erased_typing.proofs.TypeNames.{written_somewhere, words_aside}

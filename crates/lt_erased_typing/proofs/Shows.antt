@@ -28,7 +28,7 @@ use Rattle.lt_tree.specs.Typing.Specifying.{elsewhere}
 use Rattle.lt_tree.specs.Typing.Declarators.{type_name_faults, setting_in_sizeof}
 use Rattle.lt_tree.specs.Typing.ExpressionTyping.{expression, expressions, marks, specifiers, declarator}
 use Rattle.lt_erased_typing.specs.Erasable.{CanBeErased, ShowsNull, Behind, entered, unmarked}
-use Rattle.lt_erased_typing.specs.Plain.{is_cast, is_marked_cast}
+use Rattle.lt_objectives.specs.Copies.{is_cast, is_marked_cast}
 use Rattle.lt_erased_typing.proofs.Going.{beside, Follows, goes, breaks}
 use Rattle.lt_erased_typing.proofs.Constants.{seen, is_integral, converted_is, applied_is, negated_is, connected_is, conversion_is, moved_seen, chosen_second, chosen_third}
 use Rattle.lt_erased_typing.proofs.Operands.{BareValue, Bare, value_read}

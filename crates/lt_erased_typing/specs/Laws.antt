@@ -7,7 +7,7 @@ use Rattle.lt_tree.specs.Typing.Entities.{Known, Label, Fact}
 use Rattle.lt_tree.specs.Typing.Steps.{Goes}
 use Rattle.lt_tree.specs.Typing.Expressions.{Typed, as_value, as_truth, own_type}
 use Rattle.lt_tree.specs.Typing.ExpressionTyping.{expression}
-use Rattle.lt_objectives.specs.Objectives.{is_core}
+use Rattle.lt_objectives.specs.Copies.{is_core}
 use Rattle.lt_erased_typing.specs.Plain.{HasScalarRegisters, IsPlain}
 use Rattle.lt_erased_typing.specs.Erasable.{CanBeErased, at, entered}
 

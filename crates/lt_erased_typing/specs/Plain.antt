@@ -5,22 +5,12 @@ use Rattle.lt_tree.specs.declared.expression.UnaryOp.TheVariants as unary
 use Rattle.lt_tree.specs.Tree as c
 use Rattle.lt_tree.specs.Typing.Types.{is_scalar}
 use Rattle.lt_tree.specs.Typing.Entities.{Known, Frame, an_object, meaning_of, type_of_object}
-use Rattle.lt_objectives.specs.Objectives.{is_core}
+use Rattle.lt_objectives.specs.Copies.{is_core, is_marked_cast}
 use Rattle.lt_erased_typing.specs.Erasable.{AreKnown}
 
 -- what is declared `register` here is a scalar
 abbrev pub HasScalarRegisters : Known → Type 0
 HasScalarRegisters known = (name : List ℕ) (n : ℕ) → meaning_of name known ≡ Some (an_object n true) → is_scalar (type_of_object known n) ≡ true
-
-abbrev pub is_cast : c.Expression → Bool
-is_cast (c.Cast s d operand) = true
-is_cast _ = false
-
--- a cast behind marks
-abbrev pub is_marked_cast : c.Expression → Bool
-is_marked_cast (c.Marked marks e) = is_cast e || is_marked_cast e
-is_marked_cast (c.After e id tag) = is_cast e || is_marked_cast e
-is_marked_cast _ = false
 
 -- `&` has no operand behind marks
 abbrev pub MayTake : UnaryOp → c.Expression → Type 0

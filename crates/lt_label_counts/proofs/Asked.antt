@@ -22,7 +22,8 @@ use Rattle.lt_objectives.specs.declared.criteria.Criterion.TheVariants as C
 use Rattle.lt_objectives.specs.Places.{Site, sites, is_open, is_value_position, type_at}
 use Rattle.lt_objectives.specs.Decisions.{decisions, clauses, clause_list, clause_count, clauses_of, conjunctions_from, conjunctions, conjunction, negation, inequality, zero_constant, active_from, active_clauses, most_clauses, has_few_clauses}
 use Rattle.lt_objectives.specs.Mutants.{with_others, is_one_of, same_op, arithmetic, relations, pointer_relations, is_fitting, is_signed_integer, minus, absolute, absolute_mutants, arithmetic_mutants, connector_mutants, relational_mutants}
-use Rattle.lt_objectives.specs.Objectives.{Form, at_start, in_front, around, Objective, objective, all_at, domains, domains_of_object, parameters_at, at_body, decided_at, both_truths, combinations, at_test, left_type, right_type, mutants, differences, is_core, at_expression, at_node, objectives}
+use Rattle.lt_objectives.specs.Copies.{is_core}
+use Rattle.lt_objectives.specs.Objectives.{Form, at_start, in_front, around, Objective, objective, all_at, domains, domains_of_object, parameters_at, at_body, decided_at, both_truths, combinations, at_test, left_type, right_type, mutants, differences, at_expression, at_node, objectives}
 use Rattle.lt_objectives.specs.Marked.{ids_of, next_id}
 use Rattle.lt_label_counts.proofs.Totals.{count, total, total_both, total_flat, total_at_most}
 

@@ -7,7 +7,8 @@ use Rattle.lt_tree.specs.Nodes.{Node, an_external, a_declarator, an_initialiser,
 use Rattle.lt_tree.specs.Typing.Programs.{Program}
 use Rattle.lt_objectives.specs.Places.{Site, sites, sites_from, Part, is_open}
 use Rattle.lt_objectives.specs.Decisions.{Test, controlling, decision_of, decisions}
-use Rattle.lt_objectives.specs.Objectives.{decided_at, is_core}
+use Rattle.lt_objectives.specs.Copies.{is_core}
+use Rattle.lt_objectives.specs.Objectives.{decided_at}
 use Rattle.lt_label_counts.proofs.Totals.{count, total, total_at_most, total_plus, total_flat}
 use Rattle.lt_label_counts.proofs.Asked.{asked_here, decided_here}
 use Rattle.lt_label_counts.proofs.Needed.{open_tests_here}

@@ -13,7 +13,7 @@ use Rattle.lt_sites.specs.Sites.{in_node}
 use Rattle.lt_places.proofs.Parts.{AreWhole, unit_whole}
 use Rattle.lt_objectives.specs.Places.{Site, sites, sites_from, Part, span, covers, closed, closed_by_value, is_open}
 use Rattle.lt_objectives.specs.Decisions.{controlling, in_after, decision_of}
-use Rattle.lt_objectives.specs.Objectives.{is_core}
+use Rattle.lt_objectives.specs.Copies.{is_core}
 use Rattle.lt_label_counts.specs.Needs.{own_need, in_mark_behind, needs}
 use Rattle.lt_label_counts.proofs.Totals.{count, at_most_one, total}
 use Rattle.lt_label_counts.proofs.Asked.{asked_here, defined_here}

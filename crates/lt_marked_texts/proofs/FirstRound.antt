@@ -11,7 +11,8 @@ use Rattle.lt_tree.specs.Typing.Programs.{Program}
 use Rattle.lt_objectives.specs.declared.criteria.Criterion.TheVariants as C
 use Rattle.lt_objectives.specs.Places.{sites_from, is_open, is_value_position}
 use Rattle.lt_objectives.specs.Decisions.{one}
-use Rattle.lt_objectives.specs.Objectives.{Form, at_start, in_front, around, Objective, objectives, differences, is_core, at_node}
+use Rattle.lt_objectives.specs.Copies.{is_core}
+use Rattle.lt_objectives.specs.Objectives.{Form, at_start, in_front, around, Objective, objectives, differences, at_node}
 use Rattle.lt_objectives.specs.Marked.{ids_of, numbered, same_form, label, labels, decided}
 use Rattle.lt_marked_texts.proofs.Unchanged.{OnlyAtStarts}
 use Rattle.lt_marked_texts.proofs.Inserted.{Plain, no_more, one_more}

@@ -14,7 +14,8 @@ use Rattle.lt_objectives.specs.declared.criteria.Criterion.{Criterion}
 use Rattle.lt_objectives.specs.declared.criteria.Criterion.TheVariants as C
 use Rattle.lt_objectives.specs.Places.{Site, is_open, is_value_position}
 use Rattle.lt_objectives.specs.Decisions.{decisions, clauses, negation, clause_list, conjunctions, active_clauses, has_few_clauses, inequality}
-use Rattle.lt_objectives.specs.Objectives.{at_start, in_front, around, Objective, objective, all_at, decided_at, both_truths, combinations, at_test, mutants, differences, is_core, at_expression, at_body, at_node}
+use Rattle.lt_objectives.specs.Copies.{is_core}
+use Rattle.lt_objectives.specs.Objectives.{at_start, in_front, around, Objective, objective, all_at, decided_at, both_truths, combinations, at_test, mutants, differences, at_expression, at_body, at_node}
 use Rattle.lt_objectives.specs.Criteria.{tag_of}
 use Rattle.lt_print.proofs.CuttingQuotes.{IsByte}
 use Rattle.lt_print.proofs.Clean.{IsConstant}

@@ -6,14 +6,14 @@ use Rattle.lt_tree.specs.declared.expression.Expr.{Expr}
 use Rattle.lt_tree.specs.Tree as c
 use Rattle.lt_tree.specs.View.{expression_of}
 use Rattle.lt_tree.specs.Erasure.{erased}
-use Rattle.lt_tree.specs.Purity.{is_pure}
 use Rattle.lt_tree.specs.Nodes.{Node, an_external, an_expression, nodes}
 use Rattle.lt_tree.specs.Typing.Programs.{Program}
 use Rattle.lt_objectives.specs.Places.{is_open, is_value_position}
 use Rattle.lt_objectives.specs.Decisions.{decisions, clauses, clause_list, conjunctions, active_clauses, has_few_clauses}
 use Rattle.lt_objectives.specs.declared.criteria.Criterion.{Criterion}
 use Rattle.lt_objectives.specs.declared.criteria.Criterion.TheVariants as C
-use Rattle.lt_objectives.specs.Objectives.{Objective, at_start, in_front, all_at, at_body, at_test, at_node, decided_at, is_core, differences}
+use Rattle.lt_objectives.specs.Copies.{is_core, can_be_copied}
+use Rattle.lt_objectives.specs.Objectives.{Objective, at_start, in_front, all_at, at_body, at_test, at_node, decided_at, differences}
 use Rattle.lt_sites.specs.declared.site.Site.{Site}
 use Rattle.lt_sites.specs.Sites.{node_of}
 use Rattle.lt_survey.specs.declared.survey.Survey.{Survey}
@@ -37,9 +37,9 @@ by_purity criterion k list true = refl
 by_purity criterion k list false = refl
 
 -- at a decision, and elsewhere
-test_is : (combination : Combination) (decision clause : Option ℕ) (k : ℕ) (e : c.Expression) → at_test (criterion_of combination) decision clause k (erased e) ≡ shown combination k (cond (is_some decision) (Some e) None)
-test_is each.MultipleCondition (Some decided) clause k e = by_purity C.MultipleCondition k (conjunctions (clause_list (erased e))) (is_pure (erased e) && has_few_clauses (erased e))
-test_is each.GeneralActiveClause (Some decided) clause k e = by_purity C.GeneralActiveClause k (active_clauses (erased e)) (is_pure (erased e) && has_few_clauses (erased e))
+test_is : (combination : Combination) (decision clause : Option ℕ) (k : ℕ) (e : c.Expression) → at_test (criterion_of combination) decision clause k e ≡ shown combination k (cond (is_some decision) (Some e) None)
+test_is each.MultipleCondition (Some decided) clause k e = by_purity C.MultipleCondition k (conjunctions (clause_list (erased e))) (can_be_copied e && has_few_clauses (erased e))
+test_is each.GeneralActiveClause (Some decided) clause k e = by_purity C.GeneralActiveClause k (active_clauses (erased e)) (can_be_copied e && has_few_clauses (erased e))
 test_is each.MultipleCondition None clause k e = refl
 test_is each.GeneralActiveClause None clause k e = refl
 
@@ -48,8 +48,8 @@ none_in true = refl
 none_in false = refl
 
 no_difference : (unit : c.Unit) (program : Program) (combination : Combination) (k : ℕ) (e : c.Expression) → differences unit program (criterion_of combination) k e ≡ []
-no_difference unit program each.MultipleCondition k e = none_in (is_pure (erased e) && is_value_position unit k)
-no_difference unit program each.GeneralActiveClause k e = none_in (is_pure (erased e) && is_value_position unit k)
+no_difference unit program each.MultipleCondition k e = none_in (can_be_copied e && is_value_position unit k)
+no_difference unit program each.GeneralActiveClause k e = none_in (can_be_copied e && is_value_position unit k)
 
 -- at an expression, by what is so there
 at_core : (combination : Combination) (k : ℕ) (e : c.Expression) (tests differing : List Objective) (is_core is_open is_decision : Bool) → tests ≡ shown combination k (cond is_decision (Some e) None) → differing ≡ []

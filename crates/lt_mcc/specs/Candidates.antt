@@ -1,9 +1,8 @@
 -- Decisions before which labels for combinations of their clauses may stand.
 use Rattle.std.specs.Prelude.{Bool, ◌&&◌, if◌then◌else◌, List, [], Option, Some, None}
 use Rattle.lt_tree.specs.Tree as c
-use Rattle.lt_tree.specs.Erasure.{erased}
 use Rattle.lt_tree.specs.Nodes.{Node, an_expression}
-use Rattle.lt_objectives.specs.Objectives.{is_core}
+use Rattle.lt_objectives.specs.Copies.{is_core}
 use Rattle.lt_mcc.specs.declared.combination.Combination.{Combination}
 use Rattle.lt_mcc.specs.Combinations.{combined}
 
@@ -19,4 +18,4 @@ candidate node is_open is_decision = if is_open && is_decision then core_in node
 -- the predicates in front of it
 abbrev pub predicates : Combination → Option c.Expression → List c.Expression
 predicates combination None = []
-predicates combination (Some e) = combined combination (erased e)
+predicates combination (Some e) = combined combination e

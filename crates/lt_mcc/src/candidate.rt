@@ -1,7 +1,7 @@
 ghost use Rattle.std.specs.Prelude.{◌≡◌, ◌<◌, length, None, false, is_some, option_map, slice_get, slice_index_or};
 ghost use Rattle.lt_tree.specs.View.{expression_of};
 ghost use Rattle.lt_tree.specs.Nodes.{Node};
-ghost use Rattle.lt_objectives.specs.Objectives.{is_core};
+ghost use Rattle.lt_objectives.specs.Copies.{is_core};
 ghost use Rattle.lt_sites.specs.Sites.{node_of};
 ghost use Rattle.lt_mcc.specs.Candidates.{core_in, candidate};
 

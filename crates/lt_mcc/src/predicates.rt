@@ -1,6 +1,7 @@
 ghost use Rattle.std.specs.Prelude.{◌≡◌, ◌<◌, length, true, IfOk, Some, slice_get};
 ghost use Rattle.lt_tree.specs.Tree as c;
 ghost use Rattle.lt_tree.specs.View.{expression_of};
+ghost use Rattle.lt_tree.specs.Erasure.{erased};
 ghost use Rattle.lt_tree.specs.Purity.{is_pure};
 ghost use Rattle.lt_tree.specs.Nodes.{Node, nodes};
 ghost use Rattle.lt_tree.specs.Typing.Programs.{Program};
@@ -13,7 +14,7 @@ ghost use Rattle.lt_mcc.specs.Combinations.{combinations_of, combined, criterion
 use crate::candidate::candidate;
 use crate::combination::Combination;
 use lt_marks::erase_expression;
-use lt_predicates::{active_clauses, clause_list, conjunctions, has_few_clauses};
+use lt_predicates::{active_clauses, clause_list, conjunctions, has_few_clauses, hides};
 use lt_survey::Survey;
 use lt_tree::{Expr, is_pure};
 use std::alloc::{AllocError, Global};
@@ -33,15 +34,21 @@ pub fn predicates_at(
         return Ok(Vec::new(alloc));
     };
     let plain = Box::new(alloc, erase_expression(alloc, e)?)?;
-    combined(alloc, combination, &plain)
+    combined(alloc, combination, e, &plain)
 }
 
-/// The combinations of the clauses of a decision without marks that are objectives.
-fn combined(alloc: Global, combination: Combination, d: &Expr) -> Result<Vec<Expr>, AllocError>
+/// The combinations of the clauses of a decision, which is given without its marks too, that are objectives.
+fn combined(
+    alloc: Global,
+    combination: Combination,
+    d: &Expr,
+    plain: &Expr,
+) -> Result<Vec<Expr>, AllocError>
+    requires same { expression_of plain.now ≡ erased (expression_of d.now) }
     ensures { Makes result (combined combination (expression_of d.now)) }
 {
-    if is_pure(d) && has_few(alloc, d)? {
-        combinations(alloc, combination, d)
+    if is_pure(plain) && !hides(d) && has_few(alloc, plain)? {
+        combinations(alloc, combination, plain)
     } else {
         Ok(Vec::new(alloc))
     }

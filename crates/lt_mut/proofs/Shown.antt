@@ -5,13 +5,13 @@ use Rattle.lt_tree.specs.declared.expression.Expr.{Expr}
 use Rattle.lt_tree.specs.Tree as c
 use Rattle.lt_tree.specs.View.{expression_of}
 use Rattle.lt_tree.specs.Erasure.{erased}
-use Rattle.lt_tree.specs.Purity.{is_pure}
 use Rattle.lt_tree.specs.Nodes.{Node, an_external, an_expression, nodes}
 use Rattle.lt_tree.specs.Typing.Programs.{Program}
 use Rattle.lt_objectives.specs.Places.{is_open, is_value_position}
 use Rattle.lt_objectives.specs.Decisions.{inequality, decisions, clauses}
 use Rattle.lt_objectives.specs.declared.criteria.Criterion.{Criterion}
-use Rattle.lt_objectives.specs.Objectives.{Objective, at_start, in_front, all_at, at_body, at_test, at_node, decided_at, is_core, mutants}
+use Rattle.lt_objectives.specs.Copies.{is_core, can_be_copied}
+use Rattle.lt_objectives.specs.Objectives.{Objective, at_start, in_front, all_at, at_body, at_test, at_node, decided_at, mutants}
 use Rattle.lt_sites.specs.declared.site.Site.{Site}
 use Rattle.lt_sites.specs.Sites.{node_of}
 use Rattle.lt_survey.specs.declared.survey.Survey.{Survey}
@@ -42,8 +42,8 @@ abbrev all_mutants : c.Unit → Program → Criterion → ℕ → c.Expression �
 all_mutants unit program criterion k e = map (inequality (erased e)) (mutants unit program criterion k e (erased e))
 
 -- at an expression, by what is so there
-at_core : (unit : c.Unit) (program : Program) (criterion : Criterion) (k : ℕ) (e : c.Expression) (tests : List Objective) (is_core is_open is_value pure : Bool) → tests ≡ [] → is_pure (erased e) ≡ pure
-    → cond (is_core && is_open) (tests ++ cond (pure && is_value) (all_at k in_front criterion (all_mutants unit program criterion k e)) []) []
+at_core : (unit : c.Unit) (program : Program) (criterion : Criterion) (k : ℕ) (e : c.Expression) (tests : List Objective) (is_core is_open is_value copied : Bool) → tests ≡ [] → can_be_copied e ≡ copied
+    → cond (is_core && is_open) (tests ++ cond (copied && is_value) (all_at k in_front criterion (all_mutants unit program criterion k e)) []) []
     ≡ shown unit program criterion k (cond (is_open && is_value) (cond is_core (Some e) None) None)
 at_core unit program criterion k e tests true true true true none is =
     let ms = all_mutants unit program criterion k e in
@@ -53,10 +53,10 @@ at_core unit program criterion k e tests true true true false none is =
     ap (λ list. list ++ []) none ∙ sym (ap (λ b. all_at k in_front criterion (cond b ms [])) is)
 at_core unit program criterion k e tests true true false true none is = ap (λ list. list ++ []) none
 at_core unit program criterion k e tests true true false false none is = ap (λ list. list ++ []) none
-at_core unit program criterion k e tests true false is_value pure none is = refl
-at_core unit program criterion k e tests false true true pure none is = refl
-at_core unit program criterion k e tests false true false pure none is = refl
-at_core unit program criterion k e tests false false is_value pure none is = refl
+at_core unit program criterion k e tests true false is_value copied none is = refl
+at_core unit program criterion k e tests false true true copied none is = refl
+at_core unit program criterion k e tests false true false copied none is = refl
+at_core unit program criterion k e tests false false is_value copied none is = refl
 
 nothing : (unit : c.Unit) (program : Program) (criterion : Criterion) (k : ℕ) (b : Bool) → [] ≡ shown unit program criterion k (cond b None None)
 nothing unit program criterion k true = refl
@@ -65,8 +65,8 @@ nothing unit program criterion k false = refl
 at_node_is : (unit : c.Unit) (program : Program) (mutation : Mutation) (k : ℕ) (node : Node)
     → at_node unit program (criterion_of mutation) (site k node) ≡ shown unit program (criterion_of mutation) k (candidate node (is_open unit program k) (is_value_position unit k))
 at_node_is unit program mutation k (an_expression e) =
-    at_core unit program (criterion_of mutation) k e (at_test (criterion_of mutation) (decided_at (decisions unit) k) (decided_at (clauses unit) k) k (erased e))
-    (is_core e) (is_open unit program k) (is_value_position unit k) (is_pure (erased e)) (no_test mutation (decided_at (decisions unit) k) (decided_at (clauses unit) k) k (erased e)) refl
+    at_core unit program (criterion_of mutation) k e (at_test (criterion_of mutation) (decided_at (decisions unit) k) (decided_at (clauses unit) k) k e)
+    (is_core e) (is_open unit program k) (is_value_position unit k) (can_be_copied e) (no_test mutation (decided_at (decisions unit) k) (decided_at (clauses unit) k) k e) refl
 at_node_is unit program mutation k (an_external (c.Defines s d body)) =
     ap (all_at k at_start (criterion_of mutation)) (no_body unit program mutation k) ∙ nothing unit program (criterion_of mutation) k (is_open unit program k && is_value_position unit k)
 at_node_is unit program mutation k node = nothing unit program (criterion_of mutation) k (is_open unit program k && is_value_position unit k)

@@ -2,12 +2,12 @@
 use Rattle.std.specs.Prelude.{ℕ, Bool, ◌&&◌, if◌then◌else◌, List, [], map, Option, Some, None}
 use Rattle.lt_tree.specs.Tree as c
 use Rattle.lt_tree.specs.Erasure.{erased}
-use Rattle.lt_tree.specs.Purity.{is_pure}
 use Rattle.lt_tree.specs.Nodes.{Node, an_expression}
 use Rattle.lt_tree.specs.Typing.Programs.{Program}
 use Rattle.lt_objectives.specs.declared.criteria.Criterion.{Criterion}
 use Rattle.lt_objectives.specs.Decisions.{inequality}
-use Rattle.lt_objectives.specs.Objectives.{is_core, mutants}
+use Rattle.lt_objectives.specs.Copies.{is_core, can_be_copied}
+use Rattle.lt_objectives.specs.Objectives.{mutants}
 
 -- an expression without marks around it
 abbrev pub core_in : Node → Option c.Expression
@@ -21,4 +21,4 @@ candidate node is_open is_value = if is_open && is_value then core_in node else 
 -- the predicates of a criterion in front of it
 abbrev pub predicates : c.Unit → Program → Criterion → ℕ → Option c.Expression → List c.Expression
 predicates unit program criterion k None = []
-predicates unit program criterion k (Some e) = if is_pure (erased e) then map (inequality (erased e)) (mutants unit program criterion k e (erased e)) else []
+predicates unit program criterion k (Some e) = if can_be_copied e then map (inequality (erased e)) (mutants unit program criterion k e (erased e)) else []

@@ -18,7 +18,7 @@ use crate::operands::{are_integers, is_signed};
 use lt_marks::erase_expression;
 use lt_predicates::{
     differences_by_absolute, differences_by_arithmetic, differences_by_connector,
-    differences_by_relation,
+    differences_by_relation, hides,
 };
 use lt_survey::Survey;
 use lt_tree::{Expr, is_pure};
@@ -56,7 +56,7 @@ fn pure_differences(
     ensures { (unit : c.Unit) (program : Program) → IsSurvey unit program survey.now → slice_get (nodes unit) k ≡ Some (an_expression (expression_of e.now))
         → Makes result (predicates unit program (criterion_of mutation) k (Some (expression_of e.now))) }
 {
-    if is_pure(plain) {
+    if is_pure(plain) && !hides(e) {
         differences(alloc, survey, mutation, k, e, plain)
     } else {
         Ok(Vec::new(alloc))

@@ -16,7 +16,8 @@ use Rattle.lt_objectives.specs.declared.criteria.Criterion.{Criterion}
 use Rattle.lt_objectives.specs.Criteria.{tag_of}
 use Rattle.lt_objectives.specs.Decisions.{one, decisions, clauses}
 use Rattle.lt_objectives.specs.Places.{core, is_open}
-use Rattle.lt_objectives.specs.Objectives.{in_front, around, Objective, objective, is_core, at_test, differences, at_expression, decided_at, objectives}
+use Rattle.lt_objectives.specs.Copies.{is_core}
+use Rattle.lt_objectives.specs.Objectives.{in_front, around, Objective, objective, at_test, differences, at_expression, decided_at, objectives}
 use Rattle.lt_objectives.specs.Marked.{numbered, next_id, labels, decided}
 use Rattle.lt_objective_places.specs.Stands.{IsAmong, Role, in_test, can_be_decided}
 use Rattle.lt_objective_places.specs.Pieces.{an_expression, IsIn}

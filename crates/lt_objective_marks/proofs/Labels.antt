@@ -9,7 +9,8 @@ use Rattle.lt_tree.specs.Typing.Expressions.{as_value, own_type}
 use Rattle.lt_tree.specs.Typing.Programs.{Program}
 use Rattle.lt_objectives.specs.declared.criteria.Criterion.{Criterion}
 use Rattle.lt_objectives.specs.Places.{part, core}
-use Rattle.lt_objectives.specs.Objectives.{in_front, Objective, objective, all_at, is_core, at_expression, objectives}
+use Rattle.lt_objectives.specs.Copies.{is_core}
+use Rattle.lt_objectives.specs.Objectives.{in_front, Objective, objective, all_at, at_expression, objectives}
 use Rattle.lt_objectives.specs.Marked.{NewMark, numbered, next_id, labels, decided}
 use Rattle.lt_objective_places.specs.Stands.{IsAmong, IsWithin, Role, IsNoTest, MayStand}
 use Rattle.lt_objective_places.specs.Pieces.{an_expression, IsIn}

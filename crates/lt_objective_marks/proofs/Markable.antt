@@ -22,7 +22,8 @@ use Rattle.lt_objectives.specs.declared.criteria.Criterion.TheVariants as C
 use Rattle.lt_objectives.specs.Places.{type_at, is_open, is_value_position}
 use Rattle.lt_objectives.specs.Decisions.{decisions, clauses, inequality}
 use Rattle.lt_objectives.specs.Mutants.{is_one_of, relations, pointer_relations, is_fitting, is_signed_integer, arithmetic_mutants, relational_mutants, connector_mutants}
-use Rattle.lt_objectives.specs.Objectives.{in_front, Objective, all_at, decided_at, at_test, left_type, right_type, mutants, differences, is_core}
+use Rattle.lt_objectives.specs.Copies.{is_core}
+use Rattle.lt_objectives.specs.Objectives.{in_front, Objective, all_at, decided_at, at_test, left_type, right_type, mutants, differences}
 use Rattle.lt_objective_places.specs.Stands.{IsAmong, MayStand}
 use Rattle.lt_objective_places.specs.Stands as stands
 use Rattle.lt_erased_typing.specs.Erasable.{CanBeErased}

@@ -9,7 +9,8 @@ use Rattle.lt_objectives.specs.declared.criteria.Criterion.{Criterion}
 use Rattle.lt_objectives.specs.declared.criteria.Criterion.TheVariants as C
 use Rattle.lt_objectives.specs.Places.{is_open, is_value_position}
 use Rattle.lt_objectives.specs.Decisions.{decisions, clauses, negation, inequality, clause_list, conjunctions, active_clauses, has_few_clauses}
-use Rattle.lt_objectives.specs.Objectives.{in_front, around, Objective, objective, all_at, decided_at, at_test, mutants, differences, is_core, at_expression}
+use Rattle.lt_objectives.specs.Copies.{is_core}
+use Rattle.lt_objectives.specs.Objectives.{in_front, around, Objective, objective, all_at, decided_at, at_test, mutants, differences, at_expression}
 
 -- nothing stands there, or labels with these predicates in front of a pure expression, or a `pc_decide` around what is decided
 pub data Shape (criterion : Criterion) (k : ℕ) (plain : c.Expression) : List Objective → Type 0 where

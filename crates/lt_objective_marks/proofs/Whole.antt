@@ -14,7 +14,8 @@ use Rattle.lt_tree.specs.Typing.ExpressionTyping.{expression}
 use Rattle.lt_tree.specs.Typing.Programs.{Program}
 use Rattle.lt_objectives.specs.declared.criteria.Criterion.{Criterion}
 use Rattle.lt_objectives.specs.Criteria.{tag_of}
-use Rattle.lt_objectives.specs.Objectives.{in_front, Objective, is_core, objectives}
+use Rattle.lt_objectives.specs.Copies.{is_core}
+use Rattle.lt_objectives.specs.Objectives.{in_front, Objective, objectives}
 use Rattle.lt_objectives.specs.Marked.{NewMark, labels, decided, preceded_by, within, with_marks}
 use Rattle.lt_objective_places.specs.Stands.{IsAmong, IsWithin, Role, IsNoTest, MayStand}
 use Rattle.lt_objective_places.specs.Stands as stands

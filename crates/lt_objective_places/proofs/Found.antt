@@ -11,7 +11,8 @@ use Rattle.lt_objectives.specs.declared.criteria.Criterion.{Criterion}
 use Rattle.lt_objectives.specs.declared.criteria.Criterion.TheVariants as C
 use Rattle.lt_objectives.specs.Places.{Site, sites, sites_from, is_open, is_value_position}
 use Rattle.lt_objectives.specs.Decisions.{Test, decisions, clauses, has_few_clauses, negation, clause_list, conjunctions, active_clauses}
-use Rattle.lt_objectives.specs.Objectives.{Form, at_start, in_front, around, Objective, objective, all_at, at_body, decided_at, combinations, at_test, differences, is_core, at_expression, at_node, objectives}
+use Rattle.lt_objectives.specs.Copies.{is_core}
+use Rattle.lt_objectives.specs.Objectives.{Form, at_start, in_front, around, Objective, objective, all_at, at_body, decided_at, combinations, at_test, differences, at_expression, at_node, objectives}
 use Rattle.lt_decisions.specs.declared.turn.Tests.{Tests}
 use Rattle.lt_decisions.specs.declared.turn.Tests.TheVariants as tests
 use Rattle.lt_decisions.specs.Walk.{tests_in}

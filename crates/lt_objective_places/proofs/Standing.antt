@@ -7,7 +7,8 @@ use Rattle.lt_tree.specs.Typing.Programs.{Program}
 use Rattle.lt_objectives.specs.declared.criteria.Criterion.{Criterion}
 use Rattle.lt_objectives.specs.Places.{sites, part, core, is_open, is_value_position}
 use Rattle.lt_objectives.specs.Decisions.{Test}
-use Rattle.lt_objectives.specs.Objectives.{at_start, in_front, around, Objective, all_at, at_body, decided_at, is_core, at_expression, at_node, objectives}
+use Rattle.lt_objectives.specs.Copies.{is_core}
+use Rattle.lt_objectives.specs.Objectives.{at_start, in_front, around, Objective, all_at, at_body, decided_at, at_expression, at_node, objectives}
 use Rattle.lt_sites.proofs.Nodes.{expression_node}
 use Rattle.lt_decisions.specs.declared.turn.Tests.{Tests}
 use Rattle.lt_decisions.specs.declared.turn.Tests.TheVariants as tests

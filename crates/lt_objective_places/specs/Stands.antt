@@ -7,7 +7,8 @@ use Rattle.lt_tree.specs.Typing.Programs.{Program}
 use Rattle.lt_objectives.specs.declared.criteria.Criterion.{Criterion}
 use Rattle.lt_objectives.specs.Places.{core, sites_from, is_open, is_value_position}
 use Rattle.lt_objectives.specs.Decisions.{Test, decisions, clauses}
-use Rattle.lt_objectives.specs.Objectives.{Form, at_start, in_front, around, Objective, decided_at, is_core, at_expression}
+use Rattle.lt_objectives.specs.Copies.{is_core}
+use Rattle.lt_objectives.specs.Objectives.{Form, at_start, in_front, around, Objective, decided_at, at_expression}
 use Rattle.lt_decisions.specs.declared.turn.Tests.{Tests}
 use Rattle.lt_decisions.specs.Walk.{tests_of, tests_at, tests_in}
 

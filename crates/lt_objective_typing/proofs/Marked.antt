@@ -12,7 +12,7 @@ use Rattle.lt_tree.specs.Typing.Steps.{Outcome, Goes, Breaks, goes_on}
 use Rattle.lt_tree.specs.Typing.Expressions.{Typed, as_value, own_type, finish}
 use Rattle.lt_tree.specs.Typing.BinaryOperations.{judge_binary}
 use Rattle.lt_tree.specs.Typing.ExpressionTyping.{expression}
-use Rattle.lt_objectives.specs.Objectives.{is_core}
+use Rattle.lt_objectives.specs.Copies.{is_core}
 use Rattle.lt_erased_typing.specs.Erasable.{CanBeErased, entered}
 use Rattle.lt_erased_typing.proofs.Whole.{typed_without_marks, operands_keep}
 use Rattle.lt_objective_typing.specs.Laws.{TakesIntegers, MarkedExpressionsHavePredicates}

@@ -16,7 +16,8 @@ use Rattle.lt_tree.specs.Typing.ExpressionTyping.{expression}
 use Rattle.lt_objectives.specs.declared.criteria.Criterion.{Criterion}
 use Rattle.lt_objectives.specs.Decisions.{negation, inequality, clause_list, conjunctions, active_clauses}
 use Rattle.lt_objectives.specs.Mutants.{is_signed_integer, pointer_relations, relations, with_others, absolute_mutants, arithmetic_mutants, connector_mutants, relational_mutants}
-use Rattle.lt_objectives.specs.Objectives.{Form, all_at, domains, at_test, is_core}
+use Rattle.lt_objectives.specs.Copies.{is_core}
+use Rattle.lt_objectives.specs.Objectives.{Form, all_at, domains, at_test}
 use Rattle.lt_objectives.specs.Marked.{ids_of, numbered, labels}
 use Rattle.lt_mark_typing.specs.Beside.{is_used}
 use Rattle.lt_erased_typing.specs.Erasable.{CanBeErased}

@@ -5,7 +5,6 @@ use Rattle.lt_model.specs.declared.operator.Op.TheVariants as O
 use Rattle.lt_model.specs.declared.scalar.DataModel.{DataModel}
 use Rattle.lt_tree.specs.Tree as c
 use Rattle.lt_tree.specs.Erasure.{erased}
-use Rattle.lt_tree.specs.Purity.{is_pure}
 use Rattle.lt_tree.specs.Nodes.{Node, an_external, an_expression, in_expression}
 use Rattle.lt_tree.specs.Typing.Types.{CType, own_qualifiers, is_integer, is_pointer}
 use Rattle.lt_tree.specs.Typing.Entities.{Object, Function}
@@ -13,6 +12,7 @@ use Rattle.lt_tree.specs.Typing.Programs.{Program}
 use Rattle.lt_objectives.specs.declared.criteria.Criterion.{Criterion}
 use Rattle.lt_objectives.specs.declared.criteria.Criterion.TheVariants as C
 use Rattle.lt_objectives.specs.Criteria.{tag_of}
+use Rattle.lt_objectives.specs.Copies.{is_core, can_be_copied}
 use Rattle.lt_objectives.specs.Places.{Site, sites, is_at, value_part, corresponding_node, type_at, is_open, is_value_position}
 use Rattle.lt_objectives.specs.Decisions.{Test, decisions, clauses, one, zero_constant, negation, inequality, clause_list, conjunctions, active_clauses, has_few_clauses}
 use Rattle.lt_objectives.specs.Mutants.{is_signed_integer, absolute_mutants, arithmetic_mutants, connector_mutants, relational_mutants}
@@ -74,17 +74,17 @@ abbrev pub decided_at : List Test → ℕ → Option ℕ
 decided_at [] k = None
 decided_at (it ∷ rest) k = if is_at k it.core then Some it.decided else decided_at rest k
 
--- both truths of an expression: two labels if it is pure, else a `pc_decide`
+-- both truths of an expression: two labels if predicates may copy it, else a `pc_decide`
 abbrev pub both_truths : Criterion → ℕ → (decided : ℕ) → c.Expression → List Objective
 both_truths criterion k decided e =
-    if is_pure e then all_at k in_front criterion (e ∷ negation e ∷ []) else objective decided around criterion e ∷ []
+    if can_be_copied e then all_at k in_front criterion (erased e ∷ negation (erased e) ∷ []) else objective decided around criterion (erased e) ∷ []
 
--- the combinations of the clauses of a pure decision
+-- the combinations of the clauses of a decision that predicates may copy
 abbrev pub combinations : Criterion → ℕ → (c.Expression → List c.Expression) → c.Expression → List Objective
-combinations criterion k predicates d = if is_pure d && has_few_clauses d then all_at k in_front criterion (predicates d) else []
+combinations criterion k predicates d =
+    if can_be_copied d && has_few_clauses (erased d) then all_at k in_front criterion (predicates (erased d)) else []
 
--- The objectives of a criterion at an expression, without its marks, that is a decision or a clause; with the number of what a new `pc_decide` stands
--- around.
+-- The objectives of a criterion at an expression that is a decision or a clause; with the number of what a new `pc_decide` stands around.
 abbrev pub at_test : Criterion → (decision clause : Option ℕ) → ℕ → c.Expression → List Objective
 at_test C.Decision (Some decided) clause k e = both_truths C.Decision k decided e
 at_test C.Condition decision (Some decided) k e = both_truths C.Condition k decided e
@@ -92,7 +92,7 @@ at_test C.MultipleCondition (Some decided) clause k e = combinations C.MultipleC
 at_test C.GeneralActiveClause (Some decided) clause k e = combinations C.GeneralActiveClause k active_clauses e
 at_test _ decision clause k e = []
 
--- ---- at pure expressions in value positions
+-- ---- at expressions in value positions that predicates may copy
 
 -- the types of the operands of a binary operator at this number
 abbrev pub left_type : c.Unit → Program → ℕ → c.Expression → CType
@@ -114,21 +114,15 @@ mutants unit program _ k e plain = []
 -- that a pure expression and its mutant have different values
 abbrev pub differences : c.Unit → Program → Criterion → ℕ → c.Expression → List Objective
 differences unit program criterion k e =
-    if is_pure (erased e) && is_value_position unit k then all_at k in_front criterion (map (inequality (erased e)) (mutants unit program criterion k e (erased e)))
+    if can_be_copied e && is_value_position unit k then all_at k in_front criterion (map (inequality (erased e)) (mutants unit program criterion k e (erased e)))
     else []
 
 -- ---- in the order of the walk
 
-abbrev pub is_core : c.Expression → Bool
-is_core (c.Marked marks e) = false
-is_core (c.Decide e when_true when_false tag) = false
-is_core (c.After e id tag) = false
-is_core e = true
-
 abbrev pub at_expression : c.Unit → Program → Criterion → ℕ → c.Expression → List Objective
 at_expression unit program criterion k e =
     if is_core e && is_open unit program k
-    then at_test criterion (decided_at (decisions unit) k) (decided_at (clauses unit) k) k (erased e) ++ differences unit program criterion k e else []
+    then at_test criterion (decided_at (decisions unit) k) (decided_at (clauses unit) k) k e ++ differences unit program criterion k e else []
 
 abbrev pub at_node : c.Unit → Program → Criterion → Site → List Objective
 at_node unit program criterion site =

@@ -8,6 +8,7 @@ mod combinations;
 mod copies;
 mod differences;
 mod domain;
+mod hidden;
 mod laws;
 
 pub use active::active_clauses;
@@ -18,4 +19,5 @@ pub use differences::{
     differences_by_relation,
 };
 pub use domain::{Domain, domains};
+pub use hidden::hides;
 pub use laws::domains_are_of_types;

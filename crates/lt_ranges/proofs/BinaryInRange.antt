@@ -8,14 +8,14 @@ use Rattle.lt_model.specs.declared.operator.Op.TheVariants as O
 use Rattle.lt_model.specs.Conversions.{usual_of}
 use Rattle.lt_tree.specs.declared.expression.LogicalOp.{LogicalOp}
 use Rattle.lt_tree.specs.Typing.Types.{CType, Void, Num, unqualified, both as both_of, own_qualifiers, is_integer, is_pointer}
-use Rattle.lt_tree.specs.Typing.Constants.{moved_by, chosen, is_null_constant}
+use Rattle.lt_tree.specs.Typing.Constants.{moved_by, chosen}
 use Rattle.lt_tree.specs.Typing.TypedTree as e
 use Rattle.lt_tree.specs.Typing.TypedTree.{Value, Values, Place, Marks, Bindings, names_bound}
 use Rattle.lt_tree.specs.Typing.Entities.{Known}
 use Rattle.lt_tree.specs.Typing.Expressions.{Typed, Use, own_type, value_in, place_in, converted_to, scalar_in}
 use Rattle.lt_tree.specs.Typing.Operands.{are_integers, point_alike, is_relation, is_equality}
 use Rattle.lt_tree.specs.Typing.Operations.{target_in, pointer_among, other_among, element_size, object_size}
-use Rattle.lt_tree.specs.Typing.BinaryOperations.{operation_type, right_type, result_type, on_integers, towards, moved, distance, beside, compared, on_pointers, judge_binary, settles, judge_logical, common_pointer, chosen_pointer, chosen_type, judge_conditional, judge_assign, updated, judge_update, judge_assignment, values_of, last_of, judge_comma}
+use Rattle.lt_tree.specs.Typing.BinaryOperations.{operation_type, right_type, result_type, on_integers, towards, moved, distance, beside, compared, on_pointers, judge_binary, settles, judge_logical, common_pointer, gives_way, chosen_pointer, chosen_type, judge_conditional, judge_assign, updated, judge_update, judge_assignment, values_of, last_of, judge_comma}
 use Rattle.lt_tree.specs.Typing.MarkRules.{TypedBinding, names_of, bindings_of, number_of_id, judge_decide, judge_after, judge_marked}
 use Rattle.lt_tree.specs.Typing.Ranges.{Lists, to_label, IsThere, in_values, in_marks, in_bindings}
 use Rattle.lt_ranges.proofs.References.{Has, none, cons, both}
@@ -86,9 +86,9 @@ pointer_or_null {b} {x} {y} false false h i = common_in Void (target_in x) (targ
 chosen_pointer_in : {b : Lists} {x y : Typed} → TypedIn b x → TypedIn b y → T b (chosen_pointer x y)
 chosen_pointer_in {b} {x} {y} h i =
     elim (point_alike (own_type x) (own_type y)) as (λ v. T b (if v then common_pointer (unqualified (target_in x)) (target_in x) (target_in y)
-    else (if is_null_constant x.constancy then own_type y else (if is_null_constant y.constancy then own_type x else common_pointer Void (target_in x) (target_in y))))) [
+    else (if gives_way x y then own_type y else (if gives_way y x then own_type x else common_pointer Void (target_in x) (target_in y))))) [
       | true ↦ common_in (unqualified (target_in x)) (target_in x) (target_in y) (unqualified_in (target_in x) (target_type_in h))
-      | false ↦ pointer_or_null (is_null_constant x.constancy) (is_null_constant y.constancy) h i
+      | false ↦ pointer_or_null (gives_way x y) (gives_way y x) h i
     ]
 
 chosen_other_in : {b : Lists} {x y : Typed} (test : Bool) → TypedIn b x → TypedIn b y → T b (if test then chosen_pointer x y else own_type x)

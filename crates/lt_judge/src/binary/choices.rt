@@ -117,6 +117,14 @@ fn point_alike(types: &Types, x: &Typed, y: &Typed) -> Result<bool, AllocError>
     }
 }
 
+// Beside a pointer, a null pointer constant takes the type of the pointer.
+fn gives_way(types: &Types, x: &Typed, other: &Typed) -> Result<bool, AllocError>
+    ensures { IfOk result (λ b. Stays types.now.rows (λ longer. b ≡ binary.gives_way (typed_of longer x.now) (typed_of longer other.now))) }
+{
+    let beside = is_pointer(types, other)?;
+    Ok(is_null_constant(x.constancy) && beside)
+}
+
 fn chosen_pointer(types: &mut Types, x: &Typed, y: &Typed) -> Result<TypeId, AllocError>
     ensures widens { Widens types.old types.new }
     ensures made { Makes types.new.rows result (λ longer. binary.chosen_pointer (typed_of longer x.now) (typed_of longer y.now)) }
@@ -124,9 +132,9 @@ fn chosen_pointer(types: &mut Types, x: &Typed, y: &Typed) -> Result<TypeId, All
     if point_alike(types, x, y)? {
         let pointer = alike_pointer(types, x, y)?;
         Ok(pointer)
-    } else if is_null_constant(x.constancy) {
+    } else if gives_way(types, x, y)? {
         Ok(y.own_type())
-    } else if is_null_constant(y.constancy) {
+    } else if gives_way(types, y, x)? {
         Ok(x.own_type())
     } else {
         let pointer = void_pointer(types, x, y)?;

@@ -102,6 +102,7 @@ fn after_of(types: &mut Types, x: Box<Typed>, id: u32) -> Result<Box<Typed>, All
 {
     let alloc = types.alloc();
     let ty = x.own_type();
+    let is_register = x.is_register;
     let erased = x.erased;
     let value = value_in(types, x)?;
     let value = value::after(alloc, ty, value, id)?;
@@ -109,7 +110,7 @@ fn after_of(types: &mut Types, x: Box<Typed>, id: u32) -> Result<Box<Typed>, All
         alloc,
         Typed {
             form: Form::Value(value),
-            is_register: false,
+            is_register,
             is_after: true,
             constancy: Constancy::Varying,
             erased,
@@ -134,17 +135,26 @@ pub(super) fn read_before(
 /// An expression behind marks.
 pub(super) fn marked(
     types: &mut Types,
-    marks: Vec<Mark>,
+    list: Vec<Mark>,
     x: Box<Typed>,
 ) -> Result<Box<Typed>, AllocError>
     ensures widens { Widens types.old types.new }
-    ensures made { IfOk result (λ it. Stays types.new.rows (λ longer. typed_in longer it ≡ typing.valued (e.Marked (typing.own_type (typed_in longer x)) (marks_in longer marks.items) (typing.value_in (typed_in longer x))) constants.varying (typed_in longer x).erased)) }
+    ensures made { IfOk result (λ it. Stays types.new.rows (λ longer. typed_in longer it ≡ marks.behind_marks (marks_in longer list.items) (typed_in longer x))) }
 {
     let alloc = types.alloc();
     let ty = x.own_type();
+    let is_register = x.is_register;
     let erased = x.erased;
     let value = value_in(types, x)?;
-    let value = value::marked(alloc, ty, marks, value)?;
-    let all = valued(alloc, value, Constancy::Varying, erased)?;
-    Ok(all)
+    let value = value::marked(alloc, ty, list, value)?;
+    Ok(Box::new(
+        alloc,
+        Typed {
+            form: Form::Value(value),
+            is_register,
+            is_after: false,
+            constancy: Constancy::Varying,
+            erased,
+        },
+    )?)
 }

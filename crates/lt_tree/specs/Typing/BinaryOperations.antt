@@ -112,11 +112,15 @@ judge_logical op x y =
 abbrev pub common_pointer : CType → CType → CType → CType
 common_pointer target t u = Pointer (qualified (both (own_qualifiers t) (own_qualifiers u)) target)
 
+-- beside a pointer, a null pointer constant takes the type of the pointer
+abbrev pub gives_way : Typed → Typed → Bool
+gives_way x other = is_null_constant x.constancy && is_pointer (own_type other)
+
 abbrev pub chosen_pointer : Typed → Typed → CType
 chosen_pointer x y =
     if point_alike (own_type x) (own_type y) then common_pointer (unqualified (target_in x)) (target_in x) (target_in y)
-    else (if is_null_constant x.constancy then own_type y
-    else (if is_null_constant y.constancy then own_type x else common_pointer Void (target_in x) (target_in y)))
+    else (if gives_way x y then own_type y
+    else (if gives_way y x then own_type x else common_pointer Void (target_in x) (target_in y)))
 
 abbrev pub chosen_type : Known → Typed → Typed → CType
 chosen_type known x y =

@@ -119,8 +119,9 @@ abbrev pub is_lvalue_in_use : Use → Typed → Bool
 is_lvalue_in_use as_place x = is_lvalue x
 is_lvalue_in_use _ x = false
 
+-- an element of a `register` array is one behind marks too
 abbrev pub after_of : Typed → ℕ → Typed
-after_of x id = record (valued (e.After (own_type x) (value_in x) id) varying x.erased) { is_after = true }
+after_of x id = record (valued (e.After (own_type x) (value_in x) id) varying x.erased) { is_register = x.is_register; is_after = true }
 
 unfoldable pub judge_after : Use → Typed → List ℕ → List ℕ → Known → Judged
 judge_after role x id tag known =
@@ -129,5 +130,8 @@ judge_after role x id tag known =
 
 -- ---- an expression behind marks
 
+abbrev pub behind_marks : e.Marks → Typed → Typed
+behind_marks marks x = record (valued (e.Marked (own_type x) marks (value_in x)) varying x.erased) { is_register = x.is_register }
+
 unfoldable pub judge_marked : e.Marks → Typed → Judged
-judge_marked marks x = judgement [] (valued (e.Marked (own_type x) marks (value_in x)) varying x.erased)
+judge_marked marks x = judgement [] (behind_marks marks x)

@@ -1,7 +1,6 @@
 use Rattle.std.proofs.Common.{◌≡◌, ap, ◌∙◌, map, Some, None}
 use Rattle.std.proofs.lemmas.Result.{IfOk-weaker}
 use Rattle.lt_tree.specs.View.{expression_of}
-use Rattle.lt_tree.specs.Erasure.{erased}
 use Rattle.lt_survey.specs.Rounds.{ArePredicates}
 use Rattle.lt_mcc.specs.Combinations.{combined, criterion_of}
 use Rattle.lt_mcc.proofs.Shown.{found_there, are_predicates}
@@ -16,8 +15,10 @@ pub returns : goal.returns
 returns c unit program node known at =
     let e = expression_of c.in-Some.e.now in
     let found = found_there unit program c.args.survey.now c.args.k node (Some e) known at c.in-Some.ensures in
-    let plain : expression_of c.deref.result.now ≡ erased e = ap expression_of c.deref.ensures ∙ ap expression_of c.in_ok-plain.ensures.ok ∙ c.in_ok-expression.ensures in
-    IfOk-weaker c.combined.result (λ made. map expression_of made.items ≡ combined c.args.combination (expression_of c.deref.result.now))
+    IfOk-weaker c.combined.result (λ made. map expression_of made.items ≡ combined c.args.combination e)
     (λ made. ArePredicates unit program (criterion_of c.args.combination) c.args.k node made.items)
-    (λ made is. are_predicates unit program c.args.combination c.args.k node (Some e) made.items found (is ∙ ap (combined c.args.combination) plain))
+    (λ made is. are_predicates unit program c.args.combination c.args.k node (Some e) made.items found is)
     c.combined.ensures
+
+pub combined-requires-clause-same : goal.combined-requires-clause-same
+combined-requires-clause-same c = ap expression_of c.deref.ensures ∙ ap expression_of c.in_ok-plain.ensures.ok ∙ c.in_ok-expression.ensures
