@@ -6,7 +6,9 @@ use Rattle.lt_nest.specs.Greatest.{NestsTo}
 use Rattle.lt_tree.specs.Tree.{Unit as SourceUnit}
 use Rattle.lt_tree.specs.Ids.{ids_of_unit, greatest_id}
 use Rattle.lt_tree.specs.CanonUnits.{canon}
+use Rattle.lt_tree.specs.Erasure.{erased_unit}
 use Rattle.lt_tree.specs.Typing.Programs.{Program}
+use Rattle.lt_print.specs.Laws.{IsOfUnitAlone}
 use Rattle.lt_objectives.specs.Marked.{marked}
 use Rattle.lt_answers.specs.Programs.{IsProgram, HasNoProgram}
 use Rattle.lt_answers.specs.declared.status.Refusal.{Refusal}
@@ -26,12 +28,15 @@ pub record HasAnnotation (model : DataModel) (set : ℕ) (text : List ℕ) (anno
 
 -- ---- what is put
 
--- `out` is the canonical text of the annotated unit, and doesn't nest too deeply.
+-- `out` is the canonical text of the annotated unit, and doesn't nest too deeply. Its tokens derive this unit and no other, which without its marks is the
+-- unit of the text without its marks.
 pub record IsAnnotation (model : DataModel) (set : ℕ) (text out : List ℕ) : Type 0 where
   pub annotated : SourceUnit
   pub has : HasAnnotation model set text annotated
   pub is : out ≡ canon annotated
   pub shallow : (nest : ℕ) → NestsTo out nest → nest ≤ deepest
+  pub alone : IsOfUnitAlone out annotated
+  pub same : erased_unit annotated ≡ erased_unit has.is_program.unit
 
 -- ---- refusals
 

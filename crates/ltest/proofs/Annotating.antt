@@ -1,18 +1,30 @@
 -- The stages of an annotation, one after the other.
-use Rattle.std.proofs.Common.{◌≡◌, ◌≤◌, ℕ, List, refl, sym, subst, ◌∙◌}
-use Rattle.std.specs.Prelude.{Result, Ok, Err}
+use Rattle.std.proofs.Common.{◌≡◌, ◌≤◌, ℕ, ◌+◌, List, length, None, refl, sym, ap, subst, ◌∙◌, arith}
+use Rattle.std.specs.Prelude.{◌<◌, ◌^◌, All, Result, Ok, Err}
 use Rattle.std.specs.Global.{Vec}
 use Rattle.lt_model.specs.declared.scalar.DataModel.{DataModel}
 use Rattle.lt_token.specs.Laws.{AtMostOneReading}
 use Rattle.lt_token.specs.Nest.{deepest}
+use Rattle.lt_token.specs.Tokens.{Lexes}
 use Rattle.lt_nest.specs.Greatest.{NestsTo}
 use Rattle.lt_tree.specs.Tree.{Unit as SourceUnit}
 use Rattle.lt_tree.specs.UnitView.{unit_of}
 use Rattle.lt_tree.specs.CanonUnits.{canon}
+use Rattle.lt_tree.specs.Erasure.{erased_unit}
+use Rattle.lt_tree.specs.Ids.{ids_of_unit}
+use Rattle.lt_tree.specs.Units.{IsWellMade}
 use Rattle.lt_tree.specs.declared.unit.Unit.{Unit}
 use Rattle.lt_tree.specs.Typing.Programs.{Program}
 use Rattle.lt_answers.specs.Programs.{IsProgram, HasNoProgram, SpellsNone, spells_none}
-use Rattle.lt_answers.specs.Annotations.{HasAnnotation, RefusesAnnotation, no_program, grown}
+use Rattle.lt_print.specs.Laws.{IsOfUnitAlone}
+use Rattle.lt_objectives.specs.Criteria.{criteria_in}
+use Rattle.lt_objectives.specs.Laws.{MarksAreErased}
+use Rattle.lt_numbering.specs.Numbering.{most_id}
+use Rattle.lt_survey.specs.Marking.{IdsPass, next_behind}
+use Rattle.lt_label_counts.specs.Laws.{IdsNeverPass}
+use Rattle.lt_marked_texts.specs.Laws.{AnnotatedTextsAreOfUnitsAlone}
+use Rattle.lt_answers.specs.Answers.{most_bytes}
+use Rattle.lt_answers.specs.Annotations.{first_id, HasAnnotation, RefusesAnnotation, no_program, grown}
 use Rattle.lt_answers.specs.declared.status.Refusal.{Refusal}
 use Rattle.lt_answers.proofs.Annotated.{shallow_at}
 use Rattle.ltest.specs.Stages.{StopsBy}
@@ -21,6 +33,7 @@ use Rattle.ltest.specs.Texts.{IsAnnotationAnswer}
 use Rattle.ltest.specs.declared.stops.TextStop.{TextStop}
 use Rattle.ltest.specs.declared.stops.TextStop.TheVariants.{Refused, NoMemory}
 use Rattle.ltest.proofs.Stages.{weaker}
+use Rattle.ltest.proofs.Marking.{no_greater_id, behind_low}
 
 -- ---- the unit
 
@@ -51,10 +64,39 @@ too_deep : (model : DataModel) (set : ℕ) (text : List ℕ) (unit : SourceUnit)
     → IsDeepText bytes why → RefusesAnnotation model set text why
 too_deep model set text unit bytes why has is (deep_text {nest = nest} nests deep) = grown has (subst (λ t. NestsTo t nest) is nests) deep
 
+-- ids of new labels are small numbers
+small_id : (n : ℕ) → n ≤ most_id + 1 → n ≤ 2 ^ 64
+small_id n low = omega arith
+
+-- The tokens of the annotated unit's text derive no other unit.
+pub alone_so : IdsNeverPass → AnnotatedTextsAreOfUnitsAlone → (model : DataModel) (set : ℕ) (text : List ℕ) (unit : SourceUnit) → length text ≤ most_bytes → All (λ b. b < 256) text
+    → HasAnnotation model set text unit → IsOfUnitAlone (canon unit) unit
+alone_so never law model set text unit short bytes has =
+    let it = has.is_program in
+    let lexes : Lexes text it.spells.tokens None = it.spells.lexes.0 in
+    let good : IsWellMade it.unit = record { text = text; bytes = bytes; tokens = it.spells.tokens; lexes = lexes; spots = it.spots; derives = it.spells.derives } in
+    let none = λ (pass : IdsPass (criteria_in set) it.unit has.program (first_id it.unit)).
+        never model text it.spells.tokens it.unit it.spots has.program set short lexes it.spells.derives it.typed pass in
+    let greatest = no_greater_id (ids_of_unit it.unit) in
+    let first : first_id it.unit ≤ most_id + 1 = omega arith in
+    let low = behind_low (criteria_in set) it.unit has.program (first_id it.unit) first none in
+    subst (λ u. IsOfUnitAlone (canon u) u) (sym has.is)
+    (law model it.unit has.program set (first_id it.unit) good it.typed (small_id (next_behind (criteria_in set) it.unit has.program (first_id it.unit)) low))
+
+-- Without marks it is the unit of the text without its marks.
+pub same_so : MarksAreErased → (model : DataModel) (set : ℕ) (text : List ℕ) (unit : SourceUnit) (has : HasAnnotation model set text unit) → erased_unit unit ≡ erased_unit has.is_program.unit
+same_so law model set text unit has = ap erased_unit has.is ∙ law.1 has.is_program.unit has.program set (first_id has.is_program.unit)
+
 -- What is given of the unit's text is the answer.
-pub put_so : (model : DataModel) (set : ℕ) (text : List ℕ) (unit : SourceUnit) (bytes : List ℕ) (given : Result (Vec ℕ) TextStop) → HasAnnotation model set text unit
-    → bytes ≡ canon unit → GivesShallow bytes given → IsAnnotationAnswer model set text given
-put_so model set text unit bytes (Ok out) has is it =
-    record { annotated = unit; has = has; is = it.is ∙ is; shallow = subst (λ t. (nest : ℕ) → NestsTo t nest → nest ≤ deepest) (sym it.is) it.shallow }
-put_so model set text unit bytes (Err (Refused why)) has is it = too_deep model set text unit bytes why has is it
-put_so model set text unit bytes (Err NoMemory) has is it = tt
+pub put_so : (model : DataModel) (set : ℕ) (text : List ℕ) (unit : SourceUnit) (bytes : List ℕ) (given : Result (Vec ℕ) TextStop) (has : HasAnnotation model set text unit)
+    → IsOfUnitAlone (canon unit) unit → erased_unit unit ≡ erased_unit has.is_program.unit → bytes ≡ canon unit → GivesShallow bytes given → IsAnnotationAnswer model set text given
+put_so model set text unit bytes (Ok out) has alone same is it = record {
+  annotated = unit;
+  has = has;
+  is = it.is ∙ is;
+  shallow = subst (λ t. (nest : ℕ) → NestsTo t nest → nest ≤ deepest) (sym it.is) it.shallow;
+  alone = subst (λ t. IsOfUnitAlone t unit) (sym (it.is ∙ is)) alone;
+  same = same;
+}
+put_so model set text unit bytes (Err (Refused why)) has alone same is it = too_deep model set text unit bytes why has is it
+put_so model set text unit bytes (Err NoMemory) has alone same is it = tt

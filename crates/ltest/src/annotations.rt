@@ -1,6 +1,6 @@
 //! The text with the labels of criteria.
 
-ghost use Rattle.std.specs.Prelude.{◌≤◌, length};
+ghost use Rattle.std.specs.Prelude.{◌≤◌, ◌<◌, length, All};
 ghost use Rattle.lt_survey.specs.Marking.{bits_of};
 ghost use Rattle.lt_answers.specs.Answers.{most_bytes};
 ghost use Rattle.ltest.specs.Labels.{GivesAnnotated, GivesShallow};
@@ -12,9 +12,10 @@ use crate::stops::TextStop;
 use crate::units::unit_of_text;
 use lt_answers::Refusal;
 use lt_label_counts::ids_never_pass;
+use lt_marked_texts::annotated_texts_are_of_units_alone;
 use lt_model::DataModel;
 use lt_nest::greatest_nest;
-use lt_objectives::Criteria;
+use lt_objectives::{Criteria, marks_are_erased};
 use lt_print::print_unit;
 use lt_token::at_most_one_reading;
 use lt_tree::Unit;
@@ -35,7 +36,20 @@ pub fn annotation_text(
 {
     let unit = annotated(alloc, text, model, which)?;
     let bytes = print_unit(alloc, &unit)?;
+    bytes_are_small(text);
+    ids_never_pass();
+    annotated_texts_are_of_units_alone();
+    marks_are_erased();
     shallow(alloc, bytes)
+}
+
+// What is known of a byte once it is read.
+fn bytes_are_small(text: &[u8])
+    ensures { All (λ b. b < 256) text.now }
+{
+    'bytes: for byte in text {
+        let _small = *byte;
+    }
 }
 
 // The unit of a text with the labels of a set of criteria, or why there is none.
