@@ -152,7 +152,7 @@ comma_in xs h = varies_in (both (last_in Void xs none h) (values_in_range xs h))
 
 pub marked_in : {b : Lists} {x : Typed} (ms : Marks) → Has b (in_marks ms) → TypedIn b x → TypedIn b (judge_marked ms x).typed
 unfolding judge_marked
-marked_in ms h i = valued_in (both (own_type_in i) (both h (value_in_range i))) none i.erased
+marked_in ms h i = record { form = both (own_type_in i) (both h (value_in_range i)); constancy = none; erased = i.erased }
 
 pub decide_in : {b : Lists} {x : Typed} (role : Use) (when_true when_false tag : List ℕ) (known : Known) → TypedIn b x
     → IsThere b (to_label (number_of_id when_true) []) → IsThere b (to_label (number_of_id when_false) []) → TypedIn b (judge_decide role x when_true when_false tag known).typed
