@@ -164,7 +164,11 @@ module _ {functions : List Function} {n : ℕ} {calls : List ℕ} {name : Option
   unfolding judge_marked
   marked_paid ms k others h =
       let o = p.as_value in
-      valued_paid (record { value = omega arith; test = omega arith; registers = omega arith; among = among.behind others o.among })
+      record {
+        as_value = record { value = omega arith; test = omega arith; registers = omega arith; among = among.behind others o.among };
+        as_place = record { nodes = omega arith; registers = omega arith; among = among.behind others o.among };
+        named = λ w t h. absurd cc;
+      }
 
   pub decide_paid : (role : Use) (when_true when_false tag : List ℕ) (known : Known) → IsPaidTyped functions (suc n) calls None (judge_decide role x when_true when_false tag known).typed
   unfolding judge_decide
