@@ -3,3 +3,4 @@ mod Stack
 mod Conjoined
 mod ActiveLaws
 mod Others
+mod HidingCommas
