@@ -14,7 +14,7 @@ use Rattle.lt_tree.specs.Typing.Constants.{Constancy, is_null_constant, converte
 use Rattle.lt_tree.specs.Typing.Rules.{unless, bad_sum, bad_comparison, not_scalar, bad_choice}
 use Rattle.lt_tree.specs.Typing.TypedTree as e
 use Rattle.lt_tree.specs.Typing.TypedTree.{type_of}
-use Rattle.lt_tree.specs.Typing.Entities.{Known, Label}
+use Rattle.lt_tree.specs.Typing.Entities.{Known, Object, Label}
 use Rattle.lt_tree.specs.Typing.Operands.{are_integers, point_alike, can_be_added, can_be_subtracted, can_be_compared, can_be_chosen_from, is_relation, is_equality}
 use Rattle.lt_tree.specs.Typing.Expressions.{Typed, valued, own_type, value_in, converted_to, constancy_to, scalar_in}
 use Rattle.lt_tree.specs.Typing.Operations.{pointer_among, other_among, element_size, object_size, target_in}
@@ -44,6 +44,10 @@ type_among : (x v : Typed) (b : Bool) → own_type (if b then x else v) ≡ (if 
 type_among x v true = refl
 type_among x v false = refl
 
+-- with other objects
+abbrev with_objects : List Object → Known → Known
+with_objects objects known = record known { objects = objects }
+
 module _ {x y v w : Typed} (p : BareValue x y) (q : BareValue v w) where
   operands_more : (structs : Structs) (op : Op) → operand_faults structs op x v ≡ [] → operand_faults structs op y w ≡ []
   operands_more structs O.Eq = rw (value_type_same p) (rw (value_type_same q) (λ h. true_unless (can_be_compared (own_type x) y.constancy (own_type v) w.constancy) bad_comparison
@@ -68,55 +72,57 @@ module _ {x y v w : Typed} (p : BareValue x y) (q : BareValue v w) where
       is : (c d : Constancy) → IsOf (result_type op s) (operated known.model op s r c d)
       is c d = applied_is known.model s (result_type op s) op (converted known.model s c) (converted known.model r d) (result_no_pointer (is_relation op || is_equality op) s)
 
-  integers_bare : (known : Known) (op : Op) → BareValue (on_integers known op x v) (on_integers known op y w)
-  integers_bare known op = rw (value_type_same p) (rw (value_type_same q) (integers_by known op (operation_type known op x v) (right_type known op x v)))
+  integers_bare : (known : Known) (ys : List Object) (op : Op) → BareValue (on_integers known op x v) (on_integers (with_objects ys known) op y w)
+  integers_bare known ys op = rw (value_type_same p) (rw (value_type_same q) (integers_by known op (operation_type known op x v) (right_type known op x v)))
 
-  moved_bare : (known : Known) (op : Op) → (is_pointer (own_type x) ≡ true) ⊎ (is_pointer (own_type v) ≡ true) → BareValue (moved known op x v) (moved known op y w)
-  moved_bare known op h =
+  moved_bare : (known : Known) (ys : List Object) (op : Op) → (is_pointer (own_type x) ≡ true) ⊎ (is_pointer (own_type v) ≡ true) → BareValue (moved known op x v) (moved (with_objects ys known) op y w)
+  moved_bare known ys op h =
       let at = moved_seen (object_size known) (element_size known x v) (pointer_among x v).constancy (towards op (other_among x v).constancy) in
       rw (value_type_same p) (rw (value_type_same (pointers p q)) (bare_valued refl (kin_pointer (own_type (pointer_among x v))
       (moved_by (object_size known) (element_size known x v) (pointer_among x v).constancy (towards op (other_among x v).constancy))
       (moved_by (object_size known) (element_size known x v) (pointer_among x v).constancy (towards op (other_among x v).constancy))
-      (moved_by (object_size known) (element_size known x v) (if is_pointer (own_type x) then y else w).constancy (towards op (if is_pointer (own_type x) then w else y).constancy))
+      (moved_by (object_size (with_objects ys known)) (element_size known x v) (if is_pointer (own_type x) then y else w).constancy (towards op (if is_pointer (own_type x) then w else y).constancy))
       (ap is_integer (type_among x v (is_pointer (own_type x))) ∙ among_no_integer (own_type x) (own_type v) h)
-      at at (moved_seen (object_size known) (element_size known x v) (if is_pointer (own_type x) then y else w).constancy (towards op (if is_pointer (own_type x) then w else y).constancy)))))
+      at at (moved_seen (object_size (with_objects ys known)) (element_size known x v) (if is_pointer (own_type x) then y else w).constancy (towards op (if is_pointer (own_type x) then w else y).constancy)))))
 
-  difference_bare : (known : Known) (b : Bool) → is_pointer (own_type x) ≡ true → BareValue (if b then distance known x v else moved known O.Sub x v) (if b then distance known y w else moved known O.Sub y w)
-  difference_bare known true h = bare_varies refl
-  difference_bare known false h = moved_bare known O.Sub (inl h)
+  difference_bare : (known : Known) (ys : List Object) (b : Bool) → is_pointer (own_type x) ≡ true → BareValue (if b then distance known x v else moved known O.Sub x v) (if b then distance (with_objects ys known) y w else moved (with_objects ys known) O.Sub y w)
+  difference_bare known ys true h = bare_varies refl
+  difference_bare known ys false h = moved_bare known ys O.Sub (inl h)
 
-  subtracted_bare : (known : Known) → is_pointer (own_type x) ≡ true → BareValue (on_pointers known O.Sub x v) (on_pointers known O.Sub y w)
-  subtracted_bare known h = subst (λ b. BareValue (on_pointers known O.Sub x v) (if b then distance known y w else moved known O.Sub y w))
+  subtracted_bare : (known : Known) (ys : List Object) → is_pointer (own_type x) ≡ true → BareValue (on_pointers known O.Sub x v) (on_pointers (with_objects ys known) O.Sub y w)
+  subtracted_bare known ys h = subst (λ b. BareValue (on_pointers known O.Sub x v) (if b then distance (with_objects ys known) y w else moved (with_objects ys known) O.Sub y w))
       (sym (ap (λ t. is_pointer t && is_pointer (own_type w)) (value_type_same p) ∙ ap (λ t. is_pointer (own_type x) && is_pointer t) (value_type_same q)))
-      (difference_bare known (is_pointer (own_type x) && is_pointer (own_type v)) h)
+      (difference_bare known ys (is_pointer (own_type x) && is_pointer (own_type v)) h)
 
-  pointers_bare : (known : Known) (op : Op) → are_integers (own_type x) (own_type v) ≡ false → operand_faults known.structs op x v ≡ [] → BareValue (on_pointers known op x v) (on_pointers known op y w)
-  pointers_bare known O.Sub i h = subtracted_bare known (subtracted known.structs (own_type x) (own_type v) i (unless_true (can_be_subtracted known.structs (own_type x) (own_type v)) bad_sum h))
-  pointers_bare known O.Add i h = moved_bare known O.Add (added known.structs (own_type x) (own_type v) i (unless_true (can_be_added known.structs (own_type x) (own_type v)) bad_sum h))
-  pointers_bare known _ i h = bare_varies refl
+  pointers_bare : (known : Known) (ys : List Object) (op : Op) → are_integers (own_type x) (own_type v) ≡ false → operand_faults known.structs op x v ≡ [] → BareValue (on_pointers known op x v) (on_pointers (with_objects ys known) op y w)
+  pointers_bare known ys O.Sub i h = subtracted_bare known ys (subtracted known.structs (own_type x) (own_type v) i (unless_true (can_be_subtracted known.structs (own_type x) (own_type v)) bad_sum h))
+  pointers_bare known ys O.Add i h = moved_bare known ys O.Add (added known.structs (own_type x) (own_type v) i (unless_true (can_be_added known.structs (own_type x) (own_type v)) bad_sum h))
+  pointers_bare known ys _ i h = bare_varies refl
 
-  either_bare : (known : Known) (op : Op) (b : Bool) → are_integers (own_type x) (own_type v) ≡ b → operand_faults known.structs op x v ≡ []
-      → BareValue (if b then on_integers known op x v else on_pointers known op x v) (if b then on_integers known op y w else on_pointers known op y w)
-  either_bare known op true i h = integers_bare known op
-  either_bare known op false i h = pointers_bare known op i h
+  either_bare : (known : Known) (ys : List Object) (op : Op) (b : Bool) → are_integers (own_type x) (own_type v) ≡ b → operand_faults known.structs op x v ≡ []
+      → BareValue (if b then on_integers known op x v else on_pointers known op x v) (if b then on_integers (with_objects ys known) op y w else on_pointers (with_objects ys known) op y w)
+  either_bare known ys op true i h = integers_bare known ys op
+  either_bare known ys op false i h = pointers_bare known ys op i h
 
-  binary_by : (known : Known) (op : Op) → BareJudged (judge_binary op x v known) (judge_binary op y w known)
+  binary_by : (known : Known) (ys : List Object) (op : Op) → BareJudged (judge_binary op x v known) (judge_binary op y w (with_objects ys known))
   unfolding judge_binary
-  binary_by known op = λ h. (
+  binary_by known ys op = λ h. (
     operands_more known.structs op h,
-    a_bare_value (subst (λ b. BareValue (if are_integers (own_type x) (own_type v) then on_integers known op x v else on_pointers known op x v) (if b then on_integers known op y w else on_pointers known op y w))
+    a_bare_value (subst (λ b. BareValue (if are_integers (own_type x) (own_type v) then on_integers known op x v else on_pointers known op x v) (if b then on_integers (with_objects ys known) op y w else on_pointers (with_objects ys known) op y w))
         (sym (ap (λ t. are_integers t (own_type w)) (value_type_same p) ∙ ap (are_integers (own_type x)) (value_type_same q)))
-        (either_bare known op (are_integers (own_type x) (own_type v)) refl h)),
+        (either_bare known ys op (are_integers (own_type x) (own_type v)) refl h)),
   )
 
--- what is known of structs and objects is the same
-binary_known : {known : Known} {labels : List Label} {k j : Known} (op : Op) (x y : Typed) → IsBeside known labels k j → (judge_binary op x y k ≡ judge_binary op x y known) × (judge_binary op x y j ≡ judge_binary op x y known)
+-- what is known of structs is the same
+binary_known : {texts : Bool} {known : Known} {labels : List Label} {k j : Known} (op : Op) (x y : Typed) → IsBeside texts known labels k j
+    → (judge_binary op x y k ≡ judge_binary op x y (with_objects k.objects known)) × (judge_binary op x y j ≡ judge_binary op x y (with_objects j.objects known))
 unfolding judge_binary
-binary_known op x y beside = (refl, refl)
+binary_known op x y (beside more other) = (refl, refl)
 
-pub binary_bare : {known : Known} {labels : List Label} {x y v w : Typed} {k j : Known} (op : Op) → IsBeside known labels k j → BareValue x y → BareValue v w → BareJudged (judge_binary op x v k) (judge_binary op y w j)
-binary_bare {known} {labels} {x} {y} {v} {w} {k} {j} op b p q =
-    subst (λ it. BareJudged it (judge_binary op y w j)) (sym (binary_known op x v b).0) (subst (BareJudged (judge_binary op x v known)) (sym (binary_known op y w b).1) (binary_by p q known op))
+pub binary_bare : {texts : Bool} {known : Known} {labels : List Label} {x y v w : Typed} {k j : Known} (op : Op) → IsBeside texts known labels k j → BareValue x y → BareValue v w → BareJudged (judge_binary op x v k) (judge_binary op y w j)
+binary_bare {known = known} {x = x} {y = y} {v = v} {w = w} {k = k} {j = j} op b p q =
+    subst (λ it. BareJudged it (judge_binary op y w j)) (sym (binary_known op x v b).0)
+    (subst (BareJudged (judge_binary op x v (with_objects k.objects known))) (sym (binary_known op y w b).1) (binary_by p q (with_objects k.objects known) j.objects op))
 
 -- ---- `&&`, `||` and `?:`
 
@@ -195,13 +201,13 @@ module _ {x y v w : Typed} (p : BareValue x y) (q : BareValue v w) (shows : Show
               (sym (choice_same known can)) (conditional_typed known (chosen_type known x v))),
         )
 
-conditional_known : {known : Known} {labels : List Label} {k j : Known} (o x y : Typed) → IsBeside known labels k j → (judge_conditional o x y k ≡ judge_conditional o x y known) × (judge_conditional o x y j ≡ judge_conditional o x y known)
+conditional_known : {texts : Bool} {known : Known} {labels : List Label} {k j : Known} (o x y : Typed) → IsBeside texts known labels k j → (judge_conditional o x y k ≡ judge_conditional o x y known) × (judge_conditional o x y j ≡ judge_conditional o x y known)
 unfolding judge_conditional
-conditional_known o x y beside = (refl, refl)
+conditional_known o x y (beside more other) = (refl, refl)
 
-pub conditional_bare : {known : Known} {labels : List Label} {o t x y v w : Typed} {k j : Known} → IsBeside known labels k j → BareTruth o t → BareValue x y → ShowsNull x → BareValue v w → ShowsNull v
+pub conditional_bare : {texts : Bool} {known : Known} {labels : List Label} {o t x y v w : Typed} {k j : Known} → IsBeside texts known labels k j → BareTruth o t → BareValue x y → ShowsNull x → BareValue v w → ShowsNull v
     → BareJudged (judge_conditional o x v k) (judge_conditional t y w j)
-conditional_bare {known} {labels} {o} {t} {x} {y} {v} {w} {k} {j} b truth p shows q other =
+conditional_bare {known = known} {o = o} {t = t} {x = x} {y = y} {v = v} {w = w} {k = k} {j = j} b truth p shows q other =
     subst (λ it. BareJudged it (judge_conditional t y w j)) (sym (conditional_known o x v b).0)
     (subst (BareJudged (judge_conditional o x v known)) (sym (conditional_known t y w b).1) (conditional_by p q shows other truth known))
 

@@ -7,4 +7,4 @@ use Rattle.lt_erased_typing.specs.Examples.{MarksHideOperands}
 
 pub hidden : MarksHideOperands
 unfolding typing typing_of number_of struct_cells struct_extent struct_has_constant
-hidden = (refl, refl, refl, refl, refl, refl, refl, refl, refl)
+hidden = (refl, refl, refl, refl, refl, refl, refl)

@@ -1,3 +1,4 @@
+mod Texts
 mod Going
 mod Constants
 mod Operands
@@ -12,5 +13,10 @@ mod Expressions
 pub mod Whole
 mod Shows
 mod PlainWalks
+mod Found
 mod PlainExpressions
+mod Ended
+mod Markless
+mod MarksGoOn
+mod Copied
 mod Examples

@@ -20,13 +20,13 @@ values_by v (values h) t = values (h ∙ sym t)
 
 -- a value behind marks, which varies
 abbrev behind : Typed → Value → Bool → Typed
-behind x v is_after = record { form = a_value v; is_register = false; is_after = is_after; constancy = varying; erased = x.erased }
+behind x v is_after = record { form = a_value v; is_register = x.is_register; is_after = is_after; constancy = varying; erased = x.erased }
 
 module _ {x y : Typed} (v : Value) (is_after : Bool) (t : type_of v ≡ own_type x) where
-  pub marked_value : BareValue x y → x.is_register ≡ false → BareValue (behind x v is_after) y
-  marked_value p r = record {
+  pub marked_value : BareValue x y → BareValue (behind x v is_after) y
+  marked_value p = record {
     form = values_by v p.form t;
-    register = λ q. p.register r;
+    register = p.register;
     constancy = subst (λ u. IsKin u varying x.erased y.constancy) (sym t) (record {
       sees = record { bare = p.constancy.sees.bare; hidden = inr refl };
       marked = (kin_varying (own_type x)).marked;
@@ -49,17 +49,17 @@ decided_scalar x when_true when_false tag k h =
     (and_first front one (and_first (front && one) two (and_first (front && one && two) three (and_first (front && one && two && three) (is_tag tag) h))))
 
 module _ {x y : Typed} where
-  pub marks_value : (ms : e.Marks) → BareValue x y → x.is_register ≡ false → BareValue (used as_value (judge_marked ms x).typed) y
+  pub marks_value : (ms : e.Marks) → BareValue x y → BareValue (used as_value (judge_marked ms x).typed) y
   unfolding judge_marked
-  marks_value ms p r = marked_value (e.Marked (own_type x) ms (value_in x)) false refl p r
+  marks_value ms p = marked_value (e.Marked (own_type x) ms (value_in x)) false refl p
 
   pub marks_truth : (ms : e.Marks) → BareTruth x y → BareTruth (used as_truth (judge_marked ms x).typed) y
   unfolding judge_marked
   marks_truth ms p = marked_truth (e.Marked (own_type x) ms (value_in x)) false refl p
 
-  pub after_value : (id tag : List ℕ) (k : Known) → BareValue x y → x.is_register ≡ false → BareValue (used as_value (judge_after as_value x id tag k).typed) y
+  pub after_value : (id tag : List ℕ) (k : Known) → BareValue x y → BareValue (used as_value (judge_after as_value x id tag k).typed) y
   unfolding judge_after
-  after_value id tag k p r = subst (λ z. BareValue (after_of z (number_of_id id)) y) (sym (value_read p)) (marked_value (e.After (own_type x) (value_in x) (number_of_id id)) true refl p r)
+  after_value id tag k p = subst (λ z. BareValue (after_of z (number_of_id id)) y) (sym (value_read p)) (marked_value (e.After (own_type x) (value_in x) (number_of_id id)) true refl p)
 
   pub after_truth : (id tag : List ℕ) (k : Known) → BareTruth x y → BareTruth (used as_truth (judge_after as_truth x id tag k).typed) y
   unfolding judge_after

@@ -28,12 +28,12 @@ pub data ArePlaces : Form → Form → Type 0 where
 -- the value of an expression, and that of the expression without its marks
 pub record BareValue (x y : Typed) : Type 0 where
   pub form : AreValues x.form y.form
-  pub register : x.is_register ≡ false → y.is_register ≡ false
+  pub register : y.is_register ≡ x.is_register
   pub constancy : IsKin (own_type x) x.constancy x.erased y.constancy
 
 pub record BarePlace (x y : Typed) : Type 0 where
   pub form : ArePlaces x.form y.form
-  pub register : x.is_register ≡ false → y.is_register ≡ false
+  pub register : y.is_register ≡ x.is_register
   pub marked : seen x.constancy ≡ varying
   pub erasure : seen x.erased ≡ varying
   pub bare : seen y.constancy ≡ varying
@@ -92,7 +92,7 @@ pub lvalue_same : {x y : Typed} → Bare x y → is_lvalue y ≡ is_lvalue x
 lvalue_same (a_bare_value h) = values_lvalue h.form
 lvalue_same (a_bare_place h) = places_lvalue h.form
 
-pub register_same : {x y : Typed} → Bare x y → x.is_register ≡ false → y.is_register ≡ false
+pub register_same : {x y : Typed} → Bare x y → y.is_register ≡ x.is_register
 register_same (a_bare_value h) = h.register
 register_same (a_bare_place h) = h.register
 
@@ -111,10 +111,10 @@ pub kin_pointer : (t : CType) (c d p : Constancy) → is_integer t ≡ false →
 kin_pointer t c d p i h g k = record { sees = sees_all_varying h g k; marked = of_varying t c i h; erasure = of_varying t d i g; bare = of_varying t p i k }
 
 pub bare_varies : {v w : Value} → type_of w ≡ type_of v → BareValue (varies v) (varies w)
-bare_varies {v} {w} h = record { form = values h; register = λ r. r; constancy = kin_varying (type_of v) }
+bare_varies {v} {w} h = record { form = values h; register = refl; constancy = kin_varying (type_of v) }
 
 pub bare_valued : {v w : Value} {c d p q : Constancy} → type_of w ≡ type_of v → IsKin (type_of v) c d p → BareValue (valued v c d) (valued w p q)
-bare_valued h k = record { form = values h; register = λ r. r; constancy = k }
+bare_valued h k = record { form = values h; register = refl; constancy = k }
 
 -- the values of places of one type
 values_there : (t : CType) (p q : Place) → type_of (value_at t q) ≡ type_of (value_at t p)
@@ -141,18 +141,18 @@ arrays_decay (Pointer t) p h = absurd (false≢true h)
 arrays_decay (Function t ts dots) p h = absurd (false≢true h)
 arrays_decay Floating p h = absurd (false≢true h)
 
-read_by : (x y : Typed) (t : CType) (p q : Place) (b : Bool) → is_array t ≡ b → (x.is_register ≡ false → y.is_register ≡ false) → seen x.constancy ≡ varying → seen x.erased ≡ varying → seen y.constancy ≡ varying
+read_by : (x y : Typed) (t : CType) (p q : Place) (b : Bool) → is_array t ≡ b → y.is_register ≡ x.is_register → seen x.constancy ≡ varying → seen x.erased ≡ varying → seen y.constancy ≡ varying
     → BareValue (if b then record x { form = a_value (value_at t p) } else varies (value_at t p)) (if b then record y { form = a_value (value_at t q) } else varies (value_at t q))
 read_by x y t p q true a r h g k = record { form = values (values_there t p q); register = r; constancy = kin_pointer (type_of (value_at t p)) x.constancy x.erased y.constancy (arrays_decay t p a) h g k }
 read_by x y t p q false a r h g k = bare_varies (values_there t p q)
 
-read_form : (x y : Typed) {f g : Form} → ArePlaces f g → (x.is_register ≡ false → y.is_register ≡ false) → seen x.constancy ≡ varying → seen x.erased ≡ varying → seen y.constancy ≡ varying
+read_form : (x y : Typed) {f g : Form} → ArePlaces f g → y.is_register ≡ x.is_register → seen x.constancy ≡ varying → seen x.erased ≡ varying → seen y.constancy ≡ varying
     → BareValue (as_it_is_read (record x { form = f })) (as_it_is_read (record y { form = g }))
 read_form x y (places {p} {q} t l) r h g k =
     subst (λ u. BareValue (read p (record x { form = a_place p })) (if is_array u then record y { form = a_value (value_at u q) } else varies (value_at u q))) (sym t)
     (read_by x y (type_at p) p q (is_array (type_at p)) refl r h g k)
 
-read_value : (x y : Typed) {f g : Form} → AreValues f g → (x.is_register ≡ false → y.is_register ≡ false) → IsKin (own_type (record x { form = f })) x.constancy x.erased y.constancy
+read_value : (x y : Typed) {f g : Form} → AreValues f g → y.is_register ≡ x.is_register → IsKin (own_type (record x { form = f })) x.constancy x.erased y.constancy
     → BareValue (as_it_is_read (record x { form = f })) (as_it_is_read (record y { form = g }))
 read_value x y (values h) r k = record { form = values h; register = r; constancy = k }
 

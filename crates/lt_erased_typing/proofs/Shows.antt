@@ -1,7 +1,7 @@
 -- No operand of `?:` hides a null pointer constant but a cast behind marks.
 use Rattle.std.proofs.Common.{◌≡◌, ℕ, List, [], ◌∷◌, Option, Some, None, Bool, true, false, refl, sym, ap, ◌∙◌, subst, inl, inr}
 use Rattle.std.proofs.lemmas.Bool.{false≢true}
-use Rattle.std.specs.Prelude.{◌⊎◌, ◌++◌, ◌||◌, ◌&&◌, pos, ◌-ℤ◌, if◌then◌else◌, option_and_then}
+use Rattle.std.specs.Prelude.{◌⊎◌, ◌++◌, ◌||◌, ◌&&◌, pos, ◌-ℤ◌, if◌then◌else◌, option_and_then, length}
 use Rattle.lt_model.specs.declared.scalar.DataModel.{DataModel}
 use Rattle.lt_model.specs.declared.scalar.Scalar.TheVariants as S
 use Rattle.lt_model.specs.declared.operator.Op.{Op}
@@ -20,23 +20,26 @@ use Rattle.lt_tree.specs.Typing.Entities.{Known, Label, Entity, an_object, a_fun
 use Rattle.lt_tree.specs.Typing.Steps.{Outcome, Goes, Breaks, goes_on, settle, marked_again, notes, gives, ◌>>◌}
 use Rattle.lt_tree.specs.Typing.Operands.{are_integers, points_to, can_be_cast}
 use Rattle.lt_tree.specs.Typing.Expressions.{a_value, Typed, Use, as_value, as_truth, as_place, varies, placed, nothing, own_type, value_in, place_in, value_at, read, used, fact_of, faults_of_any, finish, Judged, judgement, constancy_to, constancy_as_pointer, null_of, scalar_in}
-use Rattle.lt_tree.specs.Typing.Operations.{judge_name, judge_constant, judge_plus, judge_minus, judge_complement, judge_not, judge_address_of, judge_dereference, judge_member, judge_arrow, judge_part, judge_index, judge_size, judge_cast, object_named, lives_from_the_start, part_of, side_of, constant_address, target_in, member_in, pointer_among, other_among, element_size, object_size}
+use Rattle.lt_tree.specs.Typing.Operations.{text_type, judge_name, judge_constant, judge_plus, judge_minus, judge_complement, judge_not, judge_address_of, judge_dereference, judge_member, judge_arrow, judge_part, judge_index, judge_size, judge_cast, object_named, lives_from_the_start, part_of, side_of, constant_address, target_in, member_in, pointer_among, other_among, element_size, object_size}
 use Rattle.lt_tree.specs.Typing.BinaryOperations.{judge_binary, judge_logical, judge_conditional, judge_comma, on_integers, on_pointers, moved, distance, operation_type, right_type, towards, settles, chosen_type, chosen_pointer}
 use Rattle.lt_tree.specs.Typing.MarkRules.{judge_marked, judge_decide, judge_after, after_of, number_of_id}
-use Rattle.lt_tree.specs.Typing.NodeEnds.{also}
+use Rattle.lt_tree.specs.Typing.NodeEnds.{also, text_at}
 use Rattle.lt_tree.specs.Typing.Specifying.{elsewhere}
 use Rattle.lt_tree.specs.Typing.Declarators.{type_name_faults, setting_in_sizeof}
 use Rattle.lt_tree.specs.Typing.ExpressionTyping.{expression, expressions, marks, specifiers, declarator}
-use Rattle.lt_erased_typing.specs.Erasable.{CanBeErased, ShowsNull, Behind, entered, unmarked}
+use Rattle.lt_erased_typing.specs.Erasable.{CanBeErasedWith, FindsLabels, ShowsNull, Behind, entered, unmarked}
 use Rattle.lt_objectives.specs.Copies.{is_cast, is_marked_cast}
-use Rattle.lt_erased_typing.proofs.Going.{beside, Follows, goes, breaks}
+use Rattle.lt_erased_typing.specs.Literals.{none_more}
+use Rattle.lt_erased_typing.proofs.Texts.{IsNamed, kept_within}
+use Rattle.lt_erased_typing.proofs.TypeNames.{specifiers_same}
+use Rattle.lt_erased_typing.proofs.Going.{beside, named_beside, Follows, goes, breaks}
 use Rattle.lt_erased_typing.proofs.Constants.{seen, is_integral, converted_is, applied_is, negated_is, connected_is, conversion_is, moved_seen, chosen_second, chosen_third}
-use Rattle.lt_erased_typing.proofs.Operands.{BareValue, Bare, value_read}
+use Rattle.lt_erased_typing.proofs.Operands.{BareValue, BareTruth, Bare, value_read}
 use Rattle.lt_erased_typing.proofs.Operators.{address_marked, address_seen, behind_seen}
 use Rattle.lt_erased_typing.proofs.Ends.{left_empty, right_empty, unless_true}
 use Rattle.lt_erased_typing.proofs.Conditions.{cast_zero}
 use Rattle.lt_erased_typing.proofs.Marks.{decides_a_truth}
-use Rattle.lt_erased_typing.proofs.Expressions.{of_expression}
+use Rattle.lt_erased_typing.proofs.Expressions.{of_expression, of_declarator}
 
 -- ---- what holds behind walks
 
@@ -53,12 +56,14 @@ pub taken : {A : Type 0} {P : A → Known → Type 0} {o : Outcome A} → Holds 
 taken (holds h) = h
 taken broken = tt
 
-pub behind_bind : {A B : Type 0} {P : A → Known → Type 0} {Q : B → Known → Type 0} (o : Outcome A) (f : A → Known → Outcome B) → Holds P o → ((a : A) (k : Known) → P a k → Holds Q (f a k)) → Holds Q (goes_on o f)
+pub behind_bind : {A B : Type 0} {P : A → Known → Type 0} {Q : B → Known → Type 0} (o : Outcome A) (f : A → Known → Outcome B) → Holds P o
+    → ((a : A) (k : Known) → P a k → Holds Q (f a k)) → Holds Q (goes_on o f)
 behind_bind (Goes a k) f (holds h) g = g a k h
 behind_bind (Breaks rule node) f h g = broken
 
 -- whatever the part is
-pub behind_last : {A B : Type 0} {Q : B → Known → Type 0} (o : Outcome A) (f : A → Known → Outcome B) → ((a : A) (k : Known) → Holds Q (f a k)) → Holds Q (goes_on o f)
+pub behind_last : {A B : Type 0} {Q : B → Known → Type 0} (o : Outcome A) (f : A → Known → Outcome B) → ((a : A) (k : Known) → Holds Q (f a k))
+    → Holds Q (goes_on o f)
 behind_last (Goes a k) f g = g a k
 behind_last (Breaks rule node) f g = broken
 
@@ -70,28 +75,42 @@ pub behind_both : {A : Type 0} {P Q : A → Known → Type 0} {o : Outcome A} �
 behind_both (holds h) (holds g) = holds (h, g)
 behind_both broken g = broken
 
-behind_rules : (P : Typed → Type 0) (n : ℕ) (rules : List Rule) (typed z : Typed) (k : Known) → (rules ≡ [] → P z) → Holds (λ x j. P x) (goes_on (settle n rules k) (λ u. notes (fact_of n typed) >> gives z))
+behind_rules : (P : Typed → Type 0) (n : ℕ) (rules : List Rule) (typed z : Typed) (k : Known) → (rules ≡ [] → P z)
+    → Holds (λ x j. P x) (goes_on (settle n rules k) (λ u. notes (fact_of n typed) >> gives z))
 behind_rules P n [] typed z k h = holds (h refl)
 behind_rules P n (rule ∷ rules) typed z k h = broken
 
-pub behind_end : (P : Typed → Type 0) (n : ℕ) (role : Use) (it : Judged) (k : Known) → (it.faults ≡ [] → P (used role it.typed)) → Holds (λ x j. P x) (finish n role it k)
+pub behind_end : (P : Typed → Type 0) (n : ℕ) (role : Use) (it : Judged) (k : Known) → (it.faults ≡ [] → P (used role it.typed))
+    → Holds (λ x j. P x) (finish n role it k)
 unfolding finish
 behind_end P n role it k h = behind_rules P n (it.faults ++ faults_of_any k.structs role it.typed) it.typed (used role it.typed) k (λ r. h (left_empty it.faults (faults_of_any k.structs role it.typed) r))
 
-first_of : {A B : Type 0} {known : Known} {labels : List Label} {R : A → B → Type 0} {o : Outcome A} {p : Outcome B} → Follows known labels R o p → Holds (λ a k. (b : B) × R a b) o
-first_of (goes {a} {b} r s) = holds (b, r)
-first_of breaks = broken
+-- of two walks, what is said of the first
+first_of : {A B : Type 0} {texts : Bool} {known : Known} {labels : List Label} {R : A → B → Type 0} {o : Outcome A} {p : Outcome B}
+    → IsNamed texts known → Follows texts known labels R o p
+    → Holds (λ a k. (b : B) × R a b × IsNamed texts k) o
+first_of w (goes {a} {b} r s) = holds (b, r, named_beside w s)
+first_of w breaks = broken
 
-or_none : (a b : Bool) → a || b ≡ false → (a ≡ false) × (b ≡ false)
+named_found : {texts : Bool} (k : Known) {l : Known} → IsNamed texts k → FindsLabels texts k l → IsNamed texts l
+named_found {texts} k {l} w h = subst (IsNamed texts) (sym h.1) (λ is name n r e. kept_within n h.0 (w is name n r e))
+
+pub or_none : (a b : Bool) → a || b ≡ false → (a ≡ false) × (b ≡ false)
 or_none true b h = absurd (false≢true (sym h))
 or_none false b h = (refl, h)
 
 -- what is said of an expression beside itself without its marks
-pub itself_bare : (k : Known) (it : c.Expression) → CanBeErased as_value k it → Holds (λ x j. (y : Typed) × BareValue x y) (expression it as_value k)
-itself_bare k it h = first_of (of_expression {known = k} {labels = k.labels} {k = k} {j = k} it as_value refl beside h)
+pub itself_bare : {texts : Bool} (k : Known) (it : c.Expression) → IsNamed texts k → CanBeErasedWith texts as_value k it
+    → Holds (λ x j. (y : Typed) × BareValue x y × IsNamed texts j) (expression it as_value k)
+itself_bare k it w h = first_of w (of_expression {known = k} {labels = k.labels} {k = k} {j = k} w it as_value refl (beside none_more none_more) h)
 
-itself_placed : (k : Known) (it : c.Expression) → CanBeErased as_place k it → Holds (λ x j. (y : Typed) × Bare x y) (expression it as_place k)
-itself_placed k it h = first_of (of_expression {known = k} {labels = k.labels} {k = k} {j = k} it as_place refl beside h)
+itself_tested : {texts : Bool} (k : Known) (it : c.Expression) → IsNamed texts k → CanBeErasedWith texts as_truth k it
+    → Holds (λ x j. (y : Typed) × BareTruth x y × IsNamed texts j) (expression it as_truth k)
+itself_tested k it w h = first_of w (of_expression {known = k} {labels = k.labels} {k = k} {j = k} w it as_truth refl (beside none_more none_more) h)
+
+itself_placed : {texts : Bool} (k : Known) (it : c.Expression) → IsNamed texts k → CanBeErasedWith texts as_place k it
+    → Holds (λ x j. (y : Typed) × Bare x y × IsNamed texts j) (expression it as_place k)
+itself_placed k it w h = first_of w (of_expression {known = k} {labels = k.labels} {k = k} {j = k} w it as_place refl (beside none_more none_more) h)
 
 -- ---- what is no null pointer constant
 
@@ -137,6 +156,10 @@ unfolding judge_constant
 constant_no_null None = integral_no_null refl
 constant_no_null (Some c) = integral_no_null refl
 
+text_no_null : (k : Known) (bytes : List ℕ) (n : ℕ) → NotNull (used as_value (text_at k bytes n).typed)
+unfolding text_at
+text_no_null k bytes n = place_no_null (e.Object (text_type bytes) n) (placed (e.Object (text_type bytes) n) (address n 0)) refl
+
 part_no_null : (x : Typed) (found : Option Placed) → NotNull (used as_value (judge_part x found).typed)
 part_no_null x None = integral_no_null refl
 part_no_null x (Some member) = place_no_null (e.Part (qualified (qualifiers_of (own_type x)) member.type) member.offset (place_in x)) (part_of x member) (behind_seen member x.constancy)
@@ -159,7 +182,8 @@ dereference_no_null : (x : Typed) (k : Known) → NotNull (used as_value (judge_
 unfolding judge_dereference
 dereference_no_null x k = by (points_to (is_complete k.structs) (own_type x))
   where
-    by : (b : Bool) → NotNull (used as_value (if b then judgement [] (placed (e.Pointed (target_in x) (value_in x)) (constant_address x.constancy)) else judgement (bad_address ∷ []) nothing).typed)
+    by : (b : Bool)
+        → NotNull (used as_value (if b then judgement [] (placed (e.Pointed (target_in x) (value_in x)) (constant_address x.constancy)) else judgement (bad_address ∷ []) nothing).typed)
     by true = place_no_null (e.Pointed (target_in x) (value_in x)) (placed (e.Pointed (target_in x) (value_in x)) (constant_address x.constancy)) (address_seen x.constancy)
     by false = integral_no_null refl
 
@@ -253,7 +277,8 @@ zero_null t null_constant h n = absurd (false≢true h)
 zero_null t null_address h n = absurd (false≢true h)
 zero_null t (address object offset) h n = absurd (false≢true h)
 
-pointer_shows : (t : CType) (c d : Constancy) → (is_form d ≡ true → is_zero c ≡ true) → constancy_as_pointer t d ≡ null_constant → constancy_as_pointer t c ≡ null_constant
+pointer_shows : (t : CType) (c d : Constancy) → (is_form d ≡ true → is_zero c ≡ true) → constancy_as_pointer t d ≡ null_constant
+    → constancy_as_pointer t c ≡ null_constant
 pointer_shows t c (number z) h n = zero_null t c (h refl) (null_by (is_zero (number z)) t n)
 pointer_shows t c varying h n = absurd cc
 pointer_shows t c faulty h n = absurd cc
@@ -261,7 +286,8 @@ pointer_shows t c null_constant h n = absurd cc
 pointer_shows t c null_address h n = absurd cc
 pointer_shows t c (address object offset) h n = absurd cc
 
-cast_by : (m : DataModel) (t : CType) (c d : Constancy) → (is_pointer t ≡ true → is_form d ≡ true → is_zero c ≡ true) → constancy_to m t d ≡ null_constant → constancy_to m t c ≡ null_constant
+cast_by : (m : DataModel) (t : CType) (c d : Constancy) → (is_pointer t ≡ true → is_form d ≡ true → is_zero c ≡ true)
+    → constancy_to m t d ≡ null_constant → constancy_to m t c ≡ null_constant
 cast_by m (Num s) c d h = λ n. absurd (integral_no_null ((conversion_is m (Num s) d).integer refl) n)
 cast_by m (Pointer t) c d h = pointer_shows (Pointer t) c d (h refl)
 cast_by m _ c d h = λ n. n
@@ -288,63 +314,70 @@ after_no_null {x} id tag k p h = subst (λ z. NotNull (after_of z (number_of_id 
 
 -- ---- expressions
 
-not_null : (it : c.Expression) (k : Known) → CanBeErased as_value k it → is_cast it ≡ false → is_marked_cast it ≡ false → Holds (λ x j. NotNull x) (expression it as_value k)
-not_null (c.Name name) k h g m = behind_end NotNull _ as_value _ _ (λ r. name_no_null name _ _)
-not_null (c.Constant text) k h g m = behind_end NotNull _ as_value _ _ (λ r. constant_no_null _)
-not_null (c.Text bytes) k h g m = absurd h
-not_null (c.Index whole index) k h g m =
+not_null : {texts : Bool} (it : c.Expression) (k : Known) → IsNamed texts k → CanBeErasedWith texts as_value k it → is_cast it ≡ false
+    → is_marked_cast it ≡ false → Holds (λ x j. NotNull x) (expression it as_value k)
+not_null (c.Name name) k named h g m = behind_end NotNull _ as_value _ _ (λ r. name_no_null name _ _)
+not_null (c.Constant text) k named h g m = behind_end NotNull _ as_value _ _ (λ r. constant_no_null _)
+not_null (c.Text bytes) k named h g m = behind_end NotNull _ as_value (text_at (entered k) bytes (length k.objects)) _ (λ r. text_no_null (entered k) bytes (length k.objects))
+not_null (c.Index whole index) k named h g m =
     behind_last (expression whole as_value (entered k)) _ (λ x l. behind_last (expression index as_value l) _ (λ y l. behind_end NotNull k.next as_value (judge_index x y l) l (λ r. index_no_null x y l)))
-not_null (c.Call callee arguments) k h g m = absurd h
-not_null (c.Member whole w) k h g m = behind_last (expression whole as_place (entered k)) _ (λ x l. behind_end NotNull k.next as_value (judge_member x w l) l (λ r. member_no_null x w l))
-not_null (c.Arrow pointer w) k h g m = behind_last (expression pointer as_value (entered k)) _ (λ x l. behind_end NotNull k.next as_value (judge_arrow x w l) l (λ r. arrow_no_null x w l))
-not_null (c.PostInc target) k h g m = absurd h
-not_null (c.PostDec target) k h g m = absurd h
-not_null (c.PreInc target) k h g m = absurd h
-not_null (c.PreDec target) k h g m = absurd h
-not_null (c.Unary unary.AddressOf operand) k h g m =
-    behind_bind (expression operand as_place (entered k)) _ (itself_placed (entered k) operand h)
+not_null (c.Call callee arguments) k named h g m = absurd h
+not_null (c.Member whole w) k named h g m = behind_last (expression whole as_place (entered k)) _ (λ x l. behind_end NotNull k.next as_value (judge_member x w l) l (λ r. member_no_null x w l))
+not_null (c.Arrow pointer w) k named h g m = behind_last (expression pointer as_value (entered k)) _ (λ x l. behind_end NotNull k.next as_value (judge_arrow x w l) l (λ r. arrow_no_null x w l))
+not_null (c.PostInc target) k named h g m = absurd h
+not_null (c.PostDec target) k named h g m = absurd h
+not_null (c.PreInc target) k named h g m = absurd h
+not_null (c.PreDec target) k named h g m = absurd h
+not_null (c.Unary unary.AddressOf operand) k named h g m =
+    behind_bind (expression operand as_place (entered k)) _ (itself_placed (entered k) operand named h)
     (λ x l p. behind_end NotNull k.next as_value (judge_address_of x) l (λ r. address_no_null x (address_marked p.1 r)))
-not_null (c.Unary unary.Dereference operand) k h g m = behind_last (expression operand as_value (entered k)) _ (λ x l. behind_end NotNull k.next as_value (judge_dereference x l) l (λ r. dereference_no_null x l))
-not_null (c.Unary unary.Plus operand) k h g m = behind_last (expression operand as_value (entered k)) _ (λ x l. behind_end NotNull k.next as_value (judge_plus x l) l (λ r. plus_no_null x l))
-not_null (c.Unary unary.Minus operand) k h g m = behind_last (expression operand as_value (entered k)) _ (λ x l. behind_end NotNull k.next as_value (judge_minus x l) l (λ r. minus_no_null x l))
-not_null (c.Unary unary.Complement operand) k h g m = behind_last (expression operand as_value (entered k)) _ (λ x l. behind_end NotNull k.next as_value (judge_complement x l) l (λ r. complement_no_null x l))
-not_null (c.Unary unary.Not operand) k h g m = behind_last (expression operand as_truth (entered k)) _ (λ x l. behind_end NotNull k.next as_value (judge_not x) l (λ r. not_no_null x))
-not_null (c.SizeofExpr operand) k h g m = behind_last (marked_again (entered k).is_unmarked (expression operand as_place (unmarked (entered k)))) (λ x l. finish k.next as_value (judge_size (own_type x) l) l) (λ x l. behind_end NotNull k.next as_value (judge_size (own_type x) l) l (λ r. size_no_null (own_type x) l))
-not_null (c.SizeofType s d) k h g m =
+not_null (c.Unary unary.Dereference operand) k named h g m = behind_last (expression operand as_value (entered k)) _ (λ x l. behind_end NotNull k.next as_value (judge_dereference x l) l (λ r. dereference_no_null x l))
+not_null (c.Unary unary.Plus operand) k named h g m = behind_last (expression operand as_value (entered k)) _ (λ x l. behind_end NotNull k.next as_value (judge_plus x l) l (λ r. plus_no_null x l))
+not_null (c.Unary unary.Minus operand) k named h g m = behind_last (expression operand as_value (entered k)) _ (λ x l. behind_end NotNull k.next as_value (judge_minus x l) l (λ r. minus_no_null x l))
+not_null (c.Unary unary.Complement operand) k named h g m = behind_last (expression operand as_value (entered k)) _ (λ x l. behind_end NotNull k.next as_value (judge_complement x l) l (λ r. complement_no_null x l))
+not_null (c.Unary unary.Not operand) k named h g m = behind_last (expression operand as_truth (entered k)) _ (λ x l. behind_end NotNull k.next as_value (judge_not x) l (λ r. not_no_null x))
+not_null (c.SizeofExpr operand) k named h g m = behind_last (marked_again (entered k).is_unmarked (expression operand as_place (unmarked (entered k)))) (λ x l. finish k.next as_value (judge_size (own_type x) l) l) (λ x l. behind_end NotNull k.next as_value (judge_size (own_type x) l) l (λ r. size_no_null (own_type x) l))
+not_null (c.SizeofType s d) k named h g m =
     behind_last (specifiers s (setting_in_sizeof d) (entered k)) _ (λ it l. behind_last (declarator d it false (λ name known b. type_name_faults b) l) _
     (λ t l. behind_end NotNull k.next as_value (also t.faults (judge_size t.type l)) l (λ r. size_no_null t.type l)))
-not_null (c.Cast s d operand) k h g m = absurd (false≢true (sym g))
-not_null (c.Binary op left right) k h g m =
+not_null (c.Cast s d operand) k named h g m = absurd (false≢true (sym g))
+not_null (c.Binary op left right) k named h g m =
     behind_last (expression left as_value (entered k)) _ (λ x l. behind_last (expression right as_value l) _ (λ y l. behind_end NotNull k.next as_value (judge_binary op x y l) l (λ r. binary_no_null op x y l)))
-not_null (c.Logical op left right) k h g m =
+not_null (c.Logical op left right) k named h g m =
     behind_last (expression left as_truth (entered k)) _ (λ x l. behind_last (expression right as_truth l) _ (λ y l. behind_end NotNull k.next as_value (judge_logical op x y) l (λ r. logical_no_null op x y)))
-not_null (c.Conditional test left right) k h g m =
-    behind_bind (expression test as_truth (entered k)) _ (given (expression test as_truth (entered k)) h.1) (λ o l a.
-    behind_bind (expression left as_value l) _ (behind_both (given (expression left as_value l) a.1) (itself_bare l left a.0)) (λ x l b.
-    behind_bind (expression right as_value l) _ (itself_bare l right b.0.1) (λ y l q. behind_end NotNull k.next as_value (judge_conditional o x y l) l (λ r. conditional_no_null b.1.1 q.1 o l))))
-not_null (c.Assign op target value) k h g m = absurd h
-not_null (c.Comma c.no_expressions) k h g m = absurd h
-not_null (c.Comma (c.an_expression first rest)) k h g m =
+not_null (c.Conditional test left right) k named h g m =
+    behind_bind (expression test as_truth (entered k)) _ (behind_both (given (expression test as_truth (entered k)) h.1) (itself_tested (entered k) test named h.0)) (λ o l a.
+    behind_bind (expression left as_value l) _ (behind_both (given (expression left as_value l) a.0.1) (itself_bare l left a.1.2 a.0.0)) (λ x l b.
+    behind_bind (expression right as_value l) _ (itself_bare l right b.1.2 b.0.1) (λ y l q. behind_end NotNull k.next as_value (judge_conditional o x y l) l (λ r. conditional_no_null b.1.1 q.1 o l))))
+not_null (c.Assign op target value) k named h g m = absurd h
+not_null (c.Comma c.no_expressions) k named h g m = absurd h
+not_null (c.Comma (c.an_expression first rest)) k named h g m =
     behind_last (expressions (c.an_expression first rest) (entered k)) _ (λ xs l. behind_end NotNull k.next as_value (judge_comma xs) l (λ r. comma_no_null xs))
-not_null (c.Marked ms value) k h g m =
-    behind_bind (marks ms (entered k)) _ (given (marks ms (entered k)) h) (λ typed l a.
-    behind_bind (expression value as_value l) _ (not_null value l a.1 (or_none (is_cast value) (is_marked_cast value) m).0 (or_none (is_cast value) (is_marked_cast value) m).1)
+not_null (c.Marked ms value) k named h g m =
+    behind_bind (marks ms (entered k)) _ (given (marks ms (entered k)) h.1) (λ typed l a.
+    behind_bind (expression value as_value l) _ (not_null value l (named_found (entered k) named a.0) a.1 (or_none (is_cast value) (is_marked_cast value) m).0 (or_none (is_cast value) (is_marked_cast value) m).1)
     (λ x l n. behind_end NotNull k.next as_value (judge_marked typed x) l (λ r. marked_no_null typed x n)))
-not_null (c.Decide operand when_true when_false tag) k h g m =
+not_null (c.Decide operand when_true when_false tag) k named h g m =
     behind_last (expression operand as_value (entered k)) _ (λ x l.
     behind_bind {P = λ z j. ⊥} (finish k.next as_value (judge_decide as_value x when_true when_false tag l) l) _
     (behind_end (λ z. ⊥) k.next as_value (judge_decide as_value x when_true when_false tag l) l (λ r. decides_a_truth as_value x when_true when_false tag l refl r)) (λ z j never. absurd never))
-not_null (c.After operand id tag) k h g m =
-    behind_bind (expression operand as_value (entered k)) _ (behind_both (itself_bare (entered k) operand h.0)
-    (not_null operand (entered k) h.0 (or_none (is_cast operand) (is_marked_cast operand) m).0 (or_none (is_cast operand) (is_marked_cast operand) m).1)) (λ x l b.
+not_null (c.After operand id tag) k named h g m =
+    behind_bind (expression operand as_value (entered k)) _ (behind_both (itself_bare (entered k) operand named h.1)
+    (not_null operand (entered k) named h.1 (or_none (is_cast operand) (is_marked_cast operand) m).0 (or_none (is_cast operand) (is_marked_cast operand) m).1)) (λ x l b.
     behind_bind {P = λ z j. NotNull z} (finish k.next as_value (judge_after as_value x id tag l) l) _
     (behind_end NotNull k.next as_value (judge_after as_value x id tag l) l (λ r. after_no_null id tag l b.0.1 b.1)) (λ z j n. holds n))
 
-cast_behind : (s : c.Specifiers) (d : c.Declarator) (operand : c.Expression) (k : Known) → CanBeErased as_value k (c.Cast s d operand) → Holds (λ x j. ShowsNull x) (expression (c.Cast s d operand) as_value k)
-cast_behind s d operand k h =
-    behind_bind (specifiers s elsewhere (entered k)) _ (given (specifiers s elsewhere (entered k)) h.1) (λ it l a.
-    behind_bind (declarator d it false (λ name known b. type_name_faults b) l) _ (given (declarator d it false (λ name known b. type_name_faults b) l) a.1) (λ t l b.
-    behind_bind (expression operand as_value l) _ (itself_bare l operand b) (λ x l p.
+cast_behind : {texts : Bool} (s : c.Specifiers) (d : c.Declarator) (operand : c.Expression) (k : Known) → IsNamed texts k
+    → CanBeErasedWith texts as_value k (c.Cast s d operand)
+    → Holds (λ x j. ShowsNull x) (expression (c.Cast s d operand) as_value k)
+cast_behind {texts} s d operand k w h =
+    behind_bind (specifiers s elsewhere (entered k)) _
+    (behind_both (given (specifiers s elsewhere (entered k)) h.1)
+    (first_of {texts = texts} {known = entered k} w (specifiers_same {texts = texts} {known = entered k} {labels = k.labels} {k = entered k} {j = entered k} s elsewhere refl h.0 (beside none_more none_more)))) (λ it l a.
+    behind_bind (declarator d it false (λ name known b. type_name_faults b) l) _
+    (behind_both (given (declarator d it false (λ name known b. type_name_faults b) l) a.0.1)
+    (first_of {texts = texts} {known = l} a.1.2 (of_declarator {known = l} {labels = l.labels} {k = l} {j = l} a.1.2 d it (beside none_more none_more) a.0.0))) (λ t l b.
+    behind_bind (expression operand as_value l) _ (itself_bare l operand b.1.2 b.0) (λ x l p.
     behind_end ShowsNull k.next as_value (also t.faults (judge_cast t.type x l)) l (λ r. cast_shows t.type l p.1 (right_empty t.faults (judge_cast t.type x l).faults r)))))
 
 cast_or_not : (it : c.Expression) → ((s : c.Specifiers) × (d : c.Declarator) × (operand : c.Expression) × (it ≡ c.Cast s d operand)) ⊎ (is_cast it ≡ false)
@@ -352,9 +385,11 @@ cast_or_not (c.Cast s d operand) = inl (s, d, operand, refl)
 cast_or_not _ = inr refl
 
 -- An expression that is no cast behind marks shows whether it is a null pointer constant.
-pub shows : (it : c.Expression) (k : Known) → CanBeErased as_value k it → is_marked_cast it ≡ false → Holds (λ x j. ShowsNull x) (expression it as_value k)
-shows it k h m = by (cast_or_not it)
+pub shows : {texts : Bool} (it : c.Expression) (k : Known) → IsNamed texts k → CanBeErasedWith texts as_value k it → is_marked_cast it ≡ false
+    → Holds (λ x j. ShowsNull x) (expression it as_value k)
+shows {texts} it k w h m = by (cast_or_not it)
   where
-    by : ((s : c.Specifiers) × (d : c.Declarator) × (operand : c.Expression) × (it ≡ c.Cast s d operand)) ⊎ (is_cast it ≡ false) → Holds (λ x j. ShowsNull x) (expression it as_value k)
-    by (inl (s, d, operand, e)) = subst (λ it. Holds (λ x j. ShowsNull x) (expression it as_value k)) (sym e) (cast_behind s d operand k (subst (CanBeErased as_value k) e h))
-    by (inr g) = behind_so (not_null it k h g m) (λ x j n e. absurd (n e))
+    by : ((s : c.Specifiers) × (d : c.Declarator) × (operand : c.Expression) × (it ≡ c.Cast s d operand)) ⊎ (is_cast it ≡ false)
+        → Holds (λ x j. ShowsNull x) (expression it as_value k)
+    by (inl (s, d, operand, e)) = subst (λ it. Holds (λ x j. ShowsNull x) (expression it as_value k)) (sym e) (cast_behind s d operand k w (subst (CanBeErasedWith texts as_value k) e h))
+    by (inr g) = behind_so (not_null it k w h g m) (λ x j n e. absurd (n e))

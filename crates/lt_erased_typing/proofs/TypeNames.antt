@@ -39,35 +39,35 @@ words_aside words elsewhere h = refl
 abbrev pub AreSame : {A : Type 0} → A → A → Type 0
 AreSame a b = b ≡ a
 
-module _ {known : Known} {labels : List Label} where
-  struct_same : {k j : Known} (tag : List ℕ) (found : Option Tagged) → is_some found ≡ true → IsBeside known labels k j → Follows known labels (AreSame {A = Naming}) (struct_tagged tag found k) (struct_tagged tag found j)
+module _ {texts : Bool} {known : Known} {labels : List Label} where
+  struct_same : {k j : Known} (tag : List ℕ) (found : Option Tagged) → is_some found ≡ true → IsBeside texts known labels k j → Follows texts known labels (AreSame {A = Naming}) (struct_tagged tag found k) (struct_tagged tag found j)
   struct_same tag None h b = absurd (false≢true h)
   struct_same tag (Some (a_struct n)) h b = goes refl b
   struct_same tag (Some (an_enum is_complete)) h b = goes refl b
 
-  type_same : {k j : Known} (it : c.TypeSpecifier) (setting : Setting) → is_alone setting ≡ false → IsKnownType k.frames it → IsBeside known labels k j
-      → Follows known labels (AreSame {A = Naming}) (type_specifier it setting k) (type_specifier (erased_type it) setting j)
+  type_same : {k j : Known} (it : c.TypeSpecifier) (setting : Setting) → is_alone setting ≡ false → IsKnownType k.frames it → IsBeside texts known labels k j
+      → Follows texts known labels (AreSame {A = Naming}) (type_specifier it setting k) (type_specifier (erased_type it) setting j)
   type_same (c.Basic type) setting a h b = goes refl b
   type_same (c.Word word) setting a h b = goes refl b
   type_same (c.StructTag tag) alone a h b = absurd (false≢true (sym a))
-  type_same (c.StructTag tag) in_sizeof a h beside = struct_same tag (tagged_in tag known.frames) h beside
-  type_same (c.StructTag tag) elsewhere a h beside = struct_same tag (tagged_in tag known.frames) h beside
+  type_same (c.StructTag tag) in_sizeof a h (beside more other) = struct_same tag (tagged_in tag known.frames) h (beside more other)
+  type_same (c.StructTag tag) elsewhere a h (beside more other) = struct_same tag (tagged_in tag known.frames) h (beside more other)
   type_same (c.Struct tag list) setting a h b = absurd h
-  type_same (c.EnumTag tag) setting a h beside = goes refl beside
+  type_same (c.EnumTag tag) setting a h (beside more other) = goes refl (beside more other)
   type_same (c.Enum tag list) setting a h b = absurd h
-  type_same (c.Named name) setting a h beside = goes refl beside
+  type_same (c.Named name) setting a h (beside more other) = goes refl (beside more other)
 
-  known_still : {k j : Known} (types : c.TypeSpecifiers) {l i : Known} → AreKnownTypes k.frames types → IsBeside known labels k j → IsBeside known labels l i → AreKnownTypes l.frames types
-  known_still types h beside beside = h
+  known_still : {k j : Known} (types : c.TypeSpecifiers) {l i : Known} → AreKnownTypes k.frames types → IsBeside texts known labels k j → IsBeside texts known labels l i → AreKnownTypes l.frames types
+  known_still types h (beside more other) (beside another last) = h
 
-  types_same : {k j : Known} (them : c.TypeSpecifiers) (setting : Setting) → is_alone setting ≡ false → AreKnownTypes k.frames them → IsBeside known labels k j
-      → Follows known labels (AreSame {A = List Naming}) (type_specifiers them setting k) (type_specifiers (erased_types them) setting j)
+  types_same : {k j : Known} (them : c.TypeSpecifiers) (setting : Setting) → is_alone setting ≡ false → AreKnownTypes k.frames them → IsBeside texts known labels k j
+      → Follows texts known labels (AreSame {A = List Naming}) (type_specifiers them setting k) (type_specifiers (erased_types them) setting j)
   types_same c.no_types setting a h b = goes refl b
   types_same (c.a_type first rest) setting a h b =
       last (type_same first setting a h.0 b) (λ x y k j e s. last (types_same rest setting a (known_still rest h.1 b s) s) (λ xs ys k j f s. goes (ap (λ it. it ∷ ys) e ∙ ap (λ it. x ∷ it) f) s))
 
-  pub specifiers_same : {k j : Known} (it : c.Specifiers) (setting : Setting) → is_alone setting ≡ false → AreKnown k.frames it → IsBeside known labels k j
-      → Follows known labels (AreSame {A = Specified}) (specifiers it setting k) (specifiers (erased_specifiers it) setting j)
+  pub specifiers_same : {k j : Known} (it : c.Specifiers) (setting : Setting) → is_alone setting ≡ false → AreKnown k.frames it → IsBeside texts known labels k j
+      → Follows texts known labels (AreSame {A = Specified}) (specifiers it setting k) (specifiers (erased_specifiers it) setting j)
   specifiers_same (c.specifiers words types) setting a h b = last (types_same types (beside_words words setting) (words_aside words setting a) h b) (λ xs ys k j e s. goes (ap (specified words) e) s)
 
 -- ---- lengths
@@ -123,9 +123,9 @@ names_by it x y h r =
     lengths : (t u : CType) → t ≡ u → type_name_faults (built u []) ≡ [] → type_name_faults (built t []) ≡ []
     lengths t u e g = ap (λ it. type_name_faults (built it [])) e ∙ g
 
-module _ {known : Known} {labels : List Label} where
-  pub arrays_alike : {k j : Known} {n m : Option ℕ} (x y : Built) → IsBeside known labels k j → (is_length n ≡ true → m ≡ n) → AreBuiltAlike x y → AreBuiltAlike (array_of k n x) (array_of j m y)
-  arrays_alike {n = n} {m = m} x y beside f h = λ r.
+module _ {texts : Bool} {known : Known} {labels : List Label} where
+  pub arrays_alike : {k j : Known} {n m : Option ℕ} (x y : Built) → IsBeside texts known labels k j → (is_length n ≡ true → m ≡ n) → AreBuiltAlike x y → AreBuiltAlike (array_of k n x) (array_of j m y)
+  arrays_alike {n = n} {m = m} x y (beside more other) f h = λ r.
       let front = left_empty (array_faults known.structs n x.type) x.faults r in
       let e = f (constant_length known.structs n x.type front) in
       let both = h (right_empty (array_faults known.structs n x.type) x.faults r) in (
@@ -133,8 +133,8 @@ module _ {known : Known} {labels : List Label} where
         ap (λ it. Array y.type (unwrap_or it 0)) e ∙ ap (λ t. Array t (unwrap_or n 0)) both.1,
       )
 
-  pub written_alike : {k j : Known} (it : Specified) (name : Option (List ℕ)) (n m : ℕ) (x y : Built) → AreBuiltAlike x y → IsBeside known labels k j
-      → Follows known labels DeclareAlike (end_of_declarator (Some n) name x (all_faults it x (type_name_faults x)) k) (end_of_declarator (Some m) name y (all_faults it y (type_name_faults y)) j)
+  pub written_alike : {k j : Known} (it : Specified) (name : Option (List ℕ)) (n m : ℕ) (x y : Built) → AreBuiltAlike x y → IsBeside texts known labels k j
+      → Follows texts known labels DeclareAlike (end_of_declarator (Some n) name x (all_faults it x (type_name_faults x)) k) (end_of_declarator (Some m) name y (all_faults it y (type_name_faults y)) j)
   written_alike it name n m x y h b =
       settled (λ u k. Goes (declares n name x []) k) (λ u k. Goes (declares m name y []) k) n m (all_faults it x (type_name_faults x)) (all_faults it y (type_name_faults y))
       (λ r. let both = names_by it x y h r in (both.0, goes (λ g. (refl, both.1)) b))

@@ -1,46 +1,74 @@
 -- What is known of an expression without its marks where it stands.
-use Rattle.std.proofs.Common.{◌≡◌, ℕ, List, refl, ap, subst}
+use Rattle.std.proofs.Common.{◌≡◌, ℕ, Bool, List, refl, ap, ◌∙◌, subst, true, false}
 use Rattle.std.proofs.lemmas.Bool.{false≢true}
+use Rattle.lt_model.specs.declared.operator.Op.{Op}
 use Rattle.lt_tree.specs.Tree as c
 use Rattle.lt_tree.specs.Erasure.{erased}
-use Rattle.lt_tree.specs.Typing.Entities.{Known, Label, Fact}
+use Rattle.lt_tree.specs.Typing.Entities.{Known, Object, Label, Fact}
 use Rattle.lt_tree.specs.Typing.Steps.{Outcome, Goes, Breaks}
 use Rattle.lt_tree.specs.Typing.Expressions.{Typed, as_value, own_type, finish}
 use Rattle.lt_tree.specs.Typing.Operations.{judge_name}
 use Rattle.lt_tree.specs.Typing.ExpressionTyping.{expression}
-use Rattle.lt_erased_typing.specs.Erasable.{CanBeErased, Behind, at, entered}
-use Rattle.lt_erased_typing.specs.Laws.{PureExpressionsAreTypedWithoutMarks, TheyAreTypedBesideOtherMarks, OperandsKeepTheirTypes, TruthsAreTypedAsValues}
-use Rattle.lt_erased_typing.proofs.Going.{IsBeside, beside, Follows, goes, second_is}
+use Rattle.lt_erased_typing.specs.Erasable.{CanBeErasedWith, Behind, at, with_found, entered}
+use Rattle.lt_erased_typing.specs.Laws.{PureExpressionsAreTypedWithoutMarks, TheyAreTypedBesideOtherMarks, LiteralsAreTypedWithoutMarks, OperandsKeepTheirTypes, OperandsWithLiteralsKeepTheirTypes, TruthsAreTypedAsValues}
+use Rattle.lt_erased_typing.specs.Literals.{HasMoreTexts, none_more}
+use Rattle.lt_erased_typing.proofs.Texts.{IsNamed, no_more}
+use Rattle.lt_erased_typing.proofs.Going.{IsBeside, beside, Follows, goes, second_is, second_more}
 use Rattle.lt_erased_typing.proofs.Operands.{BareValue, value_type_same}
 use Rattle.lt_erased_typing.proofs.Expressions.{of_expression}
 
-found : {known next : Known} {labels : List Label} {x : Typed} (o : Outcome Typed) → Follows known labels BareValue (Goes x next) o
+-- what is found without marks: string literals, where they are allowed, and facts
+found_with : {texts : Bool} {known next : Known} {labels : List Label} {x : Typed} (o : Outcome Typed) → Follows texts known labels BareValue (Goes x next) o
+    → (y : Typed) × (n : ℕ) × (objects : List Object) × (facts : List Fact) × HasMoreTexts texts known.objects objects × (o ≡ Goes y (with_found known n objects labels facts)) × (own_type y ≡ own_type x)
+found_with (Goes y j) (goes r s) = (y, j.next, j.objects, j.facts, second_more s, ap (Goes y) (second_is s), value_type_same r)
+found_with (Breaks rule node) d = elim d [ ]
+
+found : {known next : Known} {labels : List Label} {x : Typed} (o : Outcome Typed) → Follows false known labels BareValue (Goes x next) o
     → (y : Typed) × (n : ℕ) × (facts : List Fact) × (o ≡ Goes y (at known n labels facts)) × (own_type y ≡ own_type x)
-found (Goes y j) (goes r s) = (y, j.next, j.facts, ap (Goes y) (second_is s), value_type_same r)
-found (Breaks rule node) d = elim d [ ]
+found {known} {labels = labels} o d =
+    let it = found_with o d in (it.0, it.1, it.3, it.5 ∙ ap (λ (objects : List Object). Goes it.0 (with_found known it.1 objects labels it.3)) (no_more it.4), it.6)
 
 -- where the first is known to go on
-follows_at : {known k j next : Known} {labels : List Label} {x : Typed} (e : c.Expression) → IsBeside known labels k j → CanBeErased as_value k e → expression e as_value k ≡ Goes x next
-    → Follows known labels BareValue (Goes x next) (expression (erased e) as_value j)
-follows_at {known} {j = j} {labels = labels} e b h q = subst (λ o. Follows known labels BareValue o (expression (erased e) as_value j)) q (of_expression e as_value refl b h)
+follows_at : {texts : Bool} {known k j next : Known} {labels : List Label} {x : Typed} (e : c.Expression) → IsNamed texts known
+    → IsBeside texts known labels k j → CanBeErasedWith texts as_value k e → expression e as_value k ≡ Goes x next
+    → Follows texts known labels BareValue (Goes x next) (expression (erased e) as_value j)
+follows_at {texts} {known} {j = j} {labels = labels} e w b h q = subst (λ o. Follows texts known labels BareValue o (expression (erased e) as_value j)) q (of_expression w e as_value refl b h)
+
+unnamed : (known : Known) → IsNamed false known
+unnamed known = λ is. absurd (false≢true is)
 
 pub typed_without_marks : PureExpressionsAreTypedWithoutMarks
-typed_without_marks known next e x h q = found (expression (erased e) as_value known) (follows_at {known = known} {labels = known.labels} e beside h q)
+typed_without_marks known next e x h q = found (expression (erased e) as_value known) (follows_at {known = known} {labels = known.labels} e (unnamed known) (beside none_more none_more) h q)
 
 pub typed_beside : TheyAreTypedBesideOtherMarks
-typed_beside known next e x h q n labels facts = found (expression (erased e) as_value (at known n labels facts)) (follows_at {known = known} {labels = labels} e beside h q)
+typed_beside known next e x h q n labels facts = found (expression (erased e) as_value (at known n labels facts)) (follows_at {known = known} {labels = labels} e (unnamed known) (beside none_more none_more) h q)
 
-both_at : {known k j : Known} {labels : List Label} {x z : Typed} → Follows known labels BareValue (Goes x k) (Goes z j) → BareValue x z × IsBeside known labels k j
+pub with_literals : LiteralsAreTypedWithoutMarks
+with_literals known next e x w h q n labels facts = found_with (expression (erased e) as_value (at known n labels facts)) (follows_at {known = known} {labels = labels} e (λ is. w) (beside none_more none_more) h q)
+
+both_at : {texts : Bool} {known k j : Known} {labels : List Label} {x z : Typed} → Follows texts known labels BareValue (Goes x k) (Goes z j)
+    → BareValue x z × IsBeside texts known labels k j
 both_at (goes r s) = (r, s)
 
 behind_at : (P : Typed → Known → Type 0) {x : Typed} {k : Known} (o : Outcome Typed) → o ≡ Goes x k → Behind o P → P x k
 behind_at P o e h = subst (λ it. Behind it P) e h
 
-pub operands_keep : OperandsKeepTheirTypes
-operands_keep known next last op left right x y h p q z w k j s t =
-    let one = both_at (subst (λ o. Follows known known.labels BareValue (Goes x next) o) s (follows_at {known = known} {labels = known.labels} left beside h.0 p)) in
-    let two = both_at (subst (λ o. Follows known known.labels BareValue (Goes y last) o) t (follows_at right one.1 (behind_at (λ x l. CanBeErased as_value l right) (expression left as_value (entered known)) p h.1) q)) in
+operands_by : (texts : Bool) (known next last : Known) (op : Op) (left right : c.Expression) (x y : Typed) → IsNamed texts known
+    → CanBeErasedWith texts as_value known (c.Binary op left right)
+    → expression left as_value (entered known) ≡ Goes x next → expression right as_value next ≡ Goes y last
+    → (z w : Typed) (k j : Known) → expression (erased left) as_value (entered known) ≡ Goes z k → expression (erased right) as_value k ≡ Goes w j
+    → (own_type z ≡ own_type x) × (own_type w ≡ own_type y)
+operands_by texts known next last op left right x y named h p q z w k j s t =
+    let one = both_at (subst (λ o. Follows texts known known.labels BareValue (Goes x next) o) s (follows_at {known = known} {labels = known.labels} left named (beside none_more none_more) h.0 p)) in
+    let two = both_at (subst (λ o. Follows texts known known.labels BareValue (Goes y last) o) t
+    (follows_at right named one.1 (behind_at (λ x l. CanBeErasedWith texts as_value l right) (expression left as_value (entered known)) p h.1) q)) in
     (value_type_same one.0, value_type_same two.0)
+
+pub operands_keep : OperandsKeepTheirTypes
+operands_keep known next last op left right x y h = operands_by false known next last op left right x y (unnamed known) h
+
+pub literal_operands_keep : OperandsWithLiteralsKeepTheirTypes
+literal_operands_keep known next last op left right x y w h = operands_by true known next last op left right x y (λ is. w) h
 
 pub truths_as_values : TruthsAreTypedAsValues
 unfolding judge_name finish

@@ -1,12 +1,19 @@
 //! Laws of the definitions; the functions do nothing.
 
 ghost use Rattle.lt_erased_typing.specs.Examples.{MarksHideOperands};
-ghost use Rattle.lt_erased_typing.specs.Laws.{OperandsKeepTheirTypes, PlainExpressionsCanBeErased, PureExpressionsAreTypedWithoutMarks, TheyAreTypedBesideOtherMarks, TruthsAreTypedAsValues};
+ghost use Rattle.lt_erased_typing.specs.Laws.{CopiesCanBeErased, CopiesWithLiteralsCanBeErased, LiteralsAreTypedWithoutMarks, OperandsKeepTheirTypes, OperandsWithLiteralsKeepTheirTypes, PlainExpressionsCanBeErased, PureExpressionsAreTypedWithoutMarks, TheyAreTypedBesideOtherMarks, TruthsAreTypedAsValues};
 
 /// A pure expression is typed without its marks where it is typed with them, if they hide nothing from an operator.
 pub fn pure_expressions_are_typed_without_marks()
     ensures here { PureExpressionsAreTypedWithoutMarks }
     ensures beside_other_marks { TheyAreTypedBesideOtherMarks }
+{}
+
+/// So is one with string literals, if the objects of which names are in scope are known; it finds objects of string literals too.
+pub fn literals_are_typed_without_marks()
+    ensures whole { LiteralsAreTypedWithoutMarks }
+    ensures operands { OperandsWithLiteralsKeepTheirTypes }
+    ensures copies { CopiesWithLiteralsCanBeErased }
 {}
 
 /// The operands of an operator have the same types without their marks.
@@ -22,6 +29,11 @@ pub fn truths_are_typed_as_values()
 /// Marks can be taken off expressions that show by their text that marks hide nothing.
 pub fn plain_expressions_can_be_erased()
     ensures { PlainExpressionsCanBeErased }
+{}
+
+/// Marks can be taken off expressions that predicates copy, where these are typed, whatever marks stand in them.
+pub fn copies_can_be_erased()
+    ensures { CopiesCanBeErased }
 {}
 
 /// Texts that are typed with marks, and not without them, or with another type.

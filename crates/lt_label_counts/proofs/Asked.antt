@@ -11,7 +11,6 @@ use Rattle.lt_model.specs.declared.operator.Op.{Op}
 use Rattle.lt_model.specs.declared.operator.Op.TheVariants as O
 use Rattle.lt_tree.specs.Tree as c
 use Rattle.lt_tree.specs.Erasure.{erased}
-use Rattle.lt_tree.specs.Purity.{is_pure}
 use Rattle.lt_tree.specs.Nodes.{Node, an_external, a_declarator, an_initialiser, a_member, an_enumerator, a_label, a_declared_item, a_stated_item, a_marked_item, a_statement, an_expression, a_mark}
 use Rattle.lt_tree.specs.Typing.Types.{CType, own_qualifiers, is_integer, is_pointer}
 use Rattle.lt_tree.specs.Typing.Entities.{Object}
@@ -22,7 +21,7 @@ use Rattle.lt_objectives.specs.declared.criteria.Criterion.TheVariants as C
 use Rattle.lt_objectives.specs.Places.{Site, sites, is_open, is_value_position, type_at}
 use Rattle.lt_objectives.specs.Decisions.{decisions, clauses, clause_list, clause_count, clauses_of, conjunctions_from, conjunctions, conjunction, negation, inequality, zero_constant, active_from, active_clauses, most_clauses, has_few_clauses}
 use Rattle.lt_objectives.specs.Mutants.{with_others, is_one_of, same_op, arithmetic, relations, pointer_relations, is_fitting, is_signed_integer, minus, absolute, absolute_mutants, arithmetic_mutants, connector_mutants, relational_mutants}
-use Rattle.lt_objectives.specs.Copies.{is_core}
+use Rattle.lt_objectives.specs.Copies.{is_core, can_be_copied}
 use Rattle.lt_objectives.specs.Objectives.{Form, at_start, in_front, around, Objective, objective, all_at, domains, domains_of_object, parameters_at, at_body, decided_at, both_truths, combinations, at_test, left_type, right_type, mutants, differences, at_expression, at_node, objectives}
 use Rattle.lt_objectives.specs.Marked.{ids_of, next_id}
 use Rattle.lt_label_counts.proofs.Totals.{count, total, total_both, total_flat, total_at_most}
@@ -42,9 +41,9 @@ labels_ask place form criterion (p ∷ ps) one = let more = labels_ask place for
 -- ---- at decisions and clauses
 
 truths_ask : (criterion : Criterion) (k decided : ℕ) (e : c.Expression) → ids_asked (both_truths criterion k decided e) ≤ 2
-truths_ask criterion k decided e = by (is_pure e)
+truths_ask criterion k decided e = by (can_be_copied e)
   where
-    by : (b : Bool) → ids_asked (if b then all_at k in_front criterion (e ∷ negation e ∷ []) else objective decided around criterion e ∷ []) ≤ 2
+    by : (b : Bool) → ids_asked (if b then all_at k in_front criterion (erased e ∷ negation (erased e) ∷ []) else objective decided around criterion (erased e) ∷ []) ≤ 2
     by true = omega arith
     by false = omega arith
 
@@ -94,14 +93,15 @@ few_active d h =
     at_most : (n : ℕ) → nat_le n most_clauses ≡ true → n ≤ 8
     at_most n h = grind (arith, nat_tests)
 
-combinations_ask : (criterion : Criterion) (k n : ℕ) (predicates : c.Expression → List c.Expression) (d : c.Expression) → (has_few_clauses d ≡ true → length (predicates d) ≤ n)
+combinations_ask : (criterion : Criterion) (k n : ℕ) (predicates : c.Expression → List c.Expression) (d : c.Expression)
+    → (has_few_clauses (erased d) ≡ true → length (predicates (erased d)) ≤ n)
     → ids_asked (combinations criterion k predicates d) ≤ n
-combinations_ask criterion k n predicates d h = by (is_pure d && has_few_clauses d) refl
+combinations_ask criterion k n predicates d h = by (can_be_copied d && has_few_clauses (erased d)) refl
   where
-    by : (b : Bool) → (is_pure d && has_few_clauses d) ≡ b → ids_asked (if b then all_at k in_front criterion (predicates d) else []) ≤ n
+    by : (b : Bool) → (can_be_copied d && has_few_clauses (erased d)) ≡ b → ids_asked (if b then all_at k in_front criterion (predicates (erased d)) else []) ≤ n
     by true e =
-        let many = labels_ask k in_front criterion (predicates d) refl in
-        let few = h (second_so (is_pure d) (has_few_clauses d) e) in
+        let many = labels_ask k in_front criterion (predicates (erased d)) refl in
+        let few = h (second_so (can_be_copied d) (has_few_clauses (erased d)) e) in
         omega (arith, many, few)
     by false e = omega arith
 
@@ -125,9 +125,9 @@ test_asks C.Decision (Some decided) clause k e = let h = truths_ask C.Decision k
 test_asks C.Decision None clause k e = omega arith
 test_asks C.Condition decision (Some decided) k e = let h = truths_ask C.Condition k decided e in omega (arith, h)
 test_asks C.Condition decision None k e = omega arith
-test_asks C.MultipleCondition (Some decided) clause k e = combinations_ask C.MultipleCondition k 256 (λ d. conjunctions (clause_list d)) e (few_conjunctions e)
+test_asks C.MultipleCondition (Some decided) clause k e = combinations_ask C.MultipleCondition k 256 (λ d. conjunctions (clause_list d)) e (few_conjunctions (erased e))
 test_asks C.MultipleCondition None clause k e = omega arith
-test_asks C.GeneralActiveClause (Some decided) clause k e = combinations_ask C.GeneralActiveClause k 16 active_clauses e (few_active e)
+test_asks C.GeneralActiveClause (Some decided) clause k e = combinations_ask C.GeneralActiveClause k 16 active_clauses e (few_active (erased e))
 test_asks C.GeneralActiveClause None clause k e = omega arith
 test_asks C.Function decision clause k e = omega arith
 test_asks C.InputDomain decision clause k e = omega arith
@@ -210,7 +210,7 @@ mutants_at_most unit program C.RestrictedActiveClause k e plain = omega arith
 mutants_at_most unit program C.AllUses k e plain = omega arith
 
 differences_ask : (unit : c.Unit) (program : Program) (criterion : Criterion) (k : ℕ) (e : c.Expression) → ids_asked (differences unit program criterion k e) ≤ asked_by_mutants criterion
-differences_ask unit program criterion k e = by (is_pure (erased e) && is_value_position unit k)
+differences_ask unit program criterion k e = by (can_be_copied e && is_value_position unit k)
   where
     by : (b : Bool) → ids_asked (if b then all_at k in_front criterion (map (inequality (erased e)) (mutants unit program criterion k e (erased e))) else []) ≤ asked_by_mutants criterion
     by true =
@@ -236,12 +236,12 @@ expression_asks : (unit : c.Unit) (program : Program) (criterion : Criterion) (k
 expression_asks unit program criterion k e = by (is_asked unit program k e)
   where
     test : List Objective
-    test = at_test criterion (decided_at (decisions unit) k) (decided_at (clauses unit) k) k (erased e)
+    test = at_test criterion (decided_at (decisions unit) k) (decided_at (clauses unit) k) k e
 
     by : (b : Bool) → ids_asked (if b then test ++ differences unit program criterion k e else [])
         ≤ (asked_by_test criterion + asked_by_mutants criterion) * count b + asked_by_decision criterion * count (b && is_decided unit k)
     by true =
-        let at_the_test = test_asks criterion (decided_at (decisions unit) k) (decided_at (clauses unit) k) k (erased e) in
+        let at_the_test = test_asks criterion (decided_at (decisions unit) k) (decided_at (clauses unit) k) k e in
         let mutated = differences_ask unit program criterion k e in
         let both = total_both (λ (it : Objective). ids_of it.form) test (differences unit program criterion k e) in
         omega (arith, at_the_test, mutated, both)

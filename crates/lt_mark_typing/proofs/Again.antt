@@ -19,19 +19,19 @@ use Rattle.lt_tree.specs.Typing.Steps.{Outcome, Goes, Breaks, goes_on, adds_labe
 use Rattle.lt_tree.specs.Typing.Expressions.{Form, a_value, Typed, Use, as_value, as_truth, as_place, as_callee, valued, own_type, value_in, as_it_is_read, Judged, used, fact_of, faults_of_any, has_floating, has_pointer_to_function, finish}
 use Rattle.lt_tree.specs.Typing.Operations.{judge_step, judge_member, judge_arrow, judge_index, judge_call, judge_cast}
 use Rattle.lt_tree.specs.Typing.BinaryOperations.{judge_binary, judge_logical, judge_conditional, judge_assignment, judge_comma}
-use Rattle.lt_tree.specs.Typing.MarkRules.{is_good_id, number_of_id, is_tag, is_good_decision, label_of, judge_decide, judge_marked, judge_after, inside_mark, is_lvalue_in_use}
+use Rattle.lt_tree.specs.Typing.MarkRules.{is_good_id, inside_after, number_of_id, is_tag, is_good_decision, label_of, judge_decide, behind_marks as marked_typed, judge_marked, judge_after, inside_mark, is_lvalue_in_use}
 use Rattle.lt_tree.specs.Typing.NodeEnds.{judge_unary, operand_of, also, decision_labels}
 use Rattle.lt_tree.specs.Typing.Specifying.{elsewhere}
 use Rattle.lt_tree.specs.Typing.Declarators.{Declares}
 use Rattle.lt_tree.specs.Typing.ExpressionTyping.{expression, expressions, marks}
 use Rattle.lt_mark_laws.specs.Added as a
 use Rattle.lt_mark_laws.specs.Added.{AreNew, Adds, can_be_marked, AddsMarks, Keeps, KeepsBound}
-use Rattle.lt_mark_typing.specs.Beside.{IsBeside, AddsForm, values, AddsTyped, AddsTest, AddsEach, none_added, one_added, Position, in_use, in_test, use_of, AddsAt, Follows, goes, breaks}
+use Rattle.lt_mark_typing.specs.Beside.{IsBeside, AddsForm, values, AddsMade, AddsTyped, AddsTest, AddsEach, none_added, one_added, Position, in_use, in_test, use_of, AddsAt, Follows, goes, breaks}
 use Rattle.lt_mark_typing.specs.Placed as p
 use Rattle.lt_mark_typing.specs.Placed.{IsNewId, AreOld, AreNewLabels, takes_labels, IsMarkable, is_good_type, IsNoNull, position_of, behind_marks, any_type_name, joined, AddsTo, as_it_is, in_parts, in_front, around, AddsToParts, AddsToAll}
 use Rattle.lt_mark_laws.proofs.Itself.{itself}
 use Rattle.lt_mark_typing.proofs.Going.{bind, bind_at, so, so_at, entered_beside}
-use Rattle.lt_mark_typing.proofs.Operands.{AddsMade, AddsJudged, made, typed_itself, test_of, type_same, value_adds, lvalue_same, valued_adds, as_read}
+use Rattle.lt_mark_typing.proofs.Operands.{AddsJudged, made, made_in_use, no_null, made_itself, typed_itself, test_of, type_same, value_adds, lvalue_same, valued_adds, as_read}
 use Rattle.lt_mark_typing.proofs.Knowing.{index_known, binary_known, conditional_known, assignment_known, call_known, member_known, arrow_known, step_known, cast_known}
 use Rattle.lt_mark_typing.proofs.Operators.{left_empty, right_empty, empty_both, unless_more, scalar_more, unary_adds, step_adds, member_adds, arrow_adds, index_adds, cast_judged, call_adds}
 use Rattle.lt_mark_typing.proofs.BinaryOperators.{binary_adds, logical_adds, conditional_adds, assignment_adds, comma_adds}
@@ -51,12 +51,18 @@ made_at (in_use role) m = m
 made_at in_test m = test_of m
 
 placed_at : (new : ℕ → Bool) (position : Position) (x y : Typed) → IsNoNull position x → MadeAt new position x y → AddsAt new position x y
-placed_at new (in_use role) x y h m = record { form = m.form; register = m.register; constancy = m.constancy; null = λ n. absurd (false≢true (sym h ∙ n)) }
+placed_at new (in_use as_truth) x y h m = m
+placed_at new (in_use as_value) x y h m = no_null h m
+placed_at new (in_use as_place) x y h m = no_null h m
+placed_at new (in_use as_callee) x y h m = no_null h m
 placed_at new in_test x y h m = m
 
 at_itself : (new : ℕ → Bool) (position : Position) (x : Typed) → AddsAt new position x x
-at_itself new (in_use role) x = typed_itself x
-at_itself new in_test x = test_of (made (typed_itself x))
+at_itself new (in_use as_truth) x = made_itself x
+at_itself new (in_use as_value) x = typed_itself x
+at_itself new (in_use as_place) x = typed_itself x
+at_itself new (in_use as_callee) x = typed_itself x
+at_itself new in_test x = test_of (made_itself x)
 
 use_same : (op : UnaryOp) → use_of (position_of op) ≡ operand_of op
 use_same unary.AddressOf = refl
@@ -75,17 +81,17 @@ there {new} {j} h d = subst (AddsJudged new j) (sym h) d
 
 -- ---- values behind marks
 
-used_value : (role : Use) (v : Value) (c d : Constancy) → used role (valued v c d) ≡ valued v c d
-used_value as_value v c d = refl
-used_value as_truth v c d = refl
-used_value as_place v c d = refl
-used_value as_callee v c d = refl
+used_marked : (role : Use) (ms : Marks) (y : Typed) → used role (marked_typed ms y) ≡ marked_typed ms y
+used_marked as_value ms y = refl
+used_marked as_truth ms y = refl
+used_marked as_place ms y = refl
+used_marked as_callee ms y = refl
 
-any_good : (structs : Structs) (role : Use) (v : Value) (c d : Constancy) → is_good_type structs (type_of v) ≡ true → faults_of_any structs role (valued v c d) ≡ []
-any_good structs as_value v c d h = ap (λ l. l ++ []) (good_faults structs (type_of v) h)
-any_good structs as_truth v c d h = ap (λ l. l ++ []) (good_faults structs (type_of v) h)
-any_good structs as_place v c d h = ap (λ l. l ++ []) (good_faults structs (type_of v) h)
-any_good structs as_callee v c d h = ap (λ l. l ++ []) (good_faults structs (type_of v) h)
+any_good : (structs : Structs) (role : Use) (ms : Marks) (y : Typed) → is_good_type structs (own_type y) ≡ true → faults_of_any structs role (marked_typed ms y) ≡ []
+any_good structs as_value ms y h = ap (λ l. l ++ []) (good_faults structs (own_type y) h)
+any_good structs as_truth ms y h = ap (λ l. l ++ []) (good_faults structs (own_type y) h)
+any_good structs as_place ms y h = ap (λ l. l ++ []) (good_faults structs (own_type y) h)
+any_good structs as_callee ms y h = ap (λ l. l ++ []) (good_faults structs (own_type y) h)
 
 -- what is judged of a value of this type
 abbrev value_faults : Structs → CType → List Rule
@@ -109,11 +115,19 @@ module _ {new : ℕ → Bool} where
 
   -- ---- the ends of marks that stand in both texts
 
+  -- what is used as more than a test
+  marked_made : {used' : List ℕ} {k l : Known} (x y : Typed) {ts us : Marks} (role : Use) (n m : ℕ) → AddsMade new x y → AddsMarks new ts us → IsBeside new used' k l
+      → Follows new used' (AddsMade new) (finish n role (judge_marked ts x) k) (finish m role (judge_marked us y) l)
+  unfolding judge_marked
+  marked_made x y {ts} {us} role n m p d b = finished n m role (judge_marked ts x) (judge_marked us y) (record {
+    faults = λ h. h;
+    typed = record { form = values (marked_adds (type_same p) d (value_adds p)); register = p.register; constancy = inl refl };
+  }) b
+
   marked_end : {used' : List ℕ} {k l : Known} (x y : Typed) {ts us : Marks} (position : Position) (n m : ℕ) → AddsAt new (behind_marks position) x y → AddsMarks new ts us → IsBeside new used' k l
       → Follows new used' (MadeAt new position) (finish n (use_of position) (judge_marked ts x) k) (finish m (use_of position) (judge_marked us y) l)
   unfolding judge_marked
-  marked_end x y {ts} {us} (in_use role) n m p d b =
-      finished n m role (judge_marked ts x) (judge_marked us y) (record { faults = λ h. h; typed = valued_adds (marked_adds (type_same (made p)) d (value_adds (made p))) (inl refl) }) b
+  marked_end x y (in_use role) n m p d b = marked_made x y role n m (made_in_use (inside_mark role) p) d b
   marked_end x y {ts} {us} in_test n m p d b =
       ended n m as_truth (judge_marked ts x) (judge_marked us y) (λ h. h) (λ structs h. test_faults_more structs (own_type x) (own_type y) p.type h)
       (record { value = a.behind d p.value; type = p.type; constancy = inl refl }) b
@@ -127,19 +141,19 @@ module _ {new : ℕ → Bool} where
     typed = valued_adds (a.Decide p.value) (inl refl);
   }
 
-  in_use_same : {x y : Typed} (role : Use) → AddsTyped new x y → is_lvalue_in_use role y ≡ is_lvalue_in_use role x
-  in_use_same as_place p = lvalue_same (made p)
+  in_use_same : {x y : Typed} (role : Use) → AddsMade new x y → is_lvalue_in_use role y ≡ is_lvalue_in_use role x
+  in_use_same as_place p = lvalue_same p
   in_use_same as_value p = refl
   in_use_same as_truth p = refl
   in_use_same as_callee p = refl
 
-  after_judged : {x y : Typed} (role : Use) (id tag : List ℕ) (known : Known) → AddsTyped new x y → AddsJudged new (judge_after role x id tag known) (judge_after role y id tag known)
+  after_judged : {x y : Typed} (role : Use) (id tag : List ℕ) (known : Known) → AddsMade new x y → AddsJudged new (judge_after role x id tag known) (judge_after role y id tag known)
   unfolding judge_after
   after_judged {x} {y} role id tag known p = record {
     faults = λ h. ap (λ it. unless (not it && not known.is_unmarked && is_good_id known id && is_tag tag) bad_mark) (in_use_same role p) ∙ h;
     typed = record {
-      form = values (after_adds (number_of_id id) (type_same (as_read (made p))) (value_adds (as_read (made p))));
-      register = λ h. h;
+      form = values (after_adds (number_of_id id) (type_same (as_read p)) (value_adds (as_read p)));
+      register = (as_read p).register;
       constancy = inl refl;
     };
   }
@@ -187,14 +201,12 @@ module _ {new : ℕ → Bool} where
   front_form {f} {ms} {v} {w} {t} is_new h free i d = subst (λ it. AddsForm new it (a_value (e.Marked t ms w))) (sym h) (values (a.in_front is_new free i d))
 
 module _ (new : ℕ → Bool) where
-  front_adds : (x y : Typed) (ms : Marks) (position : Position) → AreNew new ms → IsNoNull position x → IsMarkable position x → AddsAt new position x y
-      → AddsAt new position x (valued (e.Marked (own_type y) ms (value_in y)) varying y.erased)
-  front_adds x y ms in_test is_new n h p = record { value = a.before is_new p.value; type = p.type; constancy = inr refl }
-  front_adds x y ms (in_use role) is_new n h p = record {
-    form = front_form is_new h.1 h.2 (sym (ap type_in h.1) ∙ sym (type_same (made p))) (subst (λ it. Adds new it (value_in y)) (ap value_of h.1) (value_adds (made p)));
-    register = λ r. refl;
+  -- new labels in front of a value that is used as more than a test
+  front_made : (x y : Typed) (ms : Marks) → AreNew new ms → (v : Value) → x.form ≡ a_value v → can_be_marked v ≡ true → AddsMade new x y → AddsMade new x (marked_typed ms y)
+  front_made x y ms is_new v is free p = record {
+    form = front_form is_new is free (sym (ap type_in is) ∙ sym (type_same p)) (subst (λ it. Adds new it (value_in y)) (ap value_of is) (value_adds p));
+    register = p.register;
     constancy = inr refl;
-    null = λ q. absurd (false≢true (sym n ∙ q));
   }
     where
       value_of : Form → Value
@@ -203,8 +215,16 @@ module _ (new : ℕ → Bool) where
       type_in : Form → CType
       type_in f = own_type (record x { form = f })
 
+  front_adds : (x y : Typed) (ms : Marks) (position : Position) → AreNew new ms → IsNoNull position x → IsMarkable position x → AddsAt new position x y
+      → AddsAt new position x (marked_typed ms y)
+  front_adds x y ms in_test is_new n h p = record { value = a.before is_new p.value; type = p.type; constancy = inr refl }
+  front_adds x y ms (in_use as_truth) is_new n h p = front_made x y ms is_new h.0 h.1 h.2 p
+  front_adds x y ms (in_use as_value) is_new n h p = no_null n (front_made x y ms is_new h.0 h.1 h.2 (made p))
+  front_adds x y ms (in_use as_place) is_new n h p = no_null n (front_made x y ms is_new h.0 h.1 h.2 (made p))
+  front_adds x y ms (in_use as_callee) is_new n h p = no_null n (front_made x y ms is_new h.0 h.1 h.2 (made p))
+
   front_good : (x y : Typed) (structs : Structs) (position : Position) → AddsAt new position x y → is_good_type structs (own_type x) ≡ true → is_good_type structs (own_type y) ≡ true
-  front_good x y structs (in_use role) p h = ap (is_good_type structs) (type_same (made p)) ∙ h
+  front_good x y structs (in_use role) p h = ap (is_good_type structs) (type_same (made_in_use role p)) ∙ h
   front_good x y structs in_test p h = by p.type
     where
       by : (own_type y ≡ own_type x) ⊎ (own_type y ≡ Num S.Int) → is_good_type structs (own_type y) ≡ true
@@ -213,7 +233,7 @@ module _ (new : ℕ → Bool) where
 
 -- the second is the first with new labels in front of it
 abbrev IsUnder : (ℕ → Bool) → Typed → Typed → Type 0
-IsUnder new x z = (y : Typed) × (ms : Marks) × AreNew new ms × AddsTyped new x y × (z ≡ valued (e.Marked (own_type y) ms (value_in y)) varying y.erased)
+IsUnder new x z = (y : Typed) × (ms : Marks) × AreNew new ms × AddsMade new x y × (z ≡ marked_typed ms y)
 
 read_same : (x : Typed) (v : Value) → x.form ≡ a_value v → as_it_is_read x ≡ x
 read_same x v h = ap (λ f. as_it_is_read (record x { form = f })) h ∙ sym (ap (λ (f : Form). record x { form = f }) h)
@@ -229,31 +249,31 @@ module _ {new : ℕ → Bool} where
       let found = new_labels labels u are (numbered_alone (l.next + 1) l.facts b) in
       subst (λ it. Follows new last (AddsAt new position) o (goes_on it (λ ts j. goes_on (expression other role j) (λ y j. finish l.next role (judge_marked ts y) j)))) (sym found.2)
       (then_alone (h found.1 found.4) (λ x y m n q p b.
-      let z : Typed = valued (e.Marked (own_type y) found.0 (value_in y)) varying y.erased in (
+      let z : Typed = marked_typed found.0 y in (
         z,
         record n { facts = n.facts ++ fact_of l.next z ∷ [] },
-        finished_alone n l.next role (judge_marked found.0 y) refl (any_good n.structs role (e.Marked (own_type y) found.0 (value_in y)) varying y.erased
+        finished_alone n l.next role (judge_marked found.0 y) refl (any_good n.structs role found.0 y
             (ap (λ structs. is_good_type structs (own_type y)) (structs_same b) ∙ front_good new x y m.structs position p (f x m q).2))
-            ∙ ap (λ it. Goes it (record n { facts = n.facts ++ fact_of l.next z ∷ [] })) (used_value role (e.Marked (own_type y) found.0 (value_in y)) varying y.erased),
+            ∙ ap (λ it. Goes it (record n { facts = n.facts ++ fact_of l.next z ∷ [] })) (used_marked role found.0 y),
         front_adds new x y found.0 position found.3 (f x m q).0 (f x m q).1 p,
         numbered_alone n.next (n.facts ++ fact_of l.next z ∷ []) b,
       )))
 
   front_under : {used between last : List ℕ} {k l : Known} (labels : c.Marks) (other : c.Expression) {o : Outcome Typed} (role : Use)
       → k.is_unmarked ≡ false → ((x : Typed) (next : Known) → o ≡ Goes x next → is_good_type next.structs (own_type x) ≡ true) → AreNewLabels new used between k labels
-      → ((j : Known) → IsBeside new between k j → Follows new last (AddsTyped new) o (expression other role j)) → IsBeside new used k l
+      → ((j : Known) → IsBeside new between k j → Follows new last (AddsMade new) o (expression other role j)) → IsBeside new used k l
       → Follows new last (IsUnder new) o (goes_on (marks labels (record l { next = l.next + 1 })) (λ ts j. goes_on (expression other role j) (λ y j. finish l.next role (judge_marked ts y) j)))
   unfolding judge_marked
   front_under {used} {between} {last} {k} {l} labels other {o} role u f are h b =
       let found = new_labels labels u are (numbered_alone (l.next + 1) l.facts b) in
       subst (λ it. Follows new last (IsUnder new) o (goes_on it (λ ts j. goes_on (expression other role j) (λ y j. finish l.next role (judge_marked ts y) j)))) (sym found.2)
       (then_alone (h found.1 found.4) (λ x y m n q p b.
-      let z : Typed = valued (e.Marked (own_type y) found.0 (value_in y)) varying y.erased in (
+      let z : Typed = marked_typed found.0 y in (
         z,
         record n { facts = n.facts ++ fact_of l.next z ∷ [] },
-        finished_alone n l.next role (judge_marked found.0 y) refl (any_good n.structs role (e.Marked (own_type y) found.0 (value_in y)) varying y.erased
-            (ap (λ structs. is_good_type structs (own_type y)) (structs_same b) ∙ front_good new x y m.structs (in_use role) p (f x m q)))
-            ∙ ap (λ it. Goes it (record n { facts = n.facts ++ fact_of l.next z ∷ [] })) (used_value role (e.Marked (own_type y) found.0 (value_in y)) varying y.erased),
+        finished_alone n l.next role (judge_marked found.0 y) refl (any_good n.structs role found.0 y
+            (ap (λ structs. is_good_type structs (own_type y)) (structs_same b) ∙ ap (is_good_type m.structs) (type_same p) ∙ f x m q))
+            ∙ ap (λ it. Goes it (record n { facts = n.facts ++ fact_of l.next z ∷ [] })) (used_marked role found.0 y),
         (y, found.0, found.3, p, refl),
         numbered_alone n.next (n.facts ++ fact_of l.next z ∷ []) b,
       )))
@@ -261,15 +281,15 @@ module _ {new : ℕ → Bool} where
   labels_adds : {t u : CType} {ms : Marks} {v w : Value} (id : ℕ) → u ≡ t → AreNew new ms → Adds new v w → Adds new (e.After t v id) (e.After u (e.Marked u ms w) id)
   labels_adds {t} {u} {ms} {v} {w} id h is_new f = subst (λ it. Adds new (e.After t v id) (e.After it (e.Marked u ms w) id)) (sym h) (a.labels_after is_new f)
 
-  after_under : (x y : Typed) (ms : Marks) (v : Value) (role : Use) (id tag : List ℕ) (known : Known) → ((it : Typed) → is_lvalue_in_use role it ≡ false) → AreNew new ms → AddsTyped new x y → x.form ≡ a_value v
-      → AddsJudged new (judge_after role x id tag known) (judge_after role (valued (e.Marked (own_type y) ms (value_in y)) varying y.erased) id tag known)
+  after_under : (x y : Typed) (ms : Marks) (v : Value) (role : Use) (id tag : List ℕ) (known : Known) → ((it : Typed) → is_lvalue_in_use role it ≡ false) → AreNew new ms → AddsMade new x y → x.form ≡ a_value v
+      → AddsJudged new (judge_after role x id tag known) (judge_after role (marked_typed ms y) id tag known)
   unfolding judge_after
   after_under x y ms v role id tag known s is_new p h = record {
-    faults = λ g. ap (λ it. unless (not it && not known.is_unmarked && is_good_id known id && is_tag tag) bad_mark) (s (valued (e.Marked (own_type y) ms (value_in y)) varying y.erased) ∙ sym (s x)) ∙ g;
+    faults = λ g. ap (λ it. unless (not it && not known.is_unmarked && is_good_id known id && is_tag tag) bad_mark) (s (marked_typed ms y) ∙ sym (s x)) ∙ g;
     typed = record {
       form = subst (λ (it : Typed). AddsForm new (a_value (e.After (own_type it) (value_in it) (number_of_id id))) (a_value (e.After (own_type y) (e.Marked (own_type y) ms (value_in y)) (number_of_id id)))) (sym (read_same x v h))
-          (values (labels_adds (number_of_id id) (type_same (made p)) is_new (value_adds (made p))));
-      register = λ r. r;
+          (values (labels_adds (number_of_id id) (type_same p) is_new (value_adds p)));
+      register = λ r. p.register (sym (ap (λ (it : Typed). it.is_register) (read_same x v h)) ∙ r);
       constancy = inl refl;
     };
   }
@@ -357,7 +377,7 @@ module _ {new : ℕ → Bool} where
   after_labels : {used' between last : List ℕ} (position : Position) (role : Use) (k : Known) (id tag : List ℕ) (labels : c.Marks) (it other : c.Expression) → new (number_of_id id) ≡ false → k.is_unmarked ≡ false
       → ((x : Typed) (next : Known) → expression it role (record k { next = k.next + 1 }) ≡ Goes x next → ((v : Value) × (x.form ≡ a_value v)) × (is_good_type next.structs (own_type x) ≡ true))
       → AreNewLabels new used' between (record k { next = k.next + 1 }) labels → ((x : Typed) → is_lvalue_in_use role x ≡ false)
-      → ((j : Known) → IsBeside new between (record k { next = k.next + 1 }) j → Follows new last (AddsTyped new) (expression it role (record k { next = k.next + 1 })) (expression other role j)) → (l : Known) → IsBeside new used' k l
+      → ((j : Known) → IsBeside new between (record k { next = k.next + 1 }) j → Follows new last (AddsMade new) (expression it role (record k { next = k.next + 1 })) (expression other role j)) → (l : Known) → IsBeside new used' k l
       → Follows new last (MadeAt new position)
       (goes_on (expression it role (record k { next = k.next + 1 })) (λ x m. goes_on (finish k.next (use_of position) (judge_after role x id tag m) m) (λ result j. goes_on (adds_label (label_of id tag []) j) (λ u j. Goes result j))))
       (goes_on (goes_on (marks labels (record l { next = l.next + 1 + 1 })) (λ ts j. goes_on (expression other role j) (λ y j. finish (l.next + 1) role (judge_marked ts y) j)))
@@ -418,9 +438,9 @@ module _ {new : ℕ → Bool} where
         (λ x y m n s b. marked_end x y position k.next l.next s r b))
     of_parts (p.Decide {position} {known = k} {when_true} {when_false} {tag} {d = v} {e = w} h g i d) {l} b = so (λ x y. made_at position) (decide_end k l v w when_true when_false tag (use_of position) h g i (of_to d (entered_beside b)))
     of_parts (p.After {position} {known = k} {id} {tag} h d) {l} b = bind (of_to d (entered_beside b)) (λ x y m n r b.
-        bind (end_at position k.next l.next (judge_after (use_of position) x id tag m) (judge_after (use_of position) y id tag n) (there (after_same b (use_of position) y id tag h) (after_judged (use_of position) id tag m r)) b)
+        bind (end_at position k.next l.next (judge_after (use_of position) x id tag m) (judge_after (use_of position) y id tag n) (there (after_same b (use_of position) y id tag h) (after_judged (use_of position) id tag m (made_in_use (inside_after (use_of position)) r))) b)
         (λ x y m n r b. goes r (label_beside (label_of id tag []) h b)))
-    of_parts (p.AfterLabels {position = in_use as_value} {known = k} {id} {tag} {labels} {d = v} {e = w} h t u f are d) {l} b = after_labels (in_use as_value) as_value k id tag labels v w h u f are (λ it. refl) (λ j b. of_to d b) l b
+    of_parts (p.AfterLabels {position = in_use as_value} {known = k} {id} {tag} {labels} {d = v} {e = w} h t u f are d) {l} b = after_labels (in_use as_value) as_value k id tag labels v w h u f are (λ it. refl) (λ j b. so (λ x y r. made r) (of_to d b)) l b
     of_parts (p.AfterLabels {position = in_use as_truth} {known = k} {id} {tag} {labels} {d = v} {e = w} h t u f are d) {l} b = after_labels (in_use as_truth) as_truth k id tag labels v w h u f are (λ it. refl) (λ j b. of_to d b) l b
     of_parts (p.AfterLabels {position = in_test} {known = k} {id} {tag} {labels} {d = v} {e = w} h t u f are d) {l} b = after_labels in_test as_truth k id tag labels v w h u f are (λ it. refl) (λ j b. of_to d b) l b
     of_parts (p.AfterLabels {position = in_use as_place} h t u f are d) b = absurd (false≢true t)

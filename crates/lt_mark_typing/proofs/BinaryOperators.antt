@@ -19,8 +19,8 @@ use Rattle.lt_tree.specs.Typing.Operations.{element_size, object_size, fits, wri
 use Rattle.lt_tree.specs.Typing.BinaryOperations.{judge_binary, operand_faults, operation_type, right_type, on_integers, on_pointers, towards, moved, distance, beside, compared, judge_logical, settles, judge_conditional, chosen_type, judge_assignment, judge_assign, judge_update, update_faults, updated, judge_comma, values_of, last_of}
 use Rattle.lt_mark_laws.specs.Added as a
 use Rattle.lt_mark_laws.specs.Added.{Adds, AddsAll}
-use Rattle.lt_mark_typing.specs.Beside.{IsAtMost, AddsTyped, AddsTest, AddsEach, none_added, one_added}
-use Rattle.lt_mark_typing.proofs.Operands.{converted_adds, type_same, value_adds, place_adds, lvalue_same, null_same, AddsMade, AddsJudged, made, valued_adds, varies_adds}
+use Rattle.lt_mark_typing.specs.Beside.{IsAtMost, AddsMade, AddsTyped, AddsTest, AddsEach, none_added, one_added}
+use Rattle.lt_mark_typing.proofs.Operands.{converted_adds, type_same, value_adds, place_adds, lvalue_same, null_same, AddsJudged, made, valued_adds, varies_adds}
 use Rattle.lt_mark_typing.proofs.Operators.{strict, strict_both, conversion_varies, left_empty, right_empty, empty_both, unless_more, and_more, scalar_more, place_varies, pointers, others, fits_more}
 
 -- ---- constants

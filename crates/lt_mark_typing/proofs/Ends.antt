@@ -1,16 +1,14 @@
 -- The ends of nodes in both texts.
 use Rattle.std.proofs.Common.{◌≡◌, ℕ, List, [], ◌∷◌, Bool, refl, sym, ap, ◌∙◌, subst}
-use Rattle.std.proofs.lemmas.Bool.{false≢true}
 use Rattle.std.specs.Prelude.{◌++◌}
 use Rattle.lt_tree.specs.Typing.Extents.{Structs}
 use Rattle.lt_tree.specs.Typing.Entities.{Known, Object, Function, Label, Fact}
 use Rattle.lt_tree.specs.Typing.Steps.{Goes, goes_on, settle, notes, gives, ◌>>◌}
 use Rattle.lt_tree.specs.Typing.Expressions.{Typed, Use, Judged, used, fact_of, faults_of_any, finish}
 use Rattle.lt_mark_laws.specs.Added.{AreSameObjects, AddsFunctions}
-use Rattle.lt_mark_typing.specs.Beside.{AddsLabels, IsBeside, Position, in_use, in_test, AddsAt, Follows, goes}
-use Rattle.lt_mark_typing.specs.Placed.{IsNoNull}
+use Rattle.lt_mark_typing.specs.Beside.{AddsLabels, IsBeside, AddsMade, Follows, goes}
 use Rattle.lt_mark_typing.proofs.Going.{with_others, same_of, settled}
-use Rattle.lt_mark_typing.proofs.Operands.{AddsMade, AddsJudged, used_adds, any_same, test_of}
+use Rattle.lt_mark_typing.proofs.Operands.{AddsJudged, used_adds, any_same}
 use Rattle.lt_mark_typing.proofs.Operators.{left_empty, right_empty, empty_both}
 
 module _ {new : ℕ → Bool} {used' : List ℕ} where
@@ -48,11 +46,6 @@ module _ {new : ℕ → Bool} {used' : List ℕ} where
   pub finished_same : {k l : Known} (n m : ℕ) (role : Use) (j i : Judged) → i ≡ j → IsBeside new used' k l → Follows new used' (λ (x y : Typed). y ≡ x) (finish n role j k) (finish m role i l)
   finished_same n m role j i d b = ended n m role j i (λ h. ap (λ (it : Judged). it.faults) d ∙ h) (λ structs h. ap (λ (it : Judged). faults_of_any structs role it.typed) d ∙ h)
       (ap (λ (it : Judged). used role it.typed) d) b
-
--- what is made in a position, where the first is no null pointer constant
-pub at_position : {new : ℕ → Bool} (position : Position) {x y : Typed} → IsNoNull position x → AddsMade new x y → AddsAt new position x y
-at_position (in_use role) h m = record { form = m.form; register = m.register; constancy = m.constancy; null = λ n. absurd (false≢true (sym h ∙ n)) }
-at_position in_test h m = test_of m
 
 -- a node that the first text doesn't have
 pub finished_alone : (l : Known) (m : ℕ) (role : Use) (i : Judged) → i.faults ≡ [] → faults_of_any l.structs role i.typed ≡ []

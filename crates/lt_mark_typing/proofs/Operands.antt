@@ -1,5 +1,6 @@
 -- Expressions with marks added have the same types, are lvalues or not, and are read and converted alike.
 use Rattle.std.proofs.Common.{◌≡◌, ℕ, [], Bool, true, false, refl, sym, ap, ◌∙◌, subst, inl, inr}
+use Rattle.std.proofs.lemmas.Bool.{false≢true}
 use Rattle.std.specs.Prelude.{◌||◌, ◌&&◌, if◌then◌else◌}
 use Rattle.lt_tree.specs.Typing.Types.{CType, Void, Num, Pointer, Array, Struct, Function, Floating, Qualified, same, is_struct, is_array}
 use Rattle.lt_tree.specs.Typing.Constants.{Constancy, varying, is_null_constant}
@@ -7,16 +8,11 @@ use Rattle.lt_tree.specs.Typing.Extents.{Structs}
 use Rattle.lt_tree.specs.Typing.TypedTree as e
 use Rattle.lt_tree.specs.Typing.TypedTree.{Value, Place, type_of, type_at}
 use Rattle.lt_tree.specs.Typing.Expressions.{Form, a_value, a_place, a_designator, Typed, Use, as_value, as_truth, as_place, as_callee, valued, own_type, value_in, place_in, is_lvalue, is_lvalue_place, value_at, read, as_it_is_read, used, cast_to, how_to, converted_to, faults_of_any, Judged}
+use Rattle.lt_tree.specs.Typing.Operations.{counts_as_null}
 use Rattle.lt_mark_laws.specs.Added as a
 use Rattle.lt_mark_laws.specs.Added.{Adds, AddsPlace, AddsTruth}
-use Rattle.lt_mark_typing.specs.Beside.{AddsForm, values, places, designators, IsAtMost, AddsTyped, AddsTest}
+use Rattle.lt_mark_typing.specs.Beside.{AddsForm, values, places, designators, IsAtMost, AddsMade, AddsTyped, AddsTest, in_use, AddsAt}
 use Rattle.lt_mark_laws.proofs.Itself.{itself}
-
--- an expression with marks added, of which nothing is said as a null pointer constant
-pub record AddsMade (new : ℕ → Bool) (x y : Typed) : Type 0 where
-  pub form : AddsForm new x.form y.form
-  pub register : x.is_register ≡ false → y.is_register ≡ false
-  pub constancy : IsAtMost x.constancy y.constancy
 
 -- where the first breaks no rule, nor does the second
 pub record AddsJudged (new : ℕ → Bool) (j i : Judged) : Type 0 where
@@ -25,6 +21,16 @@ pub record AddsJudged (new : ℕ → Bool) (j i : Judged) : Type 0 where
 
 pub made : {new : ℕ → Bool} {x y : Typed} → AddsTyped new x y → AddsMade new x y
 made p = record { form = p.form; register = p.register; constancy = p.constancy }
+
+pub made_in_use : {new : ℕ → Bool} {x y : Typed} (role : Use) → AddsAt new (in_use role) x y → AddsMade new x y
+made_in_use as_truth p = p
+made_in_use as_value p = made p
+made_in_use as_place p = made p
+made_in_use as_callee p = made p
+
+-- what is no null pointer constant
+pub no_null : {new : ℕ → Bool} {x y : Typed} → counts_as_null x ≡ false → AddsMade new x y → AddsTyped new x y
+no_null h m = record { form = m.form; register = m.register; constancy = m.constancy; null = λ n. absurd (false≢true (sym h ∙ n)) }
 
 module _ {new : ℕ → Bool} where
   -- ---- values and places

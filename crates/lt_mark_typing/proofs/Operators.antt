@@ -22,10 +22,10 @@ use Rattle.lt_tree.specs.Typing.Operations.{judge_plus, judge_minus, judge_compl
 use Rattle.lt_tree.specs.Typing.NodeEnds.{judge_unary}
 use Rattle.lt_mark_laws.specs.Added as a
 use Rattle.lt_mark_laws.specs.Added.{Adds, AddsAll, AddsPlace, AddsTruth}
-use Rattle.lt_mark_typing.specs.Beside.{AddsForm, values, places, designators, IsAtMost, AddsTyped, AddsTest, AddsEach, none_added, one_added, AddsAt}
+use Rattle.lt_mark_typing.specs.Beside.{AddsForm, values, places, designators, IsAtMost, AddsMade, AddsTyped, AddsTest, AddsEach, none_added, one_added, AddsAt}
 use Rattle.lt_mark_typing.specs.Placed.{position_of}
 use Rattle.lt_mark_typing.proofs.Knowing.{call_of}
-use Rattle.lt_mark_typing.proofs.Operands.{cast_adds, converted_adds, type_same, value_adds, place_adds, lvalue_same, AddsMade, AddsJudged, made, made_itself, valued_adds, varies_adds}
+use Rattle.lt_mark_typing.proofs.Operands.{cast_adds, converted_adds, type_same, value_adds, place_adds, lvalue_same, AddsJudged, made, made_itself, valued_adds, varies_adds}
 
 -- ---- constants
 
@@ -254,16 +254,16 @@ module _ {new : ℕ → Bool} {x y : Typed} where
 -- ---- calls
 
 module _ {new : ℕ → Bool} where
-  pub argument_adds : {x y : Typed} (m : DataModel) → AddsTyped new x y → Adds new (promoted_argument m x) (promoted_argument m y)
-  argument_adds {x} {y} m p = rw (type_same (made p)) (by (is_integer (own_type x)))
+  pub argument_adds : {x y : Typed} (m : DataModel) → AddsMade new x y → Adds new (promoted_argument m x) (promoted_argument m y)
+  argument_adds {x} {y} m p = rw (type_same p) (by (is_integer (own_type x)))
     where
       by : (b : Bool) → Adds new (if b then promoted_value m x else value_in x) (if b then converted_to (Num (promoted m (scalar_in x))) (value_in y) else value_in y)
-      by true = converted_adds (Num (promoted m (scalar_in x))) (value_adds (made p))
-      by false = value_adds (made p)
+      by true = converted_adds (Num (promoted m (scalar_in x))) (value_adds p)
+      by false = value_adds p
 
   passed_adds : {xs ys : List Typed} (m : DataModel) (ts : CTypes) → AddsEach new xs ys → AddsAll new (passed m xs ts) (passed m ys ts)
   passed_adds m ts none_added = a.no_values
-  passed_adds m no_types (one_added p ps) = a.a_value (argument_adds m p) (passed_adds m no_types ps)
+  passed_adds m no_types (one_added p ps) = a.a_value (argument_adds m (made p)) (passed_adds m no_types ps)
   passed_adds m (a_type t ts) (one_added p ps) = a.a_value (converted_adds t (value_adds (made p))) (passed_adds m ts ps)
 
   all_fit_more : {xs ys : List Typed} (ts : CTypes) → AddsEach new xs ys → all_fit xs ts ≡ true → all_fit ys ts ≡ true

@@ -179,11 +179,11 @@ module _ {new : ℕ → Bool} where
         let there = entered_beside b in
         in_blocks there (bind_at (of_to d (block_beside there)) (λ x y m n q t b.
         bind (subst (λ type. Follows new after (AddsCases new) (cases cs (switch_type m.model x) (record { values = []; has_default = false }) (in_a_switch around) m) (cases ds type (record { values = []; has_default = false }) (in_a_switch around) n))
-        (sym (ap (λ model. switch_type model y) (model_same b) ∙ ap (λ it. option_map (promoted m.model) (scalar_of it)) (type_same (made t)))) (of_cases (f x m q) b))
+        (sym (ap (λ model. switch_type model y) (model_same b) ∙ ap (λ it. option_map (promoted m.model) (scalar_of it)) (type_same t))) (of_cases (f x m q) b))
         (λ them those m' n' u b'.
         settled (λ _. gives (e.Switch (switch_value m.model x) them)) (λ _. gives (e.Switch (switch_value n.model y) those)) k.next j.next
         (test_faults x ++ unless (is_integer (own_type x)) bad_case) (test_faults y ++ unless (is_integer (own_type y)) bad_case)
-        (λ z. ap (λ it. unless (is_scalar it) not_scalar ++ unless (is_integer it) bad_case) (type_same (made t)) ∙ z)
+        (λ z. ap (λ it. unless (is_scalar it) not_scalar ++ unless (is_integer it) bad_case) (type_same t) ∙ z)
         (goes (a.Switch (subst (λ model. Adds new (switch_value m.model x) (switch_value model y)) (sym (model_same b)) (argument_adds m.model t)) u) b'))))
     of_statement (p.Break {around = around} {known = k}) {j} b =
         settled (λ _. gives e.Break) (λ _. gives e.Break) k.next j.next (unless (around.in_loop || around.in_switch) stray_jump) (unless (around.in_loop || around.in_switch) stray_jump) (λ z. z) (goes a.Break (entered_beside b))

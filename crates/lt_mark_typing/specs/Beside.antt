@@ -45,6 +45,12 @@ pub data AddsForm (new : ℕ → Bool) : Form → Form → Type 0 where
 abbrev pub IsAtMost : Constancy → Constancy → Type 0
 IsAtMost c d = (d ≡ c) ⊎ (d ≡ varying)
 
+-- The second is the first with marks added; of them as null pointer constants nothing is said.
+pub record AddsMade (new : ℕ → Bool) (x y : Typed) : Type 0 where
+  pub form : AddsForm new x.form y.form
+  pub register : x.is_register ≡ false → y.is_register ≡ false
+  pub constancy : IsAtMost x.constancy y.constancy
+
 -- The second is the first with marks added, and no operator tells them apart: what counts as a null pointer constant does so with marks too.
 pub record AddsTyped (new : ℕ → Bool) (x y : Typed) : Type 0 where
   pub form : AddsForm new x.form y.form
@@ -75,7 +81,9 @@ abbrev pub use_of : Position → Use
 use_of (in_use role) = role
 use_of in_test = as_truth
 
+-- of a truth no operator takes a null pointer constant
 abbrev pub AddsAt : (ℕ → Bool) → Position → Typed → Typed → Type 0
+AddsAt new (in_use as_truth) x y = AddsMade new x y
 AddsAt new (in_use role) x y = AddsTyped new x y
 AddsAt new in_test x y = AddsTest new x y
 

@@ -81,9 +81,10 @@ IsMarkable (in_use role) x = (v : Value) × (x.form ≡ a_value v) × (can_be_ma
 abbrev pub is_good_type : Structs → CType → Bool
 is_good_type structs t = not (has_floating t) && not (has_too_many_cells structs t) && not (has_pointer_to_function t)
 
--- nothing is added within a null pointer constant, C11 6.3.2.3p3
+-- nothing is added within a null pointer constant, C11 6.3.2.3p3, but where its truth alone is used
 abbrev pub IsNoNull : Position → Typed → Type 0
 IsNoNull in_test x = Unit {0}
+IsNoNull (in_use as_truth) x = Unit {0}
 IsNoNull (in_use role) x = counts_as_null x ≡ false
 
 abbrev pub entered : Known → Known

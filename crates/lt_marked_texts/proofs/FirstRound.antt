@@ -4,14 +4,12 @@ use Rattle.std.specs.Prelude.{if◌then◌else◌, ◌&&◌, codes}
 use Rattle.std.specs.List.{flat_map}
 use Rattle.std.specs.Fmt.{decimal}
 use Rattle.lt_tree.specs.Tree as c
-use Rattle.lt_tree.specs.Erasure.{erased}
-use Rattle.lt_tree.specs.Purity.{is_pure}
 use Rattle.lt_tree.specs.Nodes.{Node, an_external, an_expression, nodes}
 use Rattle.lt_tree.specs.Typing.Programs.{Program}
 use Rattle.lt_objectives.specs.declared.criteria.Criterion.TheVariants as C
 use Rattle.lt_objectives.specs.Places.{sites_from, is_open, is_value_position}
 use Rattle.lt_objectives.specs.Decisions.{one}
-use Rattle.lt_objectives.specs.Copies.{is_core}
+use Rattle.lt_objectives.specs.Copies.{is_core, can_be_copied}
 use Rattle.lt_objectives.specs.Objectives.{Form, at_start, in_front, around, Objective, objectives, differences, at_node}
 use Rattle.lt_objectives.specs.Marked.{ids_of, numbered, same_form, label, labels, decided}
 use Rattle.lt_marked_texts.proofs.Unchanged.{OnlyAtStarts}
@@ -32,7 +30,7 @@ ones_if false xs a = tt
 
 module _ (unit : c.Unit) (program : Program) where
   differences_ones : (k : ℕ) (e : c.Expression) → AllOnes (differences unit program C.Function k e)
-  differences_ones k e = ones_if (is_pure (erased e) && is_value_position unit k) [] tt
+  differences_ones k e = ones_if (can_be_copied e && is_value_position unit k) [] tt
 
   node_ones : (k : ℕ) (node : Node) → AllOnes (at_node unit program C.Function (record { number = k; node = node }))
   node_ones k (an_external (c.Defines s d body)) = ((refl, refl), tt)

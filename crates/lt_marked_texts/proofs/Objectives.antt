@@ -1,6 +1,6 @@
 -- The predicates of objectives fit their places: those in front of an expression are made of it.
 use Rattle.std.proofs.Common.{◌≡◌, ℕ, ◌+◌, ◌<◌, Bool, true, false, List, [], ◌∷◌, ◌++◌, map, Option, Some, refl, ap, ◌∙◌, subst, arith}
-use Rattle.std.specs.Prelude.{if◌then◌else◌, ◌&&◌, codes}
+use Rattle.std.specs.Prelude.{if◌then◌else◌, ◌&&◌, not, codes}
 use Rattle.std.specs.List.{All}
 use Rattle.std.proofs.lemmas.Fmt.{decimal_digit}
 use Rattle.std.proofs.lemmas.Bool.{and_parts}
@@ -14,7 +14,7 @@ use Rattle.lt_objectives.specs.declared.criteria.Criterion.{Criterion}
 use Rattle.lt_objectives.specs.declared.criteria.Criterion.TheVariants as C
 use Rattle.lt_objectives.specs.Places.{Site, is_open, is_value_position}
 use Rattle.lt_objectives.specs.Decisions.{decisions, clauses, negation, clause_list, conjunctions, active_clauses, has_few_clauses, inequality}
-use Rattle.lt_objectives.specs.Copies.{is_core}
+use Rattle.lt_objectives.specs.Copies.{is_core, hides, can_be_copied}
 use Rattle.lt_objectives.specs.Objectives.{at_start, in_front, around, Objective, objective, all_at, decided_at, both_truths, combinations, at_test, mutants, differences, at_expression, at_body, at_node}
 use Rattle.lt_objectives.specs.Criteria.{tag_of}
 use Rattle.lt_print.proofs.CuttingQuotes.{IsByte}
@@ -122,27 +122,30 @@ fitting_if : (k : ℕ) (node : Node) (b : Bool) (xs : List Objective) → (b ≡
 fitting_if k node true xs f = f refl
 fitting_if k node false xs f = tt
 
+copied_pure : (e : c.Expression) → can_be_copied e ≡ true → is_pure (erased e) ≡ true
+copied_pure e copied = (and_parts (is_pure (erased e)) (not (hides e)) copied).0
+
 module _ (criterion : Criterion) (k : ℕ) (e : c.Expression) where
   front_fitting : (ps : List c.Expression) → Each (Made e) ps → AllFitting k (an_expression e) (all_at k in_front criterion ps)
   front_fitting [] made = tt
   front_fitting (p ∷ ps) made = ((precedes e refl refl refl made.0, tag_bytes criterion), front_fitting ps made.1)
 
-  truths_by : (b : Bool) (place : ℕ) → is_pure (erased e) ≡ b
+  truths_by : (b : Bool) (place : ℕ) → can_be_copied e ≡ b
       → AllFitting k (an_expression e) (if b then all_at k in_front criterion (erased e ∷ negation (erased e) ∷ []) else objective place around criterion (erased e) ∷ [])
-  truths_by true place pure =
-      front_fitting (erased e ∷ negation (erased e) ∷ []) (each_made e (erased e ∷ negation (erased e) ∷ []) (λ scope g. both_truths_have (good_kept scope) (erased e) g) (both_truths_have pure_kept (erased e) pure))
-  truths_by false place pure = ((surrounds refl, tag_bytes criterion), tt)
+  truths_by true place copied =
+      front_fitting (erased e ∷ negation (erased e) ∷ []) (each_made e (erased e ∷ negation (erased e) ∷ []) (λ scope g. both_truths_have (good_kept scope) (erased e) g) (both_truths_have pure_kept (erased e) (copied_pure e copied)))
+  truths_by false place copied = ((surrounds refl, tag_bytes criterion), tt)
 
-  truths_fitting : (place : ℕ) → AllFitting k (an_expression e) (both_truths criterion k place (erased e))
-  truths_fitting place = truths_by (is_pure (erased e)) place refl
+  truths_fitting : (place : ℕ) → AllFitting k (an_expression e) (both_truths criterion k place e)
+  truths_fitting place = truths_by (can_be_copied e) place refl
 
   combinations_fitting : (predicates : c.Expression → List c.Expression) → ((scope : Scope) → Good scope (erased e) → Each (Good scope) (predicates (erased e))) → (IsPure (erased e) → Each IsPure (predicates (erased e)))
-      → AllFitting k (an_expression e) (combinations criterion k predicates (erased e))
+      → AllFitting k (an_expression e) (combinations criterion k predicates e)
   combinations_fitting predicates good pure =
-      fitting_if k (an_expression e) (is_pure (erased e) && has_few_clauses (erased e)) (all_at k in_front criterion (predicates (erased e)))
-      (λ h. front_fitting (predicates (erased e)) (each_made e (predicates (erased e)) good (pure (and_parts (is_pure (erased e)) (has_few_clauses (erased e)) h).0)))
+      fitting_if k (an_expression e) (can_be_copied e && has_few_clauses (erased e)) (all_at k in_front criterion (predicates (erased e)))
+      (λ h. front_fitting (predicates (erased e)) (each_made e (predicates (erased e)) good (pure (copied_pure e (and_parts (can_be_copied e) (has_few_clauses (erased e)) h).0))))
 
-test_fitting : (criterion : Criterion) (decision clause : Option ℕ) (k : ℕ) (e : c.Expression) → AllFitting k (an_expression e) (at_test criterion decision clause k (erased e))
+test_fitting : (criterion : Criterion) (decision clause : Option ℕ) (k : ℕ) (e : c.Expression) → AllFitting k (an_expression e) (at_test criterion decision clause k e)
 test_fitting C.Decision (Some place) clause k e = truths_fitting C.Decision k e place
 test_fitting C.Condition decision (Some place) k e = truths_fitting C.Condition k e place
 test_fitting C.MultipleCondition (Some place) clause k e =
@@ -154,16 +157,16 @@ test_fitting _ decision clause k e = tt
 module _ (unit : c.Unit) (program : Program) where
   differences_fitting : (criterion : Criterion) (k : ℕ) (e : c.Expression) → AllFitting k (an_expression e) (differences unit program criterion k e)
   differences_fitting criterion k e =
-      fitting_if k (an_expression e) (is_pure (erased e) && is_value_position unit k) (all_at k in_front criterion (map (inequality (erased e)) (mutants unit program criterion k e (erased e))))
+      fitting_if k (an_expression e) (can_be_copied e && is_value_position unit k) (all_at k in_front criterion (map (inequality (erased e)) (mutants unit program criterion k e (erased e))))
       (λ h. front_fitting criterion k e (map (inequality (erased e)) (mutants unit program criterion k e (erased e)))
       (each_made e (map (inequality (erased e)) (mutants unit program criterion k e (erased e))) (λ scope g. each_difference (good_kept scope) unit program criterion k e (erased e) g)
-      (each_difference pure_kept unit program criterion k e (erased e) (and_parts (is_pure (erased e)) (is_value_position unit k) h).0)))
+      (each_difference pure_kept unit program criterion k e (erased e) (copied_pure e (and_parts (can_be_copied e) (is_value_position unit k) h).0))))
 
   expression_fitting : (criterion : Criterion) (k : ℕ) (e : c.Expression) → AllFitting k (an_expression e) (at_expression unit program criterion k e)
   expression_fitting criterion k e =
       fitting_if k (an_expression e) (is_core e && is_open unit program k)
-      (at_test criterion (decided_at (decisions unit) k) (decided_at (clauses unit) k) k (erased e) ++ differences unit program criterion k e)
-      (λ h. both_fitting k (an_expression e) (at_test criterion (decided_at (decisions unit) k) (decided_at (clauses unit) k) k (erased e)) (differences unit program criterion k e)
+      (at_test criterion (decided_at (decisions unit) k) (decided_at (clauses unit) k) k e ++ differences unit program criterion k e)
+      (λ h. both_fitting k (an_expression e) (at_test criterion (decided_at (decisions unit) k) (decided_at (clauses unit) k) k e) (differences unit program criterion k e)
       (test_fitting criterion (decided_at (decisions unit) k) (decided_at (clauses unit) k) k e) (differences_fitting criterion k e))
 
   -- what stands at the starts of bodies is good there

@@ -26,7 +26,8 @@ use Rattle.lt_objective_marks.proofs.Given.{Given}
 use Rattle.lt_objective_marks.proofs.Ends.{part_goes, same_found, same_behind, good_scalar}
 use Rattle.lt_objective_marks.proofs.Values.{value_found}
 use Rattle.lt_objective_marks.proofs.Whole.{UnusedInside, new_marks, Here, Inside, Inner, split, ValuesAreMarkable}
-use Rattle.lt_objective_marks.proofs.Steps.{unused_of, inside_of, old_here, from_parts, number_behind}
+use Rattle.lt_objective_marks.proofs.Noted.{number_behind}
+use Rattle.lt_objective_marks.proofs.Steps.{unused_of, inside_of, old_here, from_parts}
 use Rattle.lt_objective_marks.proofs.Taken.{behind_marks_type, after_type}
 use Rattle.lt_objective_marks.proofs.Parts.{first_in, one}
 
@@ -119,7 +120,7 @@ module _ (g : Given) {new : ℕ → Bool} {unit : c.Unit} {program : Program} {c
           let value = value_found as_truth refl e (entered known) next x goes in (
             (value.0, value.1),
             good_scalar next.structs (own_type x) (here.taken x next goes)
-                (subst (λ (y : Typed). has_pointer_to_function (own_type y) ≡ false) (same_found here.comes.goes goes) (s.values stands.in_truth e (entered known) here.isin here.comes)),
+                (subst (λ (y : Typed). has_pointer_to_function (own_type y) ≡ false) (same_found here.comes.goes goes) (g.tests s.model unit program s.typed as_truth (entered known) e here.comes refl)),
           )
 
       by : {between after : List ℕ} {x : c.Expression} (ms : c.Marks) → new (number_of_id number) ≡ false → AreNewLabels new used between (entered known) ms → AddsTo new (in_use as_truth) between after (entered known) e x

@@ -24,7 +24,8 @@ use Rattle.lt_objective_marks.specs.Settings.{Setting, a_value}
 use Rattle.lt_objective_marks.proofs.Given.{Given}
 use Rattle.lt_objective_marks.proofs.Ends.{ended, through, part_goes, same_found, same_behind}
 use Rattle.lt_objective_marks.proofs.Whole.{new_marks, Inner, ValuesAreMarkable}
-use Rattle.lt_objective_marks.proofs.Steps.{unused_of, inside_of, old_here, from_parts, number_behind}
+use Rattle.lt_objective_marks.proofs.Noted.{number_behind}
+use Rattle.lt_objective_marks.proofs.Steps.{unused_of, inside_of, old_here, from_parts}
 use Rattle.lt_objective_marks.proofs.Parts.{operand}
 
 no_truth : stands.as_value ≡ stands.in_truth → ⊥

@@ -23,7 +23,8 @@ use Rattle.lt_objective_marks.proofs.Given.{Given}
 use Rattle.lt_objective_marks.proofs.Ids.{fewer_unused, more_added, then_added, behind}
 use Rattle.lt_objective_marks.proofs.Ends.{same_behind}
 use Rattle.lt_objective_marks.proofs.Whole.{UnusedInside, new_marks, Here, Inside, Inner, ValuesAreMarkable}
-use Rattle.lt_objective_marks.proofs.Steps.{unused_of, inside_of, two, at_behind, old_here, from_parts, as_it_stands, number_behind}
+use Rattle.lt_objective_marks.proofs.Noted.{number_behind}
+use Rattle.lt_objective_marks.proofs.Steps.{unused_of, inside_of, two, at_behind, old_here, from_parts, as_it_stands}
 use Rattle.lt_objective_marks.proofs.Taken.{both_scalars, negated_scalar, tested_scalar, decided_scalar, not_decided, called}
 use Rattle.lt_objective_marks.proofs.Parts.{Added, Operand, operand, first_in, second_in, one, both}
 

@@ -9,10 +9,11 @@ use Rattle.lt_tree.specs.Typing.Specifying.{Specified, Setting}
 use Rattle.lt_tree.specs.Typing.Declarators.{Built}
 use Rattle.lt_tree.specs.Typing.ExpressionTyping as typing
 use Rattle.lt_tree_laws.specs.Typing.NodeNumbers.{PartsAreNumbered}
-use Rattle.lt_objective_places.specs.Laws.{PiecesStand, ObjectivesStandWhereTheyMay, MarksAreOfOneNode}
+use Rattle.lt_objective_places.specs.Laws.{ConstantsAreClosed, PiecesStand, ObjectivesStandWhereTheyMay, MarksAreOfOneNode}
 use Rattle.lt_objective_typing.specs.Laws.{ObjectivesHavePredicates, LabelsOfObjectivesAreNew}
-use Rattle.lt_erased_typing.specs.Laws.{PureExpressionsAreTypedWithoutMarks, OperandsKeepTheirTypes, TruthsAreTypedAsValues}
-use Rattle.lt_typed_nodes.specs.Laws.{ValuesHaveTheirTypes}
+use Rattle.lt_erased_typing.specs.Laws.{CopiesCanBeErased, PureExpressionsAreTypedWithoutMarks, OperandsKeepTheirTypes, TruthsAreTypedAsValues}
+use Rattle.lt_typed_nodes.specs.Laws.{ConstantsStay, ValuesHaveTheirTypes}
+use Rattle.lt_made_types.specs.Laws.{NoTestIsAPointerToAFunction}
 use Rattle.lt_typed_nodes.specs.Coming.{OperandsAreComeTo, WhatIsComeToIsKnown}
 
 -- typing takes labels behind a part as it does before it
@@ -40,4 +41,8 @@ pub record Given : Type 0 where
   pub values : ValuesHaveTheirTypes
   pub operands : OperandsAreComeTo
   pub known : WhatIsComeToIsKnown
+  pub constants : ConstantsStay
+  pub closed : ConstantsAreClosed
+  pub copies : CopiesCanBeErased
+  pub tests : NoTestIsAPointerToAFunction
   pub unmarked : KeptUnmarked

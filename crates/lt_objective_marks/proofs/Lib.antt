@@ -8,6 +8,10 @@ pub mod Noted
 pub mod Predicates
 pub mod Labels
 pub mod Decided
+pub mod Mutated
+pub mod Fitting
+pub mod NullCasts
+pub mod Nulls
 pub mod Whole
 pub mod Steps
 pub mod Taken

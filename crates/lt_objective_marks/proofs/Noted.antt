@@ -38,7 +38,7 @@ unit_of : (unit : c.Unit) (o : Outcome (Unit {0})) (program : Program) → answe
 unit_of unit (Goes a known) program is = let same : program_of unit known ≡ program = cc in ap (λ (it : Program). it.unit) (sym same)
 unit_of unit (Breaks rule node) program is = absurd cc
 
-program_of_unit : (model : DataModel) (unit : c.Unit) (program : Program) → IsProgramOf model unit program → program.unit ≡ unit
+pub program_of_unit : (model : DataModel) (unit : c.Unit) (program : Program) → IsProgramOf model unit program → program.unit ≡ unit
 unfolding typing
 program_of_unit model unit program is = unit_of unit _ program is
 
@@ -56,6 +56,10 @@ some_same : (facts : List Fact) (n : ℕ) (a b : Fact) → fact_among facts n �
 some_same facts n a b is there = cc
 
 module _ (g : Given) {new : ℕ → Bool} {unit : c.Unit} {program : Program} {criterion : Criterion} {id : ℕ} (s : Setting new unit program criterion id) where
+  -- the number behind a first operand
+  pub number_behind : (e : c.Expression) (taken : Use) (known : Known) (there : ComesToIt program.facts known taken e) → there.behind.next ≡ known.next + length (in_expression e)
+  number_behind e taken known there = subst (λ o. GoesOver (in_expression e) known o) there.goes (g.numbered.0 e taken known)
+
   -- a type that passes a test is that of a fact
   noted : (test : CType → Bool) → test Void ≡ false → (k : ℕ) → test (type_at unit program k) ≡ true → (fact : Fact) × (fact_among program.facts k ≡ Some fact) × (test fact.type ≡ true)
   noted test void k is = by (corresponding_node unit program k) own is

@@ -19,7 +19,8 @@ use Rattle.lt_typed_nodes.specs.Coming.{ComesToIt, entered}
 use Rattle.lt_objective_marks.specs.Settings.{Setting, AreUnused, IsAdded, Fits, IsTaken}
 use Rattle.lt_objective_marks.proofs.Given.{Given}
 use Rattle.lt_objective_marks.proofs.Whole.{UnusedInside, new_marks, Here, Inside, Inner, ValuesAreMarkable, whole}
-use Rattle.lt_objective_marks.proofs.Steps.{unused_of, inside_of, two, at_behind, from_parts, number_behind, moved_to}
+use Rattle.lt_objective_marks.proofs.Noted.{number_behind}
+use Rattle.lt_objective_marks.proofs.Steps.{unused_of, inside_of, two, at_behind, from_parts, moved_to}
 
 module _ (g : Given) {new : ℕ → Bool} {unit : c.Unit} {program : Program} {criterion : Criterion} {id : ℕ} (s : Setting new unit program criterion id) (markable : ValuesAreMarkable g s) where
   -- the marks of an operand

@@ -2,7 +2,6 @@
 use Rattle.std.proofs.Common.{◌≡◌, inl, inr, refl, sym, ap, ◌∙◌, subst, ℕ, zero, suc, Bool, true, false, ◌&&◌, if◌then◌else◌, List, [], ◌∷◌, ◌++◌, length, drop, map, Option, Some, None}
 use Rattle.std.specs.Fmt.{decimal}
 use Rattle.lt_tree.specs.Tree as c
-use Rattle.lt_tree.specs.Purity.{is_pure}
 use Rattle.lt_tree.specs.Nodes.{Node, in_expression, nodes}
 use Rattle.lt_tree.specs.Typing.Entities.{Known}
 use Rattle.lt_tree.specs.Typing.Programs.{Program}
@@ -11,6 +10,7 @@ use Rattle.lt_objectives.specs.declared.criteria.Criterion.{Criterion}
 use Rattle.lt_objectives.specs.declared.criteria.Criterion.TheVariants as C
 use Rattle.lt_objectives.specs.Decisions.{decisions, clauses, inequality}
 use Rattle.lt_objectives.specs.Places.{is_open, is_value_position}
+use Rattle.lt_objectives.specs.Copies.{can_be_copied}
 use Rattle.lt_objectives.specs.Objectives.{Form, at_start, in_front, around, Objective, objectives, all_at, at_test, at_expression, decided_at, differences, mutants}
 use Rattle.lt_objectives.specs.Marked.{NewMark, numbered, is_there, labels, decided, preceded_by, within, with_marks}
 use Rattle.lt_objective_places.specs.Stands.{IsAmong, Role, GoOn, IsNoTest, MayStand}
@@ -91,8 +91,8 @@ none_at_text : (unit : c.Unit) (program : Program) (criterion : Criterion) (k : 
 none_at_text unit program criterion k bytes o no_test h =
     none_of_both o (is_open unit program k) (at_test criterion (decided_at (decisions unit) k) (decided_at (clauses unit) k) k (c.Text bytes)) (differences unit program criterion k (c.Text bytes))
     (λ i. no_test_here (subst (λ d. AtTest k d None o) no_test.0 (subst (λ d. AtTest k (decided_at (decisions unit) k) d o) no_test.1 (of_test criterion (decided_at (decisions unit) k) (decided_at (clauses unit) k) k (c.Text bytes) o i))))
-    (λ i. none_if o (is_pure (c.Text bytes) && is_value_position unit k)
-    (subst (λ list. IsAmong o (if is_pure (c.Text bytes) && is_value_position unit k then all_at k in_front criterion (map (inequality (c.Text bytes)) list) else [])) (no_mutants unit program criterion k bytes) i))
+    (λ i. none_if o (can_be_copied (c.Text bytes) && is_value_position unit k)
+    (subst (λ list. IsAmong o (if can_be_copied (c.Text bytes) && is_value_position unit k then all_at k in_front criterion (map (inequality (c.Text bytes)) list) else [])) (no_mutants unit program criterion k bytes) i))
     h
 
 none_there : (unit : c.Unit) (program : Program) (criterion : Criterion) (k : ℕ) (bytes : List ℕ) (o : Objective) (form : Form) → (form ≡ at_start → ⊥) → o.form ≡ form

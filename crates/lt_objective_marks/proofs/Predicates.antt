@@ -16,7 +16,7 @@ use Rattle.lt_objectives.specs.declared.criteria.Criterion.TheVariants as C
 use Rattle.lt_objectives.specs.Places.{type_at, is_open, is_value_position}
 use Rattle.lt_objectives.specs.Decisions.{decisions, clauses, inequality}
 use Rattle.lt_objectives.specs.Mutants.{absolute_mutants, connector_mutants, arithmetic_mutants, relational_mutants}
-use Rattle.lt_objectives.specs.Copies.{is_core}
+use Rattle.lt_objectives.specs.Copies.{is_core, can_be_copied}
 use Rattle.lt_objectives.specs.Objectives.{in_front, Objective, all_at, decided_at, at_test, left_type, right_type, mutants, differences, at_expression}
 use Rattle.lt_mark_laws.proofs.TypeLists.{all_both}
 use Rattle.lt_mark_typing.specs.Placed.{IsThere}
@@ -127,21 +127,21 @@ module _ (g : Given) {new : ℕ → Bool} {unit : c.Unit} {program : Program} {c
 
     -- tests are scalars; what isn't one has no objectives as a test
     of_tests : (is_scalar (own_type there.found) ≡ true) ⊎ IsNoTest unit known.next → (used : List ℕ)
-        → ArePredicates new used known (map (λ it. it.predicate) (at_test criterion (decided_at (decisions unit) known.next) (decided_at (clauses unit) known.next) known.next (erased e)))
+        → ArePredicates new used known (map (λ it. it.predicate) (at_test criterion (decided_at (decisions unit) known.next) (decided_at (clauses unit) known.next) known.next e))
     of_tests (inl scalar) used =
         let typed = g.erased known there.behind e there.found erasable there.goes in
-        (g.predicates new used known (erased e) typed.0 typed.1 typed.2 pure typed.3).0 (ap is_scalar typed.4 ∙ scalar) criterion (decided_at (decisions unit) known.next) (decided_at (clauses unit) known.next) known.next
-    of_tests (inr none) used = subst (λ list. ArePredicates new used known (map (λ (it : Objective). it.predicate) list)) (sym (none_at unit criterion known.next (erased e) none)) tt
+        (g.predicates new used known (erased e) typed.0 typed.1 typed.2 pure typed.3).0 (ap is_scalar typed.4 ∙ scalar) criterion (decided_at (decisions unit) known.next) (decided_at (clauses unit) known.next) known.next e refl
+    of_tests (inr none) used = subst (λ list. ArePredicates new used known (map (λ (it : Objective). it.predicate) list)) (sym (none_at unit criterion known.next e none)) tt
 
     at_open : (b : Bool) → (is_scalar (own_type there.found) ≡ true) ⊎ IsNoTest unit known.next → (used : List ℕ)
-        → ArePredicates new used known (map (λ it. it.predicate) (if b then at_test criterion (decided_at (decisions unit) known.next) (decided_at (clauses unit) known.next) known.next (erased e)
+        → ArePredicates new used known (map (λ it. it.predicate) (if b then at_test criterion (decided_at (decisions unit) known.next) (decided_at (clauses unit) known.next) known.next e
         ++ differences unit program criterion known.next e else []))
     at_open true tested used =
-        let first = at_test criterion (decided_at (decisions unit) known.next) (decided_at (clauses unit) known.next) known.next (erased e) in
+        let first = at_test criterion (decided_at (decisions unit) known.next) (decided_at (clauses unit) known.next) known.next e in
         let second = differences unit program criterion known.next e in
         subst (ArePredicates new used known) (sym (map-append (λ (it : Objective). it.predicate) first second))
         (all_both (IsThere is_scalar new used known) (map (λ it. it.predicate) first) (map (λ it. it.predicate) second) (of_tests tested used)
-        (of_differences (is_pure (erased e) && is_value_position unit known.next) used))
+        (of_differences (can_be_copied e && is_value_position unit known.next) used))
     at_open false tested used = tt
 
     -- all objectives there have predicates

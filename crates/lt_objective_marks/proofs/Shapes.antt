@@ -3,86 +3,86 @@ use Rattle.std.proofs.Common.{◌≡◌, refl, sym, ap, ◌∙◌, subst, ℕ, L
 use Rattle.std.specs.Prelude.{map}
 use Rattle.lt_tree.specs.Tree as c
 use Rattle.lt_tree.specs.Erasure.{erased}
-use Rattle.lt_tree.specs.Purity.{is_pure}
 use Rattle.lt_tree.specs.Typing.Programs.{Program}
 use Rattle.lt_objectives.specs.declared.criteria.Criterion.{Criterion}
 use Rattle.lt_objectives.specs.declared.criteria.Criterion.TheVariants as C
 use Rattle.lt_objectives.specs.Places.{is_open, is_value_position}
 use Rattle.lt_objectives.specs.Decisions.{decisions, clauses, negation, inequality, clause_list, conjunctions, active_clauses, has_few_clauses}
-use Rattle.lt_objectives.specs.Copies.{is_core}
+use Rattle.lt_objectives.specs.Copies.{is_core, can_be_copied}
 use Rattle.lt_objectives.specs.Objectives.{in_front, around, Objective, objective, all_at, decided_at, at_test, mutants, differences, at_expression}
 
--- nothing stands there, or labels with these predicates in front of a pure expression, or a `pc_decide` around what is decided
-pub data Shape (criterion : Criterion) (k : ℕ) (plain : c.Expression) : List Objective → Type 0 where
-  nothing : Shape criterion k plain []
-  labels : (p : c.Expression) (ps : List c.Expression) → is_pure plain ≡ true → Shape criterion k plain (all_at k in_front criterion (p ∷ ps))
-  a_decision : (decided : ℕ) → Shape criterion k plain (objective decided around criterion plain ∷ [])
+-- nothing stands there, or labels with these predicates in front of an expression that predicates may copy, or a `pc_decide` around what is decided
+pub data Shape (criterion : Criterion) (k : ℕ) (e : c.Expression) : List Objective → Type 0 where
+  nothing : Shape criterion k e []
+  labels : (p : c.Expression) (ps : List c.Expression) → can_be_copied e ≡ true → Shape criterion k e (all_at k in_front criterion (p ∷ ps))
+  a_decision : (decided : ℕ) → Shape criterion k e (objective decided around criterion (erased e) ∷ [])
 
-all_or_nothing : (criterion : Criterion) (k : ℕ) (plain : c.Expression) (ps : List c.Expression) → is_pure plain ≡ true → Shape criterion k plain (all_at k in_front criterion ps)
-all_or_nothing criterion k plain [] pure = nothing
-all_or_nothing criterion k plain (p ∷ ps) pure = labels p ps pure
+all_or_nothing : (criterion : Criterion) (k : ℕ) (e : c.Expression) (ps : List c.Expression) → can_be_copied e ≡ true → Shape criterion k e (all_at k in_front criterion ps)
+all_or_nothing criterion k e [] copied = nothing
+all_or_nothing criterion k e (p ∷ ps) copied = labels p ps copied
 
--- ---- at pure expressions
+-- ---- at expressions that predicates may copy
 
--- of a pure expression all are labels
+-- all are labels
 truths_of : (b : Bool) (criterion : Criterion) (k decided : ℕ) (e : c.Expression) → b ≡ true
     → (ps : List c.Expression) × ((if b then all_at k in_front criterion (e ∷ negation e ∷ []) else objective decided around criterion e ∷ []) ≡ all_at k in_front criterion ps)
-truths_of true criterion k decided e pure = (e ∷ negation e ∷ [], refl)
-truths_of false criterion k decided e pure = absurd cc
+truths_of true criterion k decided e copied = (e ∷ negation e ∷ [], refl)
+truths_of false criterion k decided e copied = absurd cc
 
 some_of : (b : Bool) (criterion : Criterion) (k : ℕ) (list : List c.Expression)
     → (ps : List c.Expression) × ((if b then all_at k in_front criterion list else []) ≡ all_at k in_front criterion ps)
 some_of true criterion k list = (list, refl)
 some_of false criterion k list = ([], refl)
 
-tests_of_pure : (criterion : Criterion) (decision clause : Option ℕ) (k : ℕ) (e : c.Expression) → is_pure e ≡ true → (ps : List c.Expression) × (at_test criterion decision clause k e ≡ all_at k in_front criterion ps)
-tests_of_pure C.Decision (Some decided) clause k e pure = truths_of (is_pure e) C.Decision k decided e pure
-tests_of_pure C.Condition decision (Some decided) k e pure = truths_of (is_pure e) C.Condition k decided e pure
-tests_of_pure C.MultipleCondition (Some decided) clause k e pure = some_of (is_pure e && has_few_clauses e) C.MultipleCondition k (conjunctions (clause_list e))
-tests_of_pure C.GeneralActiveClause (Some decided) clause k e pure = some_of (is_pure e && has_few_clauses e) C.GeneralActiveClause k (active_clauses e)
-tests_of_pure C.Decision None clause k e pure = ([], refl)
-tests_of_pure C.Condition decision None k e pure = ([], refl)
-tests_of_pure C.MultipleCondition None clause k e pure = ([], refl)
-tests_of_pure C.GeneralActiveClause None clause k e pure = ([], refl)
-tests_of_pure C.Function decision clause k e pure = ([], refl)
-tests_of_pure C.InputDomain decision clause k e pure = ([], refl)
-tests_of_pure C.CorrelatedActiveClause decision clause k e pure = ([], refl)
-tests_of_pure C.RestrictedActiveClause decision clause k e pure = ([], refl)
-tests_of_pure C.AllUses decision clause k e pure = ([], refl)
-tests_of_pure C.AbsoluteValue decision clause k e pure = ([], refl)
-tests_of_pure C.ArithmeticOperator decision clause k e pure = ([], refl)
-tests_of_pure C.LogicalConnector decision clause k e pure = ([], refl)
-tests_of_pure C.RelationalOperator decision clause k e pure = ([], refl)
+tests_of_copied : (criterion : Criterion) (decision clause : Option ℕ) (k : ℕ) (e : c.Expression) → can_be_copied e ≡ true
+    → (ps : List c.Expression) × (at_test criterion decision clause k e ≡ all_at k in_front criterion ps)
+tests_of_copied C.Decision (Some decided) clause k e copied = truths_of (can_be_copied e) C.Decision k decided (erased e) copied
+tests_of_copied C.Condition decision (Some decided) k e copied = truths_of (can_be_copied e) C.Condition k decided (erased e) copied
+tests_of_copied C.MultipleCondition (Some decided) clause k e copied = some_of (can_be_copied e && has_few_clauses (erased e)) C.MultipleCondition k (conjunctions (clause_list (erased e)))
+tests_of_copied C.GeneralActiveClause (Some decided) clause k e copied = some_of (can_be_copied e && has_few_clauses (erased e)) C.GeneralActiveClause k (active_clauses (erased e))
+tests_of_copied C.Decision None clause k e copied = ([], refl)
+tests_of_copied C.Condition decision None k e copied = ([], refl)
+tests_of_copied C.MultipleCondition None clause k e copied = ([], refl)
+tests_of_copied C.GeneralActiveClause None clause k e copied = ([], refl)
+tests_of_copied C.Function decision clause k e copied = ([], refl)
+tests_of_copied C.InputDomain decision clause k e copied = ([], refl)
+tests_of_copied C.CorrelatedActiveClause decision clause k e copied = ([], refl)
+tests_of_copied C.RestrictedActiveClause decision clause k e copied = ([], refl)
+tests_of_copied C.AllUses decision clause k e copied = ([], refl)
+tests_of_copied C.AbsoluteValue decision clause k e copied = ([], refl)
+tests_of_copied C.ArithmeticOperator decision clause k e copied = ([], refl)
+tests_of_copied C.LogicalConnector decision clause k e copied = ([], refl)
+tests_of_copied C.RelationalOperator decision clause k e copied = ([], refl)
 
 -- ---- at others
 
 truth_of : (b : Bool) (criterion : Criterion) (k decided : ℕ) (e : c.Expression) → b ≡ false
-    → Shape criterion k e ((if b then all_at k in_front criterion (e ∷ negation e ∷ []) else objective decided around criterion e ∷ []) ++ [])
-truth_of false criterion k decided e impure = a_decision decided
-truth_of true criterion k decided e impure = absurd cc
+    → Shape criterion k e ((if b then all_at k in_front criterion (erased e ∷ negation (erased e) ∷ []) else objective decided around criterion (erased e) ∷ []) ++ [])
+truth_of false criterion k decided e other = a_decision decided
+truth_of true criterion k decided e other = absurd cc
 
 none_of : (a b : Bool) (criterion : Criterion) (k : ℕ) (e : c.Expression) (list : List c.Expression) → a ≡ false → Shape criterion k e ((if a && b then all_at k in_front criterion list else []) ++ [])
-none_of false b criterion k e list impure = nothing
-none_of true b criterion k e list impure = absurd cc
+none_of false b criterion k e list other = nothing
+none_of true b criterion k e list other = absurd cc
 
-tests_of_other : (criterion : Criterion) (decision clause : Option ℕ) (k : ℕ) (e : c.Expression) → is_pure e ≡ false → Shape criterion k e (at_test criterion decision clause k e ++ [])
-tests_of_other C.Decision (Some decided) clause k e impure = truth_of (is_pure e) C.Decision k decided e impure
-tests_of_other C.Condition decision (Some decided) k e impure = truth_of (is_pure e) C.Condition k decided e impure
-tests_of_other C.MultipleCondition (Some decided) clause k e impure = none_of (is_pure e) (has_few_clauses e) C.MultipleCondition k e (conjunctions (clause_list e)) impure
-tests_of_other C.GeneralActiveClause (Some decided) clause k e impure = none_of (is_pure e) (has_few_clauses e) C.GeneralActiveClause k e (active_clauses e) impure
-tests_of_other C.Decision None clause k e impure = nothing
-tests_of_other C.Condition decision None k e impure = nothing
-tests_of_other C.MultipleCondition None clause k e impure = nothing
-tests_of_other C.GeneralActiveClause None clause k e impure = nothing
-tests_of_other C.Function decision clause k e impure = nothing
-tests_of_other C.InputDomain decision clause k e impure = nothing
-tests_of_other C.CorrelatedActiveClause decision clause k e impure = nothing
-tests_of_other C.RestrictedActiveClause decision clause k e impure = nothing
-tests_of_other C.AllUses decision clause k e impure = nothing
-tests_of_other C.AbsoluteValue decision clause k e impure = nothing
-tests_of_other C.ArithmeticOperator decision clause k e impure = nothing
-tests_of_other C.LogicalConnector decision clause k e impure = nothing
-tests_of_other C.RelationalOperator decision clause k e impure = nothing
+tests_of_other : (criterion : Criterion) (decision clause : Option ℕ) (k : ℕ) (e : c.Expression) → can_be_copied e ≡ false → Shape criterion k e (at_test criterion decision clause k e ++ [])
+tests_of_other C.Decision (Some decided) clause k e other = truth_of (can_be_copied e) C.Decision k decided e other
+tests_of_other C.Condition decision (Some decided) k e other = truth_of (can_be_copied e) C.Condition k decided e other
+tests_of_other C.MultipleCondition (Some decided) clause k e other = none_of (can_be_copied e) (has_few_clauses (erased e)) C.MultipleCondition k e (conjunctions (clause_list (erased e))) other
+tests_of_other C.GeneralActiveClause (Some decided) clause k e other = none_of (can_be_copied e) (has_few_clauses (erased e)) C.GeneralActiveClause k e (active_clauses (erased e)) other
+tests_of_other C.Decision None clause k e other = nothing
+tests_of_other C.Condition decision None k e other = nothing
+tests_of_other C.MultipleCondition None clause k e other = nothing
+tests_of_other C.GeneralActiveClause None clause k e other = nothing
+tests_of_other C.Function decision clause k e other = nothing
+tests_of_other C.InputDomain decision clause k e other = nothing
+tests_of_other C.CorrelatedActiveClause decision clause k e other = nothing
+tests_of_other C.RestrictedActiveClause decision clause k e other = nothing
+tests_of_other C.AllUses decision clause k e other = nothing
+tests_of_other C.AbsoluteValue decision clause k e other = nothing
+tests_of_other C.ArithmeticOperator decision clause k e other = nothing
+tests_of_other C.LogicalConnector decision clause k e other = nothing
+tests_of_other C.RelationalOperator decision clause k e other = nothing
 
 -- ---- at any expression
 
@@ -91,21 +91,21 @@ both_all criterion k [] qs = refl
 both_all criterion k (p ∷ ps) qs = ap (λ (rest : List Objective). objective k in_front criterion p ∷ rest) (both_all criterion k ps qs)
 
 module _ (unit : c.Unit) (program : Program) (criterion : Criterion) where
-  by_purity : (b : Bool) (decision clause : Option ℕ) (k : ℕ) (e : c.Expression) → is_pure (erased e) ≡ b
-      → Shape criterion k (erased e) (at_test criterion decision clause k (erased e)
+  by_copying : (b : Bool) (decision clause : Option ℕ) (k : ℕ) (e : c.Expression) → can_be_copied e ≡ b
+      → Shape criterion k e (at_test criterion decision clause k e
       ++ (if b && is_value_position unit k then all_at k in_front criterion (map (inequality (erased e)) (mutants unit program criterion k e (erased e))) else []))
-  by_purity true decision clause k e pure =
-      let first = tests_of_pure criterion decision clause k (erased e) pure in
+  by_copying true decision clause k e copied =
+      let first = tests_of_copied criterion decision clause k e copied in
       let second = some_of (is_value_position unit k) criterion k (map (inequality (erased e)) (mutants unit program criterion k e (erased e))) in
-      subst (Shape criterion k (erased e)) (sym (ap (λ list. list ++ (if is_value_position unit k then all_at k in_front criterion (map (inequality (erased e)) (mutants unit program criterion k e (erased e))) else [])) first.1
+      subst (Shape criterion k e) (sym (ap (λ list. list ++ (if is_value_position unit k then all_at k in_front criterion (map (inequality (erased e)) (mutants unit program criterion k e (erased e))) else [])) first.1
       ∙ ap (λ list. all_at k in_front criterion first.0 ++ list) second.1 ∙ both_all criterion k first.0 second.0))
-      (all_or_nothing criterion k (erased e) (first.0 ++ second.0) pure)
-  by_purity false decision clause k e impure = tests_of_other criterion decision clause k (erased e) impure
+      (all_or_nothing criterion k e (first.0 ++ second.0) copied)
+  by_copying false decision clause k e other = tests_of_other criterion decision clause k e other
 
   at_open : (b : Bool) (k : ℕ) (e : c.Expression)
-      → Shape criterion k (erased e) (if b then at_test criterion (decided_at (decisions unit) k) (decided_at (clauses unit) k) k (erased e) ++ differences unit program criterion k e else [])
-  at_open true k e = by_purity (is_pure (erased e)) (decided_at (decisions unit) k) (decided_at (clauses unit) k) k e refl
+      → Shape criterion k e (if b then at_test criterion (decided_at (decisions unit) k) (decided_at (clauses unit) k) k e ++ differences unit program criterion k e else [])
+  at_open true k e = by_copying (can_be_copied e) (decided_at (decisions unit) k) (decided_at (clauses unit) k) k e refl
   at_open false k e = nothing
 
-  pub shape : (k : ℕ) (e : c.Expression) → Shape criterion k (erased e) (at_expression unit program criterion k e)
+  pub shape : (k : ℕ) (e : c.Expression) → Shape criterion k e (at_expression unit program criterion k e)
   shape k e = at_open (is_core e && is_open unit program k) k e

@@ -4,10 +4,10 @@ use Rattle.lt_tree.specs.Tree as c
 use Rattle.lt_tree.specs.Nodes.{Node, nodes, in_expression}
 use Rattle.lt_tree.specs.Typing.Entities.{Known}
 use Rattle.lt_tree.specs.Typing.Steps.{Outcome, Goes}
-use Rattle.lt_tree.specs.Typing.Expressions.{Use}
+use Rattle.lt_tree.specs.Typing.Expressions.{Typed, Use, as_value, as_truth, as_place, as_callee}
 use Rattle.lt_tree.specs.Typing.Operations.{counts_as_null}
+use Rattle.lt_tree.specs.Typing.MarkRules.{is_truth}
 use Rattle.lt_tree.specs.Typing.Programs.{Program}
-use Rattle.lt_tree_laws.specs.Typing.NodeNumbers.{GoesOver}
 use Rattle.lt_objectives.specs.declared.criteria.Criterion.{Criterion}
 use Rattle.lt_objectives.specs.Objectives.{Objective}
 use Rattle.lt_objectives.specs.Marked.{NewMark, numbered, within, with_marks}
@@ -15,13 +15,14 @@ use Rattle.lt_objective_places.specs.Stands.{IsAmong, IsWithin, Role, GoOn}
 use Rattle.lt_objective_places.specs.Stands as stands
 use Rattle.lt_objective_places.specs.Pieces.{an_expression, IsIn}
 use Rattle.lt_mark_typing.specs.Beside.{Position, in_use, in_test, use_of}
-use Rattle.lt_mark_typing.specs.Placed.{AreOld, AddsTo, AddsToParts, as_it_is, in_parts}
+use Rattle.lt_mark_typing.specs.Placed.{AreOld, IsNoNull, AddsTo, AddsToParts, as_it_is, in_parts}
 use Rattle.lt_mark_typing.proofs.Unchanged.{old_first}
 use Rattle.lt_typed_nodes.specs.Coming.{ComesToIt}
 use Rattle.lt_objective_marks.specs.Settings.{Setting, AreUnused, AddsIdsOf, IsAdded, Fits, a_truth, a_value, a_switch, a_callee, a_place, a_marked_place}
 use Rattle.lt_objective_marks.proofs.Given.{Given}
 use Rattle.lt_objective_marks.proofs.Ids.{behind}
 use Rattle.lt_objective_marks.proofs.Ends.{same_found, same_behind}
+use Rattle.lt_objective_marks.proofs.Nulls.{IsNoTruth, null_erased, bare}
 use Rattle.lt_objective_marks.proofs.Whole.{UnusedInside, AddsInside, new_marks, Here, Inside}
 
 -- ---- ids
@@ -89,20 +90,27 @@ module _ (g : Given) {new : ℕ → Bool} {unit : c.Unit} {program : Program} {c
       → AddsToParts new position used after known e (within (new_marks g s) known.next e) → AddsInside (new_marks g s) used after known.next (length (in_expression e)) → Inside g s position used known e
   from_parts role position used after known e h parts ids = by position h.fits h.comes parts
     where
-      no_test : {role : Role} {taken : Use} → Fits role (in_use taken) → role ≡ stands.in_test → ⊥
-      no_test a_truth is = cc
-      no_test a_value is = cc
-      no_test a_switch is = cc
-      no_test a_callee is = cc
-      no_test a_place is = cc
-      no_test a_marked_place is = cc
+      no_truth : {role : Role} {taken : Use} → Fits role (in_use taken) → is_truth taken ≡ false → IsNoTruth role
+      no_truth a_truth value = absurd cc
+      no_truth a_value value = tt
+      no_truth a_switch value = tt
+      no_truth a_callee value = tt
+      no_truth a_place value = tt
+      no_truth a_marked_place value = tt
 
-      by_null : (taken : Use) → Fits role (in_use taken) → (comes : ComesToIt program.facts known taken e) → AddsToParts new (in_use taken) used after known e (within (new_marks g s) known.next e)
+      no_null : (taken : Use) (x : Typed) → counts_as_null x ≡ false → IsNoNull (in_use taken) x
+      no_null as_truth x is = tt
+      no_null as_value x is = is
+      no_null as_place x is = is
+      no_null as_callee x is = is
+
+      by_null : (taken : Use) → is_truth taken ≡ false → Fits role (in_use taken) → (comes : ComesToIt program.facts known taken e) → AddsToParts new (in_use taken) used after known e (within (new_marks g s) known.next e)
           → (b : Bool) → counts_as_null comes.found ≡ b → Inside g s (in_use taken) used known e
-      by_null taken fits comes parts false is =
-          record { after = after; added = in_parts (λ x next goes. ap counts_as_null (same_found goes comes.goes) ∙ is) parts; ids = ids }
-      by_null taken fits comes parts true is =
-          let none = (s.nulls role taken e known h.isin (no_test fits) comes is).0 in
+      by_null taken value fits comes parts false is =
+          record { after = after; added = in_parts (λ x next goes. no_null taken x (ap counts_as_null (same_found goes comes.goes) ∙ is)) parts; ids = ids }
+      by_null taken value fits comes parts true is =
+          let null = null_erased comes.found (g.constants e taken known comes.behind comes.found comes.goes) is in
+          let none = (bare g s e role (no_truth fits value) taken value known h.isin comes null).within in
           record {
             after = used;
             added = subst (λ x. AddsTo new (in_use taken) used used known e x) (sym none) (as_it_is (old_here known.next e h.isin));
@@ -112,7 +120,10 @@ module _ (g : Given) {new : ℕ → Bool} {unit : c.Unit} {program : Program} {c
       by : (position : Position) → Fits role position → ComesToIt program.facts known (use_of position) e → AddsToParts new position used after known e (within (new_marks g s) known.next e)
           → Inside g s position used known e
       by in_test fits comes parts = record { after = after; added = in_parts (λ x next goes. tt) parts; ids = ids }
-      by (in_use taken) fits comes parts = by_null taken fits comes parts (counts_as_null comes.found) refl
+      by (in_use as_truth) fits comes parts = record { after = after; added = in_parts (λ x next goes. tt) parts; ids = ids }
+      by (in_use as_value) fits comes parts = by_null as_value refl fits comes parts (counts_as_null comes.found) refl
+      by (in_use as_place) fits comes parts = by_null as_place refl fits comes parts (counts_as_null comes.found) refl
+      by (in_use as_callee) fits comes parts = by_null as_callee refl fits comes parts (counts_as_null comes.found) refl
 
   -- an expression that has no parts with marks
   pub as_it_stands : (role : Role) (position : Position) (used : List ℕ) (known : Known) (e : c.Expression) → Here g s role position known e → within (new_marks g s) known.next e ≡ e → Inside g s position used known e
@@ -121,10 +132,6 @@ module _ (g : Given) {new : ℕ → Bool} {unit : c.Unit} {program : Program} {c
     added = subst (λ x. AddsTo new position used used known e x) (sym same) (as_it_is (old_here known.next e h.isin));
     ids = λ n is. inl is;
   }
-
-  -- the number behind a first operand
-  pub number_behind : (e : c.Expression) (taken : Use) (known : Known) (there : ComesToIt program.facts known taken e) → there.behind.next ≡ known.next + length (in_expression e)
-  number_behind e taken known there = subst (λ o. GoesOver (in_expression e) known o) there.goes (g.numbered.0 e taken known)
 
   pub moved_to : (position : Position) (used : List ℕ) (known : Known) (e : c.Expression) (k : ℕ) → known.next ≡ k
       → IsAdded (new_marks g s) used known.next (length (in_expression e)) (λ after. AddsTo new position used after known e (with_marks (new_marks g s) known.next e))

@@ -1,14 +1,13 @@
 -- An expression with its marks, once its parts have theirs.
 use Rattle.std.proofs.Common.{◌≡◌, ◌⊎◌, inl, inr, refl, sym, ap, ◌∙◌, subst, ℕ, suc, ◌+◌, ◌<◌, ◌≤◌, List, ◌∷◌, length, Bool, true, false, arith}
-use Rattle.std.proofs.lemmas.Bool.{false≢true}
 use Rattle.std.specs.Fmt.{decimal}
 use Rattle.lt_tree.specs.Tree as c
 use Rattle.lt_tree.specs.Nodes.{in_expression}
 use Rattle.lt_tree.specs.Typing.Types.{is_scalar, is_integer}
-use Rattle.lt_tree.specs.Typing.MarkRules.{greatest_written_id, number_of_id}
+use Rattle.lt_tree.specs.Typing.MarkRules.{greatest_written_id, number_of_id, is_truth}
 use Rattle.lt_tree.specs.Typing.Entities.{Known, Fact}
 use Rattle.lt_tree.specs.Typing.Steps.{Goes}
-use Rattle.lt_tree.specs.Typing.Expressions.{Typed, Use, as_value, as_truth, as_callee, own_type, has_pointer_to_function}
+use Rattle.lt_tree.specs.Typing.Expressions.{Typed, Use, as_value, as_truth, as_place, as_callee, own_type, has_pointer_to_function}
 use Rattle.lt_tree.specs.Typing.Operations.{counts_as_null}
 use Rattle.lt_tree.specs.Typing.ExpressionTyping.{expression}
 use Rattle.lt_tree.specs.Typing.Programs.{Program}
@@ -33,6 +32,7 @@ use Rattle.lt_objective_marks.proofs.Ends.{same_found, good_scalar, integer_is_s
 use Rattle.lt_objective_marks.proofs.Values.{value_found}
 use Rattle.lt_objective_marks.proofs.Made.{is_made_plainly, is_valued}
 use Rattle.lt_objective_marks.proofs.Labels.{not_used, Labelled, unlabelled, labelled, own_labels}
+use Rattle.lt_objective_marks.proofs.Nulls.{null_erased, bare}
 use Rattle.lt_objective_marks.proofs.Decided.{two_ids, Around, undecided, decided_there, own_decision}
 
 -- ---- ids inside
@@ -227,9 +227,19 @@ module _ (g : Given) {new : ℕ → Bool} {unit : c.Unit} {program : Program} {c
   ValuesAreMarkable = (known : Known) (e : c.Expression) (there : ComesToIt program.facts known as_value e) (it : Objective) → IsIn unit known.next (an_expression stands.as_value e)
       → MayStand unit program criterion stands.as_value known.next e it in_front → CanBeErased as_value known e → (is_integer (own_type there.found) ≡ true) × (is_made_plainly e ≡ true)
 
-  marked_core : (ms : c.Marks) (x e : c.Expression) → (ms ≡ c.no_marks → ⊥) → preceded_by ms x ≡ e → is_core e ≡ true → ⊥
-  marked_core c.no_marks x e some is core = some refl
-  marked_core (c.a_mark m ms) x e some is core = false≢true (ap is_core is ∙ core)
+  -- a value with labels in front of it is no null pointer constant
+  not_null : (taken : Use) (known : Known) (e : c.Expression) → is_truth taken ≡ false → IsIn unit known.next (an_expression stands.as_value e) → (comes : ComesToIt program.facts known taken e)
+      → (labels in_front new_marks known.next ≡ c.no_marks → ⊥) → (b : Bool) → counts_as_null comes.found ≡ b → b ≡ false
+  not_null taken known e value isin comes some false is = refl
+  not_null taken known e value isin comes some true is =
+      absurd (some (bare g s e stands.as_value tt taken value known isin comes (null_erased comes.found (g.constants e taken known comes.behind comes.found comes.goes) is)).labels)
+
+  no_null_here : (taken : Use) (known : Known) (e : c.Expression) → IsIn unit known.next (an_expression stands.as_value e) → (comes : ComesToIt program.facts known taken e)
+      → (labels in_front new_marks known.next ≡ c.no_marks → ⊥) → (x : Typed) → x ≡ comes.found → IsNoNull (in_use taken) x
+  no_null_here as_truth known e isin comes some x found = tt
+  no_null_here as_value known e isin comes some x found = ap counts_as_null found ∙ not_null as_value known e refl isin comes some (counts_as_null comes.found) refl
+  no_null_here as_place known e isin comes some x found = ap counts_as_null found ∙ not_null as_place known e refl isin comes some (counts_as_null comes.found) refl
+  no_null_here as_callee known e isin comes some x found = ap counts_as_null found ∙ not_null as_callee known e refl isin comes some (counts_as_null comes.found) refl
 
   -- what is asked of an expression with labels in front of it
   abbrev IsGood : Position → Known → c.Expression → Type 0
@@ -244,14 +254,10 @@ module _ (g : Given) {new : ℕ → Bool} {unit : c.Unit} {program : Program} {c
       let good = markable known e there it isin may erasable in
       let integer : is_integer (own_type x) ≡ true = ap (λ (y : Typed). is_integer (own_type y)) found ∙ good.0 in
       let value = value_found taken valued e known next x goes in (
-        by (counts_as_null x) refl (λ is. s.nulls stands.as_value taken e known isin (λ r. absurd cc) comes (ap counts_as_null (sym found_here) ∙ is)),
+        no_null_here taken known e isin comes some x found_here,
         (value.0, value.1, value.2 good.1),
         good_scalar next.structs (own_type x) (integer_is_scalar (own_type x) integer) (integer_is_no_function (own_type x) integer),
       )
-    where
-      by : (b : Bool) → counts_as_null x ≡ b → (b ≡ true → (within new_marks known.next e ≡ e) × ((stands.as_value ≡ stands.in_truth) ⊎ (with_marks new_marks known.next e ≡ e))) → counts_as_null x ≡ false
-      by false is h = is
-      by true is h = elim ((h refl).1) [ inl r ↦ absurd cc | inr r ↦ absurd (marked_core (labels in_front new_marks known.next) _ e some r may.0) ]
 
   is_good : ValuesAreMarkable → (role : Role) (position : Position) (known : Known) (e : c.Expression) → Here role position known e → (role ≡ stands.in_truth → ⊥) → (position ≡ in_use as_callee → ⊥)
       → (labels in_front new_marks known.next ≡ c.no_marks → ⊥) → (it : Objective) → MayStand unit program criterion role known.next e it in_front → CanBeErased as_value known e
@@ -266,7 +272,7 @@ module _ (g : Given) {new : ℕ → Bool} {unit : c.Unit} {program : Program} {c
           tt,
           tt,
           good_scalar next.structs (own_type x) (taken x next goes)
-              (subst (λ (y : Typed). has_pointer_to_function (own_type y) ≡ false) (same_found comes.goes goes) (s.values stands.in_test e known isin comes)),
+              (subst (λ (y : Typed). has_pointer_to_function (own_type y) ≡ false) (same_found comes.goes goes) (g.tests s.model unit program s.typed as_truth known e comes refl)),
         ),
       )
       by a_truth isin comes taken no_truth other may = absurd (no_truth refl)

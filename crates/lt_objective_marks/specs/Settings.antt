@@ -7,20 +7,19 @@ use Rattle.lt_tree.specs.Typing.Types.{is_scalar, is_function}
 use Rattle.lt_tree.specs.Typing.MarkRules.{greatest_written_id}
 use Rattle.lt_tree.specs.Typing.Entities.{Known}
 use Rattle.lt_tree.specs.Typing.Steps.{Goes}
-use Rattle.lt_tree.specs.Typing.Expressions.{a_designator, Typed, Use, as_value, as_truth, as_place, as_callee, own_type, has_pointer_to_function}
-use Rattle.lt_tree.specs.Typing.Operations.{counts_as_null}
+use Rattle.lt_tree.specs.Typing.Expressions.{a_designator, Typed, as_value, as_truth, as_place, as_callee, own_type}
 use Rattle.lt_tree.specs.Typing.ExpressionTyping.{expression}
 use Rattle.lt_tree.specs.Typing.UnitTyping.{IsProgramOf}
 use Rattle.lt_tree.specs.Typing.Programs.{Program}
 use Rattle.lt_objectives.specs.declared.criteria.Criterion.{Criterion}
 use Rattle.lt_objectives.specs.Objectives.{in_front, Objective, objectives}
-use Rattle.lt_objectives.specs.Marked.{NewMark, ids_of, numbered, next_id, within, with_marks}
+use Rattle.lt_objectives.specs.Marked.{NewMark, ids_of, numbered, next_id}
 use Rattle.lt_objective_places.specs.Stands.{IsAmong, IsWithin, Role}
 use Rattle.lt_objective_places.specs.Stands as stands
 use Rattle.lt_objective_places.specs.Pieces.{an_expression, IsIn}
 use Rattle.lt_mark_typing.specs.Beside.{is_used, Position, in_use, in_test}
 use Rattle.lt_mark_typing.specs.Placed.{AreOld}
-use Rattle.lt_erased_typing.specs.Erasable.{CanBeErased}
+use Rattle.lt_erased_typing.specs.Simple.{IsSimple}
 use Rattle.lt_typed_nodes.specs.Coming.{ComesToIt}
 
 -- the new marks of a unit
@@ -35,16 +34,9 @@ pub record Setting (new : ℕ → Bool) (unit : c.Unit) (program : Program) (cri
   pub first : 1 ≤ id
   pub last : next_id id (objectives unit program criterion) ≤ suc greatest_written_id
   pub fresh : (n : ℕ) → id ≤ n → n < next_id id (objectives unit program criterion) → new n ≡ true
-  -- marks can be taken off an expression with an objective in front of it
-  pub erasable : (it : Objective) (role : Role) (e : c.Expression) (known : Known) → IsAmong it (objectives unit program criterion) → it.form ≡ in_front → it.place ≡ known.next
-      → IsIn unit known.next (an_expression role e) → ComesToIt program.facts known as_value e → CanBeErased as_value known e
-  -- nothing is marked in what counts as a null pointer constant, tests aside; in a `pc_after` that is a test nothing but what is marked in front of it
-  pub nulls : (role : Role) (taken : Use) (e : c.Expression) (known : Known) → IsIn unit known.next (an_expression role e) → (role ≡ stands.in_test → ⊥)
-      → (there : ComesToIt program.facts known taken e) → counts_as_null there.found ≡ true
-      → (within (marks_of unit program criterion id) known.next e ≡ e) × ((role ≡ stands.in_truth) ⊎ (with_marks (marks_of unit program criterion id) known.next e ≡ e))
-  -- the value of a test is no pointer to a function
-  pub values : (role : Role) (e : c.Expression) (known : Known) → IsIn unit known.next (an_expression role e)
-      → (there : ComesToIt program.facts known as_truth e) → has_pointer_to_function (own_type there.found) ≡ false
+  -- an expression with an objective in front of it is simple
+  pub copies : (it : Objective) (role : Role) (e : c.Expression) (known : Known) → IsAmong it (objectives unit program criterion) → it.form ≡ in_front → it.place ≡ known.next
+      → IsIn unit known.next (an_expression role e) → ComesToIt program.facts known as_value e → IsSimple known.frames e
 
 -- ---- ids
 

@@ -4,15 +4,19 @@ ghost use Rattle.lt_objective_marks.specs.Laws.{ObjectivesAreAddedToExpressions}
 ghost use Rattle.lt_objective_marks.specs.Units.{MarkedUnitsRunAsTheyDid, ObjectivesAreAdded};
 
 use lt_erased_typing::{
-    operands_keep_their_types, pure_expressions_are_typed_without_marks, truths_are_typed_as_values,
+    copies_can_be_erased, operands_keep_their_types, pure_expressions_are_typed_without_marks,
+    truths_are_typed_as_values,
 };
+use lt_made_types::no_test_is_a_pointer_to_a_function;
 use lt_mark_typing::marked_units_run_the_same;
-use lt_objective_places::{marks_are_of_one_node, objectives_stand_where_they_may, pieces_stand};
+use lt_objective_places::{
+    constants_are_closed, marks_are_of_one_node, objectives_stand_where_they_may, pieces_stand,
+};
 use lt_objective_typing::{
     domains_give_predicates, labels_of_objectives_are_new, objectives_have_predicates,
 };
 use lt_tree_laws::nodes_are_numbered;
-use lt_typed_nodes::{operands_have_their_types, parts_are_come_to};
+use lt_typed_nodes::{constants_stay, operands_have_their_types, parts_are_come_to};
 
 /// The marks of objectives are added to an expression where they may stand.
 pub fn objectives_are_added_to_expressions()
@@ -29,6 +33,10 @@ pub fn objectives_are_added_to_expressions()
     truths_are_typed_as_values();
     operands_have_their_types();
     parts_are_come_to();
+    constants_stay();
+    constants_are_closed();
+    copies_can_be_erased();
+    no_test_is_a_pointer_to_a_function();
 }
 
 /// Each new mark of a unit stands where it may.

@@ -5,13 +5,12 @@ use Rattle.std.proofs.lemmas.Bool.{eqb-true}
 use Rattle.lt_tree.specs.Tree as c
 use Rattle.lt_tree.specs.Nodes.{Node, an_external, an_expression, nodes}
 use Rattle.lt_tree.specs.Erasure.{erased}
-use Rattle.lt_tree.specs.Purity.{is_pure}
 use Rattle.lt_tree.specs.Typing.Programs.{Program}
 use Rattle.lt_objectives.specs.declared.criteria.Criterion.{Criterion}
 use Rattle.lt_objectives.specs.declared.criteria.Criterion.TheVariants as C
 use Rattle.lt_objectives.specs.Places.{Site, sites, sites_from, is_open, is_value_position}
 use Rattle.lt_objectives.specs.Decisions.{Test, decisions, clauses, has_few_clauses, negation, clause_list, conjunctions, active_clauses}
-use Rattle.lt_objectives.specs.Copies.{is_core}
+use Rattle.lt_objectives.specs.Copies.{is_core, can_be_copied}
 use Rattle.lt_objectives.specs.Objectives.{Form, at_start, in_front, around, Objective, objective, all_at, at_body, decided_at, combinations, at_test, differences, at_expression, at_node, objectives}
 use Rattle.lt_decisions.specs.declared.turn.Tests.{Tests}
 use Rattle.lt_decisions.specs.declared.turn.Tests.TheVariants as tests
@@ -21,7 +20,7 @@ use Rattle.lt_objective_places.proofs.Among.{in_either, given_by, image_of}
 
 -- ---- one node at each number
 
-get_site : (j : ℕ) (list : List Node) (site : Site) → IsAmong site (sites_from j list) → (i : ℕ) × (site.number ≡ j + i) × (slice_get list i ≡ Some site.node)
+pub get_site : (j : ℕ) (list : List Node) (site : Site) → IsAmong site (sites_from j list) → (i : ℕ) × (site.number ≡ j + i) × (slice_get list i ≡ Some site.node)
 get_site j [] site h = absurd h
 get_site j (x ∷ xs) site (inl is) =
     let number : j ≡ site.number = ap (λ (it : Site). it.number) is in
@@ -29,7 +28,7 @@ get_site j (x ∷ xs) site (inl is) =
     (0, omega arith, ap Some node)
 get_site j (x ∷ xs) site (inr h) = let it = get_site (j + 1) xs site h in (suc it.0, omega (arith, it.1), it.2)
 
-get_first : {X : Type 0} (k : ℕ) (list : List X) (x : X) (rest : List X) → drop k list ≡ x ∷ rest → slice_get list k ≡ Some x
+pub get_first : {X : Type 0} (k : ℕ) (list : List X) (x : X) (rest : List X) → drop k list ≡ x ∷ rest → slice_get list k ≡ Some x
 get_first zero [] x rest is = absurd cc
 get_first (suc k) [] x rest is = absurd cc
 get_first zero (y ∷ ys) x rest is = cc
@@ -92,13 +91,13 @@ of_truths criterion k d e decision clause o false is (inr h) = absurd h
 of_combinations : (criterion : Criterion) (k d : ℕ) (predicates : c.Expression → List c.Expression) (e : c.Expression) (decision clause : Option ℕ) (o : Objective) → (decision ≡ Some d) ⊎ (clause ≡ Some d)
     → IsAmong o (combinations criterion k predicates e) → AtTest k decision clause o
 of_combinations criterion k d predicates e decision clause o is h =
-    let some = when (is_pure e && has_few_clauses e) o (all_at k in_front criterion (predicates e)) h in
-    let it = of_all k in_front criterion (predicates e) o some.1 in
+    let some = when (can_be_copied e && has_few_clauses (erased e)) o (all_at k in_front criterion (predicates (erased e))) h in
+    let it = of_all k in_front criterion (predicates (erased e)) o some.1 in
     in_front_of_test d is it.0 it.1
 
 pub of_test : (criterion : Criterion) (decision clause : Option ℕ) (k : ℕ) (e : c.Expression) (o : Objective) → IsAmong o (at_test criterion decision clause k e) → AtTest k decision clause o
-of_test C.Decision (Some d) clause k e o h = of_truths C.Decision k d e (Some d) clause o (is_pure e) (inl refl) h
-of_test C.Condition decision (Some d) k e o h = of_truths C.Condition k d e decision (Some d) o (is_pure e) (inr refl) h
+of_test C.Decision (Some d) clause k e o h = of_truths C.Decision k d (erased e) (Some d) clause o (can_be_copied e) (inl refl) h
+of_test C.Condition decision (Some d) k e o h = of_truths C.Condition k d (erased e) decision (Some d) o (can_be_copied e) (inr refl) h
 of_test C.MultipleCondition (Some d) clause k e o h = of_combinations C.MultipleCondition k d (λ d. conjunctions (clause_list d)) e (Some d) clause o (inl refl) h
 of_test C.GeneralActiveClause (Some d) clause k e o h = of_combinations C.GeneralActiveClause k d active_clauses e (Some d) clause o (inl refl) h
 of_test _ decision clause k e o h = absurd h
@@ -133,20 +132,20 @@ module _ (unit : c.Unit) (program : Program) (criterion : Criterion) (o : Object
 
   found_value : IsAmong o (differences unit program criterion k e) → IsFound unit program criterion o
   found_value h =
-      let some = when (is_pure (erased e) && is_value_position unit k) o _ h in
+      let some = when (can_be_copied e && is_value_position unit k) o _ h in
       let it = of_all k in_front criterion _ o some.1 in
       let place : o.place ≡ k = it.0 in
       found_in_front e it.1 (subst (λ n. IsAmong (record { number = n; node = an_expression e }) (sites unit)) (sym place) among) is_a_core (ap (is_open unit program) place ∙ opened)
-      (inr (ap (is_value_position unit) place ∙ (both_true (is_pure (erased e)) (is_value_position unit k) some.0).1)) (subst (λ n. IsAmong o (at_expression unit program criterion n e)) (sym place) at_it)
+      (inr (ap (is_value_position unit) place ∙ (both_true (can_be_copied e) (is_value_position unit k) some.0).1)) (subst (λ n. IsAmong o (at_expression unit program criterion n e)) (sym place) at_it)
 
 found_expression : (unit : c.Unit) (program : Program) (criterion : Criterion) (o : Objective) (k : ℕ) (e : c.Expression) → IsAmong (record { number = k; node = an_expression e }) (sites unit)
     → IsAmong o (at_expression unit program criterion k e) → IsFound unit program criterion o
 found_expression unit program criterion o k e among h =
-    let test = at_test criterion (decided_at (decisions unit) k) (decided_at (clauses unit) k) k (erased e) in
+    let test = at_test criterion (decided_at (decisions unit) k) (decided_at (clauses unit) k) k e in
     let some = when (is_core e && is_open unit program k) o (test ++ differences unit program criterion k e) h in
     let both = both_true (is_core e) (is_open unit program k) some.0 in
     elim (in_either o test (differences unit program criterion k e) some.1) [
-      | inl i ↦ found_test unit program criterion o k e among both.0 both.1 h (of_test criterion (decided_at (decisions unit) k) (decided_at (clauses unit) k) k (erased e) o i)
+      | inl i ↦ found_test unit program criterion o k e among both.0 both.1 h (of_test criterion (decided_at (decisions unit) k) (decided_at (clauses unit) k) k e o i)
       | inr i ↦ found_value unit program criterion o k e among both.0 both.1 h i
     ]
 
@@ -170,11 +169,11 @@ found unit program criterion o h =
 of_expression : (unit : c.Unit) (program : Program) (criterion : Criterion) (o : Objective) (k : ℕ) (e : c.Expression) → IsAmong o (at_expression unit program criterion k e)
     → AtTest k (decided_at (decisions unit) k) (decided_at (clauses unit) k) o ⊎ ((o.place ≡ k) × (o.form ≡ in_front))
 of_expression unit program criterion o k e h =
-    let test = at_test criterion (decided_at (decisions unit) k) (decided_at (clauses unit) k) k (erased e) in
+    let test = at_test criterion (decided_at (decisions unit) k) (decided_at (clauses unit) k) k e in
     let some = when (is_core e && is_open unit program k) o (test ++ differences unit program criterion k e) h in
     elim (in_either o test (differences unit program criterion k e) some.1) [
-      | inl i ↦ inl (of_test criterion (decided_at (decisions unit) k) (decided_at (clauses unit) k) k (erased e) o i)
-      | inr i ↦ inr (of_all k in_front criterion _ o (when (is_pure (erased e) && is_value_position unit k) o _ i).1)
+      | inl i ↦ inl (of_test criterion (decided_at (decisions unit) k) (decided_at (clauses unit) k) k e o i)
+      | inr i ↦ inr (of_all k in_front criterion _ o (when (can_be_copied e && is_value_position unit k) o _ i).1)
     ]
 
 -- one that isn't around an expression has the number of the node

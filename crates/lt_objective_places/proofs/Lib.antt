@@ -8,6 +8,7 @@ pub mod Going
 pub mod NotOpen
 pub mod Found
 pub mod Standing
+pub mod ConstantsClosed
 pub mod MarksAtPlaces
 pub mod Together
 pub mod Unmarked

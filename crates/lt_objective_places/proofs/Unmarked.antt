@@ -32,7 +32,7 @@ fewer {new} {k} {size} j more first last h = record { labels = λ n w. h.labels 
 here : (k : ℕ) (e : c.Expression) → IsWithin k (length (in_expression e)) k
 here k e = (omega arith, omega (arith, ap length (expression_node e)))
 
-joined_none : (ms : c.Marks) → joined ms c.no_marks ≡ ms
+pub joined_none : (ms : c.Marks) → joined ms c.no_marks ≡ ms
 joined_none c.no_marks = refl
 joined_none (c.a_mark m ms) = ap (c.a_mark m) (joined_none ms)
 
@@ -64,7 +64,7 @@ part : (new : List NewMark) {k size : ℕ} (j : ℕ) (e : c.Expression) → k �
 part new j e first last h inside = let g = fewer j (length (in_expression e)) first last h in no_own new j e g (inside g)
 
 mutual
-  inside_unmarked : (new : List NewMark) (k : ℕ) (e : c.Expression) → HasNone new k (length (in_expression e)) → within new k e ≡ e
+  pub inside_unmarked : (new : List NewMark) (k : ℕ) (e : c.Expression) → HasNone new k (length (in_expression e)) → within new k e ≡ e
   inside_unmarked new k (c.Index array index) h =
       let j = k + 1 + length (in_expression array) in
       ap (λ x. c.Index x (with_marks new j index)) (part new (k + 1) array (omega arith) (first_fits k (in_expression array) (in_expression index)) h (inside_unmarked new (k + 1) array))

@@ -1,11 +1,13 @@
 -- What is known of tests and objectives where the pieces of a unit stand.
-use Rattle.std.specs.Prelude.{◌≡◌, ℕ, ◌+◌, true, List, ◌++◌, length, Option}
+use Rattle.std.specs.Prelude.{◌≡◌, ℕ, ◌+◌, true, List, ◌++◌, length, Option, Some}
 use Rattle.std.specs.List.{list_any}
 use Rattle.lt_tree.specs.Tree as c
-use Rattle.lt_tree.specs.Nodes.{in_expression, in_mark, in_declaration}
+use Rattle.lt_tree.specs.Nodes.{an_expression as expression_node, in_expression, in_mark, in_declaration}
+use Rattle.lt_tree.specs.Typing.Constants.{is_number}
+use Rattle.lt_tree.specs.Typing.Entities.{Fact}
 use Rattle.lt_tree.specs.Typing.Programs.{Program}
 use Rattle.lt_objectives.specs.declared.criteria.Criterion.{Criterion}
-use Rattle.lt_objectives.specs.Places.{core, is_constant, storage_of, makes_static, makes_static_in_for}
+use Rattle.lt_objectives.specs.Places.{core, stays_without_marks, fact_among, is_constant, storage_of, makes_static, makes_static_in_for}
 use Rattle.lt_objectives.specs.Objectives.{Form, at_start, in_front, Objective, all_at, at_body, at_expression, objectives}
 use Rattle.lt_objectives.specs.Marked.{numbered, next_id, labels, decided, with_marks, declaration_with_marks}
 use Rattle.lt_objective_places.specs.Stands.{IsAmong, IsWithin, GoOn, Role, AreClosed, MayStand}
@@ -40,6 +42,12 @@ SomeAreClosed =
     × ((role : Role) (e : c.Expression) → is_constant unit program k ≡ true → PieceStands unit k (an_expression role e) → AreClosed unit program k (length (in_expression e)))
     × ((role : Role) (e : c.Expression) → PieceStands unit k (an_expression role (c.SizeofExpr e)) → AreClosed unit program (k + 1) (length (in_expression e)))
     × ((m : c.Mark) → GoOn unit k (in_mark m) → AreClosed unit program k (length (in_mark m)))
+
+-- No label stands in an expression of which the unit's program knows that it is an integer constant; in marks no label stands anyway.
+abbrev pub ConstantsAreClosed : Type 0
+ConstantsAreClosed =
+    (unit : c.Unit) (program : Program) (role : Role) (k : ℕ) (e : c.Expression) (fact : Fact) → program.unit ≡ unit → stays_without_marks (expression_node e) ≡ true → PieceStands unit k (an_expression role e)
+    → fact_among program.facts k ≡ Some fact → is_number fact.constancy ≡ true → AreClosed unit program k (length (in_expression e))
 
 -- No objective stands in expressions and declarations where no label does.
 abbrev pub NoneStandsWhereNoLabelDoes : Type 0

@@ -1,6 +1,6 @@
 //! Laws of the definitions; the functions do nothing.
 
-ghost use Rattle.lt_objective_places.specs.Laws.{MarksAreOfOneNode, NoneStandsWhereNoLabelDoes, NothingIsMarkedThere, ObjectivesStandWhereTheyMay, PiecesStand, SomeAreClosed};
+ghost use Rattle.lt_objective_places.specs.Laws.{ConstantsAreClosed, MarksAreOfOneNode, NoneStandsWhereNoLabelDoes, NothingIsMarkedThere, ObjectivesStandWhereTheyMay, PiecesStand, SomeAreClosed};
 
 /// All pieces of a unit stand in it, from the whole unit on.
 pub fn pieces_stand()
@@ -16,6 +16,11 @@ pub fn objectives_stand_where_they_may()
 /// No label stands in constants and in declarations of objects that are there from the start.
 pub fn some_are_closed()
     ensures { SomeAreClosed }
+{}
+
+/// No label stands in what the program knows as an integer constant.
+pub fn constants_are_closed()
+    ensures { ConstantsAreClosed }
 {}
 
 /// No objective stands where no label does.

@@ -5,6 +5,6 @@
 mod laws;
 
 pub use laws::{
-    marks_are_of_one_node, none_stands_where_no_label_does, nothing_is_marked_there,
-    objectives_stand_where_they_may, pieces_stand, some_are_closed,
+    constants_are_closed, marks_are_of_one_node, none_stands_where_no_label_does,
+    nothing_is_marked_there, objectives_stand_where_they_may, pieces_stand, some_are_closed,
 };

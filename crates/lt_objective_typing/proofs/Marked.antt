@@ -55,7 +55,7 @@ pub of_marked : MarkedExpressionsHavePredicates
 of_marked new used known next e x core pure can q =
     let found = typed_without_marks known next e x can q in
     let all = of_objectives new used known (erased e) found.0 found.1 found.2 pure found.3 in (
-      (λ s criterion decision clause k. all.0 (ap is_scalar found.4 ∙ s) criterion decision clause k),
+      (λ s criterion decision clause k. all.0 (ap is_scalar found.4 ∙ s) criterion decision clause k e refl),
       (λ model t h. all.1 model t (λ g. ap is_integer found.4 ∙ h g)),
       all.2,
       (λ t u h. all.3 t u (λ g. takes known next e x core can q (h g))),

@@ -11,6 +11,7 @@ use Rattle.lt_tree.specs.declared.expression.LogicalOp.{LogicalOp}
 use Rattle.lt_tree.specs.declared.expression.UnaryOp.TheVariants as unary
 use Rattle.lt_tree.specs.Tree as c
 use Rattle.lt_tree.specs.Nodes.{in_expression}
+use Rattle.lt_tree.specs.Erasure.{erased}
 use Rattle.lt_tree.specs.Purity.{is_pure}
 use Rattle.lt_tree.specs.Typing.Types.{CType, is_scalar, is_integer}
 use Rattle.lt_tree.specs.Typing.Operands.{is_equality}
@@ -24,6 +25,7 @@ use Rattle.lt_objectives.specs.declared.criteria.Criterion.{Criterion}
 use Rattle.lt_objectives.specs.declared.criteria.Criterion.TheVariants as C
 use Rattle.lt_objectives.specs.Decisions.{negation, clauses_of, clause_list, conjunctions, active_clauses, has_few_clauses}
 use Rattle.lt_objectives.specs.Mutants.{is_fitting, is_signed_integer, arithmetic_mutants, connector_mutants, relational_mutants}
+use Rattle.lt_objectives.specs.Copies.{can_be_copied}
 use Rattle.lt_objectives.specs.Objectives.{Form, in_front, around, Objective, objective, all_at, at_test}
 use Rattle.lt_mark_laws.proofs.TypeLists.{all_both}
 use Rattle.lt_mark_typing.specs.Placed.{AreOld, IsThere}
@@ -185,6 +187,10 @@ module _ (new : ℕ → Bool) (used' : List ℕ) where
 
 -- ---- decisions and clauses
 
+-- both truths of a decision, the conjunctions of its clauses, and what says that a clause determines it
+abbrev HavePredicates : (ℕ → Bool) → List ℕ → Known → c.Expression → Type 0
+HavePredicates new used known d = ArePredicates new used known (d ∷ negation d ∷ []) × ArePredicates new used known (conjunctions (clause_list d)) × ArePredicates new used known (active_clauses d)
+
 predicates_are : (place : ℕ) (form : Form) (criterion : Criterion) (list : List c.Expression) → map (λ (it : Objective). it.predicate) (all_at place form criterion list) ≡ list
 predicates_are place form criterion [] = refl
 predicates_are place form criterion (e ∷ es) = ap (λ l. e ∷ l) (predicates_are place form criterion es)
@@ -202,12 +208,13 @@ module _ (new : ℕ → Bool) (used' : List ℕ) (k : Known) where
   combinations_by true criterion place list h = them_at place in_front criterion list h
   combinations_by false criterion place list h = tt
 
-  at_tests : (criterion : Criterion) (decision clause : Option ℕ) (place : ℕ) (e : c.Expression) → ArePredicates new used' k (e ∷ negation e ∷ []) → ArePredicates new used' k (conjunctions (clause_list e)) → ArePredicates new used' k (active_clauses e)
+  at_tests : (criterion : Criterion) (decision clause : Option ℕ) (place : ℕ) (e : c.Expression) → ArePredicates new used' k (erased e ∷ negation (erased e) ∷ []) → ArePredicates new used' k (conjunctions (clause_list (erased e)))
+      → ArePredicates new used' k (active_clauses (erased e))
       → ArePredicates new used' k (map (λ it. it.predicate) (at_test criterion decision clause place e))
-  at_tests C.Decision (Some decided) clause place e h g f = truths_by (is_pure e) C.Decision place decided e h
-  at_tests C.Condition decision (Some decided) place e h g f = truths_by (is_pure e) C.Condition place decided e h
-  at_tests C.MultipleCondition (Some decided) clause place e h g f = combinations_by (is_pure e && has_few_clauses e) C.MultipleCondition place (conjunctions (clause_list e)) g
-  at_tests C.GeneralActiveClause (Some decided) clause place e h g f = combinations_by (is_pure e && has_few_clauses e) C.GeneralActiveClause place (active_clauses e) f
+  at_tests C.Decision (Some decided) clause place e h g f = truths_by (can_be_copied e) C.Decision place decided (erased e) h
+  at_tests C.Condition decision (Some decided) place e h g f = truths_by (can_be_copied e) C.Condition place decided (erased e) h
+  at_tests C.MultipleCondition (Some decided) clause place e h g f = combinations_by (can_be_copied e && has_few_clauses (erased e)) C.MultipleCondition place (conjunctions (clause_list (erased e))) g
+  at_tests C.GeneralActiveClause (Some decided) clause place e h g f = combinations_by (can_be_copied e && has_few_clauses (erased e)) C.GeneralActiveClause place (active_clauses (erased e)) f
   at_tests C.Decision None clause place e h g f = tt
   at_tests C.Condition decision None place e h g f = tt
   at_tests C.MultipleCondition None clause place e h g f = tt
@@ -225,9 +232,9 @@ module _ (new : ℕ → Bool) (used' : List ℕ) (k : Known) where
 pub of_objectives : ObjectivesHavePredicates
 of_objectives new used known e x next facts p q =
     let h = no_marks_in new e p in (
-      λ s criterion decision clause place.
-          let them = of_decisions new used known e p (clauses_there new used (clauses_in e p) known x next facts p h q s) in
-          at_tests new used known criterion decision clause place e them.0 them.1 them.2,
+      λ s criterion decision clause place marked is.
+          let them = subst (HavePredicates new used known) (sym is) (of_decisions new used known e p (clauses_there new used (clauses_in e p) known x next facts p h q s)) in
+          at_tests new used known criterion decision clause place marked them.0 them.1 them.2,
       λ model t f. absolutes new used known (is_fitting e && is_signed_integer model t) e (λ b. pure_there is_integer known e x next facts p h q (f (and_second (is_fitting e) (is_signed_integer model t) b))),
       connector_there new used e known x next facts p h q,
       operator_mutants new used e known x next facts p h q,

@@ -65,13 +65,14 @@ TakesIntegers known (c.Binary op left right) =
     → is_integer (own_type x) && is_integer (own_type y) ≡ true
 TakesIntegers known e = Unit {0}
 
--- Where a pure expression is typed, and nothing is found but facts, the objectives at it have predicates: as a decision or a clause, if it is a
--- scalar; and with its mutants, if the types by which these are made say of it and its operands no more than that they are integers which are such.
+-- Where a pure expression is typed, and nothing is found but facts, the objectives at it have predicates: as a decision or a clause, with marks or without,
+-- if it is a scalar; and with its mutants, if the types by which these are made say of it and its operands no more than that they are integers which are such.
 abbrev pub ObjectivesHavePredicates : Type 0
 ObjectivesHavePredicates =
     (new : ℕ → Bool) (used : List ℕ) (known : Known) (e : c.Expression) (x : Typed) (next : ℕ) (facts : List Fact)
     → is_pure e ≡ true → expression e as_value known ≡ Goes x (record known { next = next; facts = facts })
-    → (is_scalar (own_type x) ≡ true → (criterion : Criterion) (decision clause : Option ℕ) (k : ℕ) → ArePredicates new used known (map (λ it. it.predicate) (at_test criterion decision clause k e)))
+    → (is_scalar (own_type x) ≡ true → (criterion : Criterion) (decision clause : Option ℕ) (k : ℕ) (marked : c.Expression) → erased marked ≡ e
+    → ArePredicates new used known (map (λ it. it.predicate) (at_test criterion decision clause k marked)))
     × ((model : DataModel) (t : CType) → (is_signed_integer model t ≡ true → is_integer (own_type x) ≡ true) → ArePredicates new used known (differences_from e (absolute_mutants model t e)))
     × ArePredicates new used known (differences_from e (connector_mutants e))
     × ((t u : CType) → (is_integer t && is_integer u ≡ true → TakesIntegers known e)
@@ -82,7 +83,7 @@ abbrev pub MarkedExpressionsHavePredicates : Type 0
 MarkedExpressionsHavePredicates =
     (new : ℕ → Bool) (used : List ℕ) (known next : Known) (e : c.Expression) (x : Typed)
     → is_core e ≡ true → is_pure (erased e) ≡ true → CanBeErased as_value known e → expression e as_value known ≡ Goes x next
-    → (is_scalar (own_type x) ≡ true → (criterion : Criterion) (decision clause : Option ℕ) (k : ℕ) → ArePredicates new used known (map (λ it. it.predicate) (at_test criterion decision clause k (erased e))))
+    → (is_scalar (own_type x) ≡ true → (criterion : Criterion) (decision clause : Option ℕ) (k : ℕ) → ArePredicates new used known (map (λ it. it.predicate) (at_test criterion decision clause k e)))
     × ((model : DataModel) (t : CType) → (is_signed_integer model t ≡ true → is_integer (own_type x) ≡ true) → ArePredicates new used known (differences_from (erased e) (absolute_mutants model t (erased e))))
     × ArePredicates new used known (differences_from (erased e) (connector_mutants (erased e)))
     × ((t u : CType) → (is_integer t && is_integer u ≡ true → TakesIntegers known e)

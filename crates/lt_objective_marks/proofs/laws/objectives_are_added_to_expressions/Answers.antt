@@ -16,5 +16,9 @@ returns c = all_added (record {
   values = c.operands_have_their_types.ensures.values;
   operands = c.parts_are_come_to.ensures.operands;
   known = c.parts_are_come_to.ensures.known;
+  constants = c.constants_stay.ensures;
+  closed = c.constants_are_closed.ensures;
+  copies = c.copies_can_be_erased.ensures;
+  tests = c.no_test_is_a_pointer_to_a_function.ensures;
   unmarked = kept_unmarked;
 })
