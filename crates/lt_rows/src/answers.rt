@@ -69,15 +69,19 @@ fn status(alloc: Global, text: &str) -> Result<Status, Stop> {
     }
 }
 
-/// The exit code of an answer, and its line on standard error.
-pub fn answered(alloc: Global, text: &[u8]) -> Result<Vec<u8>, Stop> {
-    let text = std::str::from_utf8(text).map_err(|_| Stop::NoSuchQuestion)?;
-    let status = status(alloc, text)?;
+/// The exit code of a status, and its line on standard error.
+pub fn told(alloc: Global, status: &Status) -> Result<Vec<u8>, Stop> {
     let mut words = Words::new(alloc);
-    words.push_number(i128::from(code(&status)))?;
-    let line = message(alloc, &status)?;
+    words.push_number(i128::from(code(status)))?;
+    let line = message(alloc, status)?;
     if !line.is_empty() {
         words.push_text(line.as_str())?;
     }
     Ok(words.into_bytes())
+}
+
+/// The exit code of an answer, and its line on standard error.
+pub fn answered(alloc: Global, text: &[u8]) -> Result<Vec<u8>, Stop> {
+    let text = std::str::from_utf8(text).map_err(|_| Stop::NoSuchQuestion)?;
+    told(alloc, &status(alloc, text)?)
 }

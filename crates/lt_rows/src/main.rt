@@ -6,6 +6,7 @@ mod answers;
 mod covers;
 mod escapes;
 mod expressions;
+mod faults;
 mod known;
 mod numbers;
 mod pairs;

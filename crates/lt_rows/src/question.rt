@@ -2,8 +2,8 @@
 
 use crate::stop::Stop;
 use crate::{
-    annotations, answers, covers, expressions, known, numbers, printed, replays, rules, table,
-    tokens, units,
+    annotations, answers, covers, expressions, faults, known, numbers, printed, replays, rules,
+    table, tokens, units,
 };
 use lt_model::DataModel;
 use std::alloc::Global;
@@ -36,6 +36,8 @@ pub enum Question<'a> {
     CoverageMerge,
     /// With the labels that these options ask for.
     Annotate(&'a str),
+    /// The same past a fault outside.
+    AnnotatePastFault(&'a str),
     /// The line that tells how a command ends.
     Answer,
     /// In this model, with so many ticks a run.
@@ -72,6 +74,7 @@ impl<'a> Question<'a> {
             Some(("expression", names)) => Some(Question::Expression(names)),
             Some(("expression size", names)) => Some(Question::ExpressionSize(names)),
             Some(("annotate", options)) => Some(Question::Annotate(options)),
+            Some(("annotate past a fault", options)) => Some(Question::AnnotatePastFault(options)),
             Some(("replay", words)) => Question::replay(words),
             Some((name, model)) => Question::in_model(name, model_named(model)?),
         }
@@ -161,6 +164,7 @@ impl<'a> Question<'a> {
             Question::CoverageFile => covers::rewritten(alloc, text),
             Question::CoverageMerge => covers::merged(alloc, text),
             Question::Annotate(options) => annotations::annotated(alloc, text, options),
+            Question::AnnotatePastFault(options) => faults::ended(alloc, text, options),
             Question::Answer => answers::answered(alloc, text),
             Question::Replay(model, steps) => replays::replayed(alloc, text, model, steps),
             Question::Operator(model) => numbers::operator(alloc, text, model),

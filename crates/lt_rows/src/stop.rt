@@ -27,6 +27,8 @@ pub enum Stop {
     NoSuchName,
     #[error("no line of three hyphens between two texts")]
     OneText,
+    #[error("no such fault")]
+    NoSuchFault,
     #[error("no such type")]
     NoSuchType,
     #[error("no such operator")]
