@@ -1,16 +1,18 @@
 -- Texts that are typed with marks, and not without them, or with another type.
-use Rattle.std.specs.Prelude.{ℕ, true, false, List, [], ◌∷◌, codes, Some}
+use Rattle.std.specs.Prelude.{ℕ, true, false, List, [], ◌∷◌, codes, Some, None}
 use Rattle.lt_model.specs.declared.operator.Op.TheVariants as op
 use Rattle.lt_model.specs.declared.scalar.Scalar.TheVariants as S
 use Rattle.lt_model.specs.declared.scalar.DataModel.TheVariants.{Lp64}
+use Rattle.lt_tree.specs.declared.expression.UnaryOp.TheVariants as unary
+use Rattle.lt_tree.specs.declared.specifier.Storage.TheVariants as storage
 use Rattle.lt_tree.specs.Tree as c
 use Rattle.lt_tree.specs.Nodes.{an_expression}
 use Rattle.lt_tree.specs.Erasure.{erased}
 use Rattle.lt_tree.specs.Grammar.{no_words}
 use Rattle.lt_tree.specs.Typing.Types.{CType, Num, Pointer, Qualified}
-use Rattle.lt_tree.specs.Typing.Rules.{Rule, volatile_access, bad_comparison}
+use Rattle.lt_tree.specs.Typing.Rules.{Rule, volatile_access, bad_comparison, bad_address}
 use Rattle.lt_tree_laws.specs.Examples.{char, int, void, x, one, zero_constant, pointer, constant_only, abstract, declares}
-use Rattle.lt_tree_laws.specs.Typing.ExampleTexts.{has_type, breaks, IsTypedBehind, name, qualified_int, array_of_length, object}
+use Rattle.lt_tree_laws.specs.Typing.ExampleTexts.{has_type, breaks, IsTypedBehind, IsTyped, name, qualified_int, stored_int, declaration_of, array_of_length, object, function}
 
 -- `pc_label(1, 1, "A")` in front of an expression
 abbrev pub marked : c.Expression → c.Expression
@@ -55,3 +57,20 @@ MarksHideOperands =
     × Has (c.Binary op.Add volatile_member zero_constant) (Num S.Int)
     × IsTypedBehind Lp64 objects (erased (c.Binary op.Add volatile_member zero_constant)) (breaks volatile_access (Some (an_expression (erased volatile_member))))
     × Has constant_member (Pointer (Num S.Int)) × Has (erased constant_member) (Pointer (Qualified constant_only (Num S.Int)))
+
+-- `&..[1]` and `int f(int x) { register int a[2]; &..[1]; }` with this in the place of the dots
+abbrev pub address_in : c.Expression → c.Expression
+address_in whole = c.Unary unary.AddressOf (c.Index whole one)
+
+abbrev pub takes_address : c.Expression → c.Unit
+takes_address e =
+    function
+    (c.a_declaration (declaration_of (stored_int storage.Register) (codes "a") (array_of_length (codes "2")) None)
+    (c.a_statement (c.Evaluates (address_in e)) c.no_items)) ∷ []
+
+abbrev pub IsRefusedIn : c.Expression → Type 0
+IsRefusedIn e = IsTyped Lp64 (takes_address e) (breaks bad_address (Some (an_expression (address_in e))))
+
+-- It doesn't hide from `&` that an array is declared `register`.
+abbrev pub MarksShowRegisters : Type 0
+MarksShowRegisters = IsRefusedIn (marked (name (codes "a"))) × IsRefusedIn (name (codes "a"))

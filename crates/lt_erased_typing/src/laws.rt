@@ -1,6 +1,6 @@
 //! Laws of the definitions; the functions do nothing.
 
-ghost use Rattle.lt_erased_typing.specs.Examples.{MarksHideOperands};
+ghost use Rattle.lt_erased_typing.specs.Examples.{MarksHideOperands, MarksShowRegisters};
 ghost use Rattle.lt_erased_typing.specs.Laws.{CopiesCanBeErased, CopiesWithLiteralsCanBeErased, LiteralsAreTypedWithoutMarks, OperandsKeepTheirTypes, OperandsWithLiteralsKeepTheirTypes, PlainExpressionsCanBeErased, PureExpressionsAreTypedWithoutMarks, TheyAreTypedBesideOtherMarks, TruthsAreTypedAsValues};
 
 /// A pure expression is typed without its marks where it is typed with them, if they hide nothing from an operator.
@@ -39,4 +39,9 @@ pub fn copies_can_be_erased()
 /// Texts that are typed with marks, and not without them, or with another type.
 pub fn marks_hide_operands()
     ensures { MarksHideOperands }
+{}
+
+/// A text in which the address of an element of a `register` array is taken is refused with marks too.
+pub fn marks_show_registers()
+    ensures { MarksShowRegisters }
 {}
