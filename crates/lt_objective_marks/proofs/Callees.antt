@@ -28,7 +28,8 @@ use Rattle.lt_objective_marks.proofs.Noted.{signed_called}
 use Rattle.lt_objective_marks.proofs.Labels.{Labelled, unlabelled, labelled, own_labels}
 use Rattle.lt_objective_marks.proofs.Decided.{Around, undecided, decided_there, own_decision}
 use Rattle.lt_objective_marks.proofs.Whole.{new_marks, Here, Inner, ValuesAreMarkable, some_nodes, inside_unused, inside_added}
-use Rattle.lt_objective_marks.proofs.Markable.{both_there, mutants_there}
+use Rattle.lt_objective_marks.proofs.Mutated.{mutants_there}
+use Rattle.lt_objective_marks.proofs.Markable.{both_there}
 use Rattle.lt_objective_marks.proofs.Steps.{moved_to}
 use Rattle.lt_objective_marks.proofs.Parts.{Added, Operand, here_of}
 

@@ -1,5 +1,5 @@
 -- Nothing is marked in a null pointer constant, where it is used as more than a truth.
-use Rattle.std.proofs.Common.{◌≡◌, ◌⊎◌, inl, inr, refl, sym, ap, ◌∙◌, subst, ℕ, suc, ◌+◌, ◌<◌, ◌≤◌, List, [], ◌∷◌, ◌++◌, length, length-append, Bool, true, false, arith}
+use Rattle.std.proofs.Common.{◌≡◌, ◌⊎◌, inl, inr, refl, sym, ap, ◌∙◌, subst, ℕ, suc, ◌+◌, ◌<◌, ◌≤◌, List, [], ◌∷◌, ◌++◌, length, length-append, Bool, true, false, ◌&&◌, ◌||◌, if◌then◌else◌, arith}
 use Rattle.std.proofs.lemmas.Bool.{false≢true}
 use Rattle.lt_tree.specs.Tree as c
 use Rattle.lt_tree.specs.Erasure.{erased}
@@ -23,11 +23,12 @@ use Rattle.lt_objectives.specs.declared.criteria.Criterion.TheVariants as C
 use Rattle.lt_objectives.specs.Copies.{is_core}
 use Rattle.lt_objectives.specs.Places.{stays_without_marks}
 use Rattle.lt_objectives.specs.Objectives.{in_front, Objective, objective, mutants, at_expression, objectives}
-use Rattle.lt_objectives.specs.Marked.{numbered, next_id, labels, decided, joined, preceded_by, within, with_marks}
+use Rattle.lt_objectives.specs.Marked.{NewMark, numbered, next_id, labels, decided, joined, preceded_by, within, with_marks}
 use Rattle.lt_sites.proofs.Nodes.{expression_node}
 use Rattle.lt_objective_places.specs.Stands.{IsAmong, Role, IsWithin, AreClosed, MayStand, behind_after}
 use Rattle.lt_objective_places.specs.Stands as stands
 use Rattle.lt_objective_places.specs.Pieces.{an_expression, IsIn, a_piece}
+use Rattle.lt_objective_places.specs.Laws.{LabelsAreOf}
 use Rattle.lt_objective_places.proofs.Standing.{none_in_expression}
 use Rattle.lt_objective_places.proofs.Unmarked.{has_none, inside_unmarked, joined_none}
 use Rattle.lt_typed_nodes.specs.Laws.{StaysConstant}
@@ -65,13 +66,13 @@ zero_is_null null_address is = absurd (false≢true is)
 zero_is_null (address object offset) is = absurd (false≢true is)
 
 -- what passes a test that nothing passes which varies passes it before it is read
-read_if : (test : Constancy → Bool) (keeps : Bool) (x : Typed) (form : Form) {v : Value} → test varying ≡ false → test (if keeps then record x { form = form } else varies v).erased ≡ true → test x.erased ≡ true
-read_if test true x form none is = is
-read_if test false x form none is = absurd (false≢true (sym none ∙ is))
+read_if : (test : Constancy → Bool) (keeps : Bool) (x : Typed) (form : Form) (v : Value) → test varying ≡ false → test (if keeps then record x { form = form } else varies v).erased ≡ true → test x.erased ≡ true
+read_if test true x form v none is = is
+read_if test false x form v none is = absurd (false≢true (sym none ∙ is))
 
 read_by : (test : Constancy → Bool) (x : Typed) (form : Form) → test varying ≡ false → test (as_it_is_read (record x { form = form })).erased ≡ true → test x.erased ≡ true
 read_by test x (a_value v) none is = is
-read_by test x (a_place place) none is = read_if test (is_array (type_at place)) (record x { form = a_place place }) (a_value (value_at (type_at place) place)) none is
+read_by test x (a_place place) none is = read_if test (is_array (type_at place)) (record x { form = a_place place }) (a_value (value_at (type_at place) place)) _ none is
 read_by test x (a_designator name t) none is = is
 
 used_erased : (test : Constancy → Bool) (role : Use) (x : Typed) → test varying ≡ false → test (used role x).erased ≡ true → test x.erased ≡ true
@@ -167,7 +168,8 @@ abbrev named : c.Declarator → Specified → Known → Outcome Declares
 named d it known = declarator d it false (λ name known b. type_name_faults b) known
 
 module _ (g : Given) {new : ℕ → Bool} {unit : c.Unit} {program : Program} {criterion : Criterion} {id : ℕ} (s : Setting new unit program criterion id) where
-  abbrev all = marks_of unit program criterion id
+  abbrev all : List NewMark
+  all = marks_of unit program criterion id
 
   -- an expression that gets no marks
   pub record IsBare (k : ℕ) (e : c.Expression) : Type 0 where
@@ -196,6 +198,7 @@ module _ (g : Given) {new : ℕ → Bool} {unit : c.Unit} {program : Program} {c
       → labels in_front all known.next ≡ c.no_marks
   no_labels role e known isin none = by (at_expression unit program criterion known.next e) (shape unit program criterion known.next e) refl
     where
+      own : LabelsAreOf unit program criterion in_front known.next id (at_expression unit program criterion known.next e)
       own = labels_of g s role e known isin
 
       by : (list : List Objective) → Shape criterion known.next e list → at_expression unit program criterion known.next e ≡ list → labels in_front all known.next ≡ c.no_marks
@@ -242,75 +245,81 @@ module _ (g : Given) {new : ℕ → Bool} {unit : c.Unit} {program : Program} {c
       → size ≡ suc (length (in_specifiers types) + length (in_declarator d) + length (in_expression v)) → n ≡ known.next + 1 + length (in_specifiers types) + length (in_declarator d)
   cast_number types d v known n behind next size a b e f = omega (arith, a, b, e, f)
 
-  mutual
-    -- nothing is marked in a null pointer constant, nor in front of it
-    pub bare : (e : c.Expression) (role : Role) → IsNoTruth role → (taken : Use) → is_truth taken ≡ false → (known : Known) → IsIn unit known.next (an_expression role e) → (comes : ComesToIt program.facts known taken e)
-        → is_null_constant comes.found.erased ≡ true → IsBare known.next e
-    bare e role plain taken value known isin comes null = record {
-      labels = no_labels role e known isin (none_may_stand role plain taken known e isin comes null);
-      decided = no_decision role e known.next isin plain;
-      within = inside e role plain taken value known isin comes null;
-    }
+  bare_if : (e : c.Expression) (role : Role) → IsNoTruth role → (taken : Use) (known : Known) → IsIn unit known.next (an_expression role e) → (comes : ComesToIt program.facts known taken e)
+      → is_null_constant comes.found.erased ≡ true → within all known.next e ≡ e → IsBare known.next e
+  bare_if e role plain taken known isin comes null inside = record {
+    labels = no_labels role e known isin (none_may_stand role plain taken known e isin comes null);
+    decided = no_decision role e known.next isin plain;
+    within = inside;
+  }
 
-    inside : (e : c.Expression) (role : Role) → IsNoTruth role → (taken : Use) → is_truth taken ≡ false → (known : Known) → IsIn unit known.next (an_expression role e) → (comes : ComesToIt program.facts known taken e)
-        → is_null_constant comes.found.erased ≡ true → within all known.next e ≡ e
-    unfolding judge_marked judge_after judge_cast
-    inside (c.Marked ms v) role plain taken value known isin comes null =
-        let e = c.Marked ms v in
-        let second = λ (typed : Marks) (k : Known). goes_on (expression v (inside_mark taken) k) (λ (x : Typed) (j : Known). finish known.next taken (judge_marked typed x) j) in
-        let a = part_goes (marks ms (entered known)) second comes.goes in
-        let inner = g.operands.0 program.facts known taken e comes a.0 a.1 a.2 in
-        let at = ended inner.behind known.next taken (judge_marked a.0 inner.found) comes.found comes.behind
-        (through (λ (x : Typed) (j : Known). finish known.next taken (judge_marked a.0 x) j) inner.goes (through second a.2 comes.goes)) in
-        let null_there : is_null_constant inner.found.erased ≡ true =
-        sym (ap (λ (it : Typed). is_null_constant it.erased) (at.found ∙ used_same taken (judge_marked a.0 inner.found).typed _ refl)) ∙ null in
-        let j = known.next + 1 + length (in_marks ms) in
-        let size : length (in_expression e) ≡ suc (length (in_marks ms) + length (in_expression v)) = ap suc (length-append (in_marks ms) (in_expression v)) in
-        let n : a.1.next ≡ j = omega (arith, ap (λ (it : Known). it.next) at.next, number_behind g s e taken known comes, number_behind g s v (inside_mark taken) a.1 inner, size) in
-        let it = subst (λ k. IsBare k v) n
-        (bare v role plain (inside_mark taken) (mark_value taken value) a.1 (subst (λ k. IsIn unit k (an_expression role v)) (sym n) (a_piece isin (inl refl))) inner null_there) in
-        ap (λ ls. c.Marked (joined ms ls) (decided all j (within all j v))) it.labels ∙ ap (λ ls. c.Marked ls (decided all j (within all j v))) (joined_none ms)
-        ∙ ap (c.Marked ms) (it.decided (within all j v) ∙ it.within)
-    inside (c.After v after tag) role plain taken value known isin comes null =
-        let e = c.After v after tag in
-        let inner = g.operands.0 program.facts known taken e comes in
-        let rest = through (λ (x : Typed) (k : Known). goes_on (finish known.next taken (judge_after taken x after tag k) k) (λ (result : Typed) (j : Known). Goes result (record j { labels = j.labels ++ label_of after tag [] ∷ [] })))
-        inner.goes comes.goes in
-        let labelled = labels_behind (finish known.next taken (judge_after taken inner.found after tag inner.behind) inner.behind) (λ (j : Known). record j { labels = j.labels ++ label_of after tag [] ∷ [] }) rest in
-        let at = ended inner.behind known.next taken (judge_after taken inner.found after tag inner.behind) comes.found labelled.0 labelled.1 in
-        let null_there : is_null_constant inner.found.erased ≡ true = used_erased is_null_constant as_value inner.found refl
-        (sym (ap (λ (it : Typed). is_null_constant it.erased) (at.found ∙ used_same taken (judge_after taken inner.found after tag inner.behind).typed _ refl)) ∙ null) in
-        let it = bare v role plain (inside_after taken) (after_value taken value) (entered known)
-        (subst (λ role. IsIn unit (known.next + 1) (an_expression role v)) (behind_same role plain) (a_piece isin (inl refl))) inner null_there in
-        ap (λ x. c.After x after tag) (bare_whole it)
-    inside (c.Decide v when_true when_false tag) role plain taken value known isin comes null = absurd (not_decided v when_true when_false tag taken known comes.behind comes.found value comes.goes)
-    inside (c.Comma list) role plain taken value known isin comes null = absurd (false≢true (sym (comma_varies list taken known comes.behind comes.found comes.goes) ∙ null))
-    inside (c.Cast types d v) role plain taken value known isin comes null =
-        let e = c.Cast types d v in
-        let last = λ (t : Declares) (x : Typed) (i : Known). finish known.next taken (also t.faults (judge_cast t.type x i)) i in
-        let third = λ (t : Declares) (j : Known). goes_on (expression v as_value j) (last t) in
-        let second = λ (it : Specified) (k : Known). goes_on (named d it k) third in
-        let a = part_goes (specifiers types elsewhere (entered known)) second comes.goes in
-        let behind_a = through second a.2 comes.goes in
-        let b = part_goes (named d a.0 a.1) third behind_a in
-        let behind_b = through third b.2 behind_a in
-        let inner = g.operands.0 program.facts known taken e comes a.0 a.1 a.2 b.0 b.1 b.2 in
-        let at = ended inner.behind known.next taken (also b.0.faults (judge_cast b.0.type inner.found inner.behind)) comes.found comes.behind (through (last b.0) inner.goes behind_b) in
-        let same = ap (λ (it : Typed). it.erased) (at.found ∙ used_same taken (judge_cast b.0.type inner.found inner.behind).typed _ refl) in
-        let size : length (in_expression e) ≡ suc (length (in_specifiers types) + length (in_declarator d) + length (in_expression v)) =
-        ap suc (length-append (in_specifiers types ++ in_declarator d) (in_expression v) ∙ ap (λ n. n + length (in_expression v)) (length-append (in_specifiers types) (in_declarator d))) in
-        let n = known.next + 1 + length (in_specifiers types) + length (in_declarator d) in
-        let is : b.1.next ≡ n = cast_number types d v known b.1.next inner.behind.next comes.behind.next (length (in_expression e)) (ap (λ (it : Known). it.next) at.next) (number_behind g s v as_value b.1 inner)
-        (number_behind g s e taken known comes) size in
-        elim (null_or_number comes.found.erased null) [
-          | inl is_it ↦
-              let zero = conversion_null inner.behind.model (unqualified b.0.type) inner.found.erased (ap is_null (sym same) ∙ is_it) in
-              let it = subst (λ k. IsBare k v) is
-              (bare v stands.as_value tt as_value refl b.1 (subst (λ k. IsIn unit k (an_expression stands.as_value v)) (sym is) (a_piece isin (inl refl))) inner (zero_is_null inner.found.erased zero.1)) in
-              ap (c.Cast types d) (bare_whole it)
-          | inr constant ↦ closed_within role known.next e isin (constant_closed role taken known e refl isin comes constant)
-        ]
-    inside e role plain taken value known isin comes null = elim (null_or_number comes.found.erased null) [
-      | inl is ↦ absurd (false≢true (sym (no_null_found e taken known comes.behind comes.found comes.goes refl) ∙ is))
-      | inr constant ↦ closed_within role known.next e isin (constant_closed role taken known e refl isin comes constant)
-    ]
+  inside : (e : c.Expression) (role : Role) → IsNoTruth role → (taken : Use) → is_truth taken ≡ false → (known : Known) → IsIn unit known.next (an_expression role e) → (comes : ComesToIt program.facts known taken e)
+      → is_null_constant comes.found.erased ≡ true → within all known.next e ≡ e
+  unfolding judge_marked judge_after judge_cast
+  inside (c.Marked ms v) role plain taken value known isin comes null =
+      let e = c.Marked ms v in
+      let second = λ (typed : Marks) (k : Known). goes_on (expression v (inside_mark taken) k) (λ (x : Typed) (j : Known). finish known.next taken (judge_marked typed x) j) in
+      let a = part_goes (marks ms (entered known)) second comes.goes in
+      let inner = g.operands.0 program.facts known taken e comes a.0 a.1 a.2 in
+      let at = ended inner.behind known.next taken (judge_marked a.0 inner.found) comes.found comes.behind
+      (through (λ (x : Typed) (j : Known). finish known.next taken (judge_marked a.0 x) j) inner.goes (through second a.2 comes.goes)) in
+      let null_there : is_null_constant inner.found.erased ≡ true =
+      sym (ap (λ (it : Typed). is_null_constant it.erased) (at.found ∙ used_same taken (judge_marked a.0 inner.found).typed _ refl)) ∙ null in
+      let j = known.next + 1 + length (in_marks ms) in
+      let size : length (in_expression e) ≡ suc (length (in_marks ms) + length (in_expression v)) = ap suc (length-append (in_marks ms) (in_expression v)) in
+      let n : a.1.next ≡ j = omega (arith, ap (λ (it : Known). it.next) at.next, number_behind g s e taken known comes, number_behind g s v (inside_mark taken) a.1 inner, size) in
+      let there : IsIn unit a.1.next (an_expression role v) = subst (λ k. IsIn unit k (an_expression role v)) (sym n) (a_piece isin (inl refl)) in
+      let it = subst (λ k. IsBare k v) n
+      (bare_if v role plain (inside_mark taken) a.1 there inner null_there (inside v role plain (inside_mark taken) (mark_value taken value) a.1 there inner null_there)) in
+      ap (λ ls. c.Marked (joined ms ls) (decided all j (within all j v))) it.labels ∙ ap (λ ls. c.Marked ls (decided all j (within all j v))) (joined_none ms)
+      ∙ ap (c.Marked ms) (it.decided (within all j v) ∙ it.within)
+  inside (c.After v after tag) role plain taken value known isin comes null =
+      let e = c.After v after tag in
+      let inner = g.operands.0 program.facts known taken e comes in
+      let rest = through (λ (x : Typed) (k : Known). goes_on (finish known.next taken (judge_after taken x after tag k) k) (λ (result : Typed) (j : Known). Goes result (record j { labels = j.labels ++ label_of after tag [] ∷ [] })))
+      inner.goes comes.goes in
+      let labelled = labels_behind (finish known.next taken (judge_after taken inner.found after tag inner.behind) inner.behind) (λ (j : Known). record j { labels = j.labels ++ label_of after tag [] ∷ [] }) rest in
+      let at = ended inner.behind known.next taken (judge_after taken inner.found after tag inner.behind) comes.found labelled.0 labelled.1 in
+      let null_there : is_null_constant inner.found.erased ≡ true = used_erased is_null_constant as_value inner.found refl
+      (sym (ap (λ (it : Typed). is_null_constant it.erased) (at.found ∙ used_same taken (judge_after taken inner.found after tag inner.behind).typed _ refl)) ∙ null) in
+      let there : IsIn unit (known.next + 1) (an_expression role v) = subst (λ role. IsIn unit (known.next + 1) (an_expression role v)) (behind_same role plain) (a_piece isin (inl refl)) in
+      let it = bare_if v role plain (inside_after taken) (entered known) there inner null_there
+      (inside v role plain (inside_after taken) (after_value taken value) (entered known) there inner null_there) in
+      ap (λ x. c.After x after tag) (bare_whole it)
+  inside (c.Decide v when_true when_false tag) role plain taken value known isin comes null = absurd (not_decided v when_true when_false tag taken known comes.behind comes.found value comes.goes)
+  inside (c.Comma list) role plain taken value known isin comes null = absurd (false≢true (sym (comma_varies list taken known comes.behind comes.found comes.goes) ∙ null))
+  inside (c.Cast types d v) role plain taken value known isin comes null =
+      let e = c.Cast types d v in
+      let last = λ (t : Declares) (x : Typed) (i : Known). finish known.next taken (also t.faults (judge_cast t.type x i)) i in
+      let third = λ (t : Declares) (j : Known). goes_on (expression v as_value j) (last t) in
+      let second = λ (it : Specified) (k : Known). goes_on (named d it k) third in
+      let a = part_goes (specifiers types elsewhere (entered known)) second comes.goes in
+      let behind_a = through second a.2 comes.goes in
+      let b = part_goes (named d a.0 a.1) third behind_a in
+      let behind_b = through third b.2 behind_a in
+      let inner = g.operands.0 program.facts known taken e comes a.0 a.1 a.2 b.0 b.1 b.2 in
+      let at = ended inner.behind known.next taken (also b.0.faults (judge_cast b.0.type inner.found inner.behind)) comes.found comes.behind (through (last b.0) inner.goes behind_b) in
+      let same = ap (λ (it : Typed). it.erased) (at.found ∙ used_same taken (judge_cast b.0.type inner.found inner.behind).typed _ refl) in
+      let size : length (in_expression e) ≡ suc (length (in_specifiers types) + length (in_declarator d) + length (in_expression v)) =
+      ap suc (length-append (in_specifiers types ++ in_declarator d) (in_expression v) ∙ ap (λ n. n + length (in_expression v)) (length-append (in_specifiers types) (in_declarator d))) in
+      let n = known.next + 1 + length (in_specifiers types) + length (in_declarator d) in
+      let is : b.1.next ≡ n = cast_number types d v known b.1.next inner.behind.next comes.behind.next (length (in_expression e)) (ap (λ (it : Known). it.next) at.next) (number_behind g s v as_value b.1 inner)
+      (number_behind g s e taken known comes) size in
+      elim (null_or_number comes.found.erased null) [
+        | inl is_it ↦
+            let zero = conversion_null inner.behind.model (unqualified b.0.type) inner.found.erased (ap is_null (sym same) ∙ is_it) in
+            let there : IsIn unit b.1.next (an_expression stands.as_value v) = subst (λ k. IsIn unit k (an_expression stands.as_value v)) (sym is) (a_piece isin (inl refl)) in
+            let null_there = zero_is_null inner.found.erased zero.1 in
+            let it = subst (λ k. IsBare k v) is (bare_if v stands.as_value tt as_value b.1 there inner null_there (inside v stands.as_value tt as_value refl b.1 there inner null_there)) in
+            ap (c.Cast types d) (bare_whole it)
+        | inr constant ↦ closed_within role known.next e isin (constant_closed role taken known e refl isin comes constant)
+      ]
+  inside e role plain taken value known isin comes null = elim (null_or_number comes.found.erased null) [
+    | inl is ↦ absurd (false≢true (sym (no_null_found e taken known comes.behind comes.found comes.goes refl) ∙ is))
+    | inr constant ↦ closed_within role known.next e isin (constant_closed role taken known e refl isin comes constant)
+  ]
+
+  -- nothing is marked in a null pointer constant, nor in front of it
+  pub bare : (e : c.Expression) (role : Role) → IsNoTruth role → (taken : Use) → is_truth taken ≡ false → (known : Known) → IsIn unit known.next (an_expression role e) → (comes : ComesToIt program.facts known taken e)
+      → is_null_constant comes.found.erased ≡ true → IsBare known.next e
+  bare e role plain taken value known isin comes null = bare_if e role plain taken known isin comes null (inside e role plain taken value known isin comes null)

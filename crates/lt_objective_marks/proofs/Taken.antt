@@ -58,7 +58,7 @@ behind_marks_type ms value role known k j behind typed x z first second whole =
     (through (λ (typed : Marks) (k : Known). goes_on (expression value (inside_mark role) k) (λ (x : Typed) (j : Known). finish known.next role (judge_marked typed x) j)) first whole)) in
     (ap own_type at.found ∙ used_value role (judge_marked typed x).typed _ refl, ap (λ (it : Known). it.next) at.next)
 
-labels_behind : {z : Typed} {behind : Known} (o : Outcome Typed) (f : Known → Known) → goes_on o (λ x k. Goes x (f k)) ≡ Goes z behind → (k : Known) × (o ≡ Goes z k)
+pub labels_behind : {z : Typed} {behind : Known} (o : Outcome Typed) (f : Known → Known) → goes_on o (λ x k. Goes x (f k)) ≡ Goes z behind → (k : Known) × (o ≡ Goes z k)
 labels_behind {z} (Goes x k) f is = let same : x ≡ z = cc in (k, ap (λ (it : Typed). Goes it k) same)
 labels_behind (Breaks rule node) f is = absurd cc
 
