@@ -72,7 +72,7 @@ is_decision unit k = is_some (decided_at (decisions unit) k)
 at_node_is : (unit : c.Unit) (program : Program) (combination : Combination) (k : ℕ) (node : Node)
     → at_node unit program (criterion_of combination) (site k node) ≡ shown combination k (candidate node (is_open unit program k) (is_decision unit k))
 at_node_is unit program combination k (an_expression e) =
-    at_core combination k e (at_test (criterion_of combination) (decided_at (decisions unit) k) (decided_at (clauses unit) k) k (erased e)) (differences unit program (criterion_of combination) k e)
+    at_core combination k e (at_test (criterion_of combination) (decided_at (decisions unit) k) (decided_at (clauses unit) k) k e) (differences unit program (criterion_of combination) k e)
     (is_core e) (is_open unit program k) (is_decision unit k) (test_is combination (decided_at (decisions unit) k) (decided_at (clauses unit) k) k e) (no_difference unit program combination k e)
 at_node_is unit program combination k (an_external (c.Defines s d body)) =
     ap (all_at k at_start (criterion_of combination)) (no_body unit program combination k) ∙ nothing combination k (is_open unit program k && is_decision unit k)

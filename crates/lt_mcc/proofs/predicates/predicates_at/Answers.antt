@@ -20,5 +20,5 @@ returns c unit program node known at =
     (λ made is. are_predicates unit program c.args.combination c.args.k node (Some e) made.items found is)
     c.combined.ensures
 
-pub combined-requires-clause-same : goal.combined-requires-clause-same
-combined-requires-clause-same c = ap expression_of c.deref.ensures ∙ ap expression_of c.in_ok-plain.ensures.ok ∙ c.in_ok-expression.ensures
+pub combined-requires : goal.combined-requires
+combined-requires c = record { same = ap expression_of c.deref.ensures ∙ ap expression_of c.in_ok-plain.ensures.ok ∙ c.in_ok-expression.ensures }
