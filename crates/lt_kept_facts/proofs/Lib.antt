@@ -1,0 +1,13 @@
+pub mod SeenAlike
+pub mod SeenOperators
+pub mod SeenBinaryOperators
+pub mod MarksEnd
+pub mod SeenNodes
+pub mod KeptSteps
+pub mod KeptNodes
+pub mod KeptOperators
+pub mod KeptLeaves
+pub mod KeptMarks
+pub mod KeptOld
+pub mod KeptAgain
+pub mod KeptLaws
