@@ -1,0 +1,8 @@
+mod OldExpressions
+mod OldStatements
+mod Pure
+mod Predicates
+mod Numbers
+mod OldIds
+mod Alike
+mod Rounds
