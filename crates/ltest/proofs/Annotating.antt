@@ -76,7 +76,7 @@ alone_so never law model set text unit short bytes has =
     let lexes : Lexes text it.spells.tokens None = it.spells.lexes.0 in
     let good : IsWellMade it.unit = record { text = text; bytes = bytes; tokens = it.spells.tokens; lexes = lexes; spots = it.spots; derives = it.spells.derives } in
     let none = λ (pass : IdsPass (criteria_in set) it.unit has.program (first_id it.unit)).
-        never model text it.spells.tokens it.unit it.spots has.program set short lexes it.spells.derives it.typed pass in
+    never model text it.spells.tokens it.unit it.spots has.program set short lexes it.spells.derives it.typed pass in
     let greatest = no_greater_id (ids_of_unit it.unit) in
     let first : first_id it.unit ≤ most_id + 1 = omega arith in
     let low = behind_low (criteria_in set) it.unit has.program (first_id it.unit) first none in
