@@ -3,7 +3,7 @@ use Rattle.std.specs.Prelude.{◌≡◌, List, map, Result, Ok, Err, OnOk}
 use Rattle.lt_tree.specs.Typing.Types.{CType}
 use Rattle.lt_tree.specs.Typing.TypeRows.{types_of_rows, Continues, Lasts}
 use Rattle.lt_tree.specs.Typing.EntityView.{rule_of, object_of, declared_of, function_of, label_of, fact_of}
-use Rattle.lt_tree.specs.Typing.Entities.{Known}
+use Rattle.lt_tree.specs.Typing.Entities.{Known, greatest_written_id}
 use Rattle.lt_tree.specs.Typing.Steps.{Outcome, Walk}
 use Rattle.lt_tree.specs.Typing.Steps as steps
 use Rattle.lt_table.specs.TypesValue.{structs_at}
@@ -21,6 +21,7 @@ known_of types w = record {
   model = w.types.model;
   defined = w.defined;
   next = w.next;
+  greatest_id = greatest_written_id;
   is_unmarked = w.is_unmarked;
   frames = frames_at types w.names;
   structs = structs_at types w.types;

@@ -1,7 +1,7 @@
--- What typing keeps as it goes over parts of a unit: the functions found so far; and the ids of the parts are in range.
-use Rattle.std.proofs.Common.{◌≡◌, ◌≤◌, ℕ, ◌+◌, List, [], ◌∷◌, ◌++◌, Bool, true, false, Option, Some, None, refl, sym, subst, append_assoc, arith}
+-- What typing keeps as it goes over parts of a unit as it is written: the functions found so far; and the ids of the parts are in range.
+use Rattle.std.proofs.Common.{◌≡◌, ◌≤◌, ℕ, ◌+◌, List, [], ◌∷◌, ◌++◌, Bool, true, false, Option, Some, None, refl, sym, ap, ◌∙◌, subst, append_assoc, arith}
 use Rattle.std.specs.Prelude.{ℤ, pos, negsuc, nat_le, ◌&&◌, if◌then◌else◌}
-use Rattle.std.specs.Cmp.{second_so}
+use Rattle.std.specs.Cmp.{first_so}
 use Rattle.std.proofs.lemmas.List.{append-nil}
 use Rattle.std.proofs.lemmas.Bool.{false≢true}
 use Rattle.std.proofs.lemmas.Bool.Decides.{nat_tests}
@@ -9,8 +9,8 @@ use Rattle.lt_tree.specs.Constants.{value_of}
 use Rattle.lt_tree.specs.Ids.{within, greatest_id}
 use Rattle.lt_tree.specs.Typing.Rules.{Rule, least, unless}
 use Rattle.lt_tree.specs.Typing.Operands.{holds}
-use Rattle.lt_tree.specs.Typing.MarkRules.{greatest_written_id, id_from, is_new_id, is_good_id}
-use Rattle.lt_tree.specs.Typing.Entities.{Known, Function, Frame, no_names}
+use Rattle.lt_tree.specs.Typing.MarkRules.{id_from, is_new_id, is_good_id}
+use Rattle.lt_tree.specs.Typing.Entities.{Known, Function, Frame, no_names, greatest_written_id, greatest_label_id}
 use Rattle.lt_tree.specs.Typing.Steps.{Outcome, Goes, Breaks, goes_on, unless_broken, settle, gives, left, marked_again}
 use Rattle.lt_tree.specs.Typing.Expressions.{Use, Judged, faults_of_any, finish}
 
@@ -30,26 +30,30 @@ at_most false n = omega arith
 below : (n : ℕ) → nat_le n greatest_written_id ≡ true → n ≤ greatest_written_id
 below n h = grind (arith, nat_tests)
 
-good_value : (known : Known) (z : Option ℤ) → holds (is_new_id known) (id_from z) ≡ true → within z ≤ greatest_written_id
-good_value known None h = omega arith
-good_value known (Some (negsuc n)) h = omega arith
-good_value known (Some (pos n)) h = by (nat_le 1 n && nat_le n greatest_written_id) refl h
+good_value : (known : Known) (z : Option ℤ) → known.greatest_id ≡ greatest_written_id → holds (λ n. nat_le n known.greatest_id && is_new_id known n) (id_from z) ≡ true → within z ≤ greatest_written_id
+good_value known None g h = omega arith
+good_value known (Some (negsuc n)) g h = omega arith
+good_value known (Some (pos n)) g h = by (nat_le 1 n && nat_le n greatest_label_id) h
   where
-    by : (b : Bool) → (nat_le 1 n && nat_le n greatest_written_id) ≡ b → holds (is_new_id known) (if b then Some n else None) ≡ true → within (Some (pos n)) ≤ greatest_written_id
-    by true e h =
-        let low = below n (second_so (nat_le 1 n) (nat_le n greatest_written_id) e) in
+    by : (b : Bool) → holds (λ n. nat_le n known.greatest_id && is_new_id known n) (if b then Some n else None) ≡ true → within (Some (pos n)) ≤ greatest_written_id
+    by true h =
+        let low = below n (sym (ap (nat_le n) g) ∙ first_so (nat_le n known.greatest_id) (is_new_id known n) h) in
         let most = at_most (nat_le n 2147483647) n in
         omega (arith, low, most)
-    by false e h = absurd (false≢true h)
+    by false h = absurd (false≢true h)
 
-pub good_id : (known : Known) (id : List ℕ) → is_good_id known id ≡ true → AreLow (id ∷ [])
-good_id known id h = let low = good_value known (value_of id) h in omega (arith, low)
+pub good_id : (known : Known) (id : List ℕ) → known.greatest_id ≡ greatest_written_id → is_good_id known id ≡ true → AreLow (id ∷ [])
+good_id known id g h = let low = good_value known (value_of id) g h in omega (arith, low)
 
 -- ---- what is kept
 
+-- the functions are these, and ids go to the greatest that a text may have
+abbrev pub Has : List Function → Known → Type 0
+Has fs known = (known.functions ≡ fs) × (known.greatest_id ≡ greatest_written_id)
+
 -- The functions are these, the ids are in range, and this is so of what is given, unless a rule is broken.
 pub data Keeps {A : Type 0} (fs : List Function) (ids : List (List ℕ)) (Is : A → Type 0) : Outcome A → Type 0 where
-  went : {a : A} {known : Known} → known.functions ≡ fs → AreLow ids → Is a → Keeps fs ids Is (Goes a known)
+  went : {a : A} {known : Known} → Has fs known → AreLow ids → Is a → Keeps fs ids Is (Goes a known)
   broke : {rule : Rule} {node : ℕ} → Keeps fs ids Is (Breaks rule node)
 
 -- nothing is said of it
@@ -58,7 +62,7 @@ Any a = Unit {0}
 
 module _ {fs : List Function} where
   -- nothing more
-  pub done : {A : Type 0} {Is : A → Type 0} {a : A} {known : Known} → known.functions ≡ fs → Is a → Keeps fs [] Is (Goes a known)
+  pub done : {A : Type 0} {Is : A → Type 0} {a : A} {known : Known} → Has fs known → Is a → Keeps fs [] Is (Goes a known)
   done h is = went h (omega arith) is
 
   also : {B : Type 0} (xs : List (List ℕ)) {ys : List (List ℕ)} {Is : B → Type 0} {o : Outcome B} → AreLow xs → Keeps fs ys Is o → Keeps fs (xs ++ ys) Is o
@@ -67,7 +71,7 @@ module _ {fs : List Function} where
 
   -- two parts, one behind the other
   pub joined : {A B : Type 0} {xs ys : List (List ℕ)} {Was : A → Type 0} {Is : B → Type 0} {o : Outcome A} {rest : A → Known → Outcome B}
-      → Keeps fs xs Was o → ((a : A) (k : Known) → k.functions ≡ fs → Was a → Keeps fs ys Is (rest a k)) → Keeps fs (xs ++ ys) Is (goes_on o rest)
+      → Keeps fs xs Was o → ((a : A) (k : Known) → Has fs k → Was a → Keeps fs ys Is (rest a k)) → Keeps fs (xs ++ ys) Is (goes_on o rest)
   joined {A} {B} {xs} (went {a} {known} h low was) f = also xs low (f a known h was)
   joined broke f = broke
 
@@ -76,17 +80,17 @@ module _ {fs : List Function} where
 
   -- behind a part no ids follow
   pub after : {A B : Type 0} {xs : List (List ℕ)} {Was : A → Type 0} {Is : B → Type 0} {o : Outcome A} {rest : A → Known → Outcome B}
-      → Keeps fs xs Was o → ((a : A) (k : Known) → k.functions ≡ fs → Was a → Keeps fs [] Is (rest a k)) → Keeps fs xs Is (goes_on o rest)
+      → Keeps fs xs Was o → ((a : A) (k : Known) → Has fs k → Was a → Keeps fs [] Is (rest a k)) → Keeps fs xs Is (goes_on o rest)
   after {A} {B} {xs} c f = at_end xs (joined c f)
 
   -- in front of a part there are none
   pub quiet : {A B : Type 0} {ys : List (List ℕ)} {Was : A → Type 0} {Is : B → Type 0} {o : Outcome A} {rest : A → Known → Outcome B}
-      → Keeps fs [] Was o → ((a : A) (k : Known) → k.functions ≡ fs → Was a → Keeps fs ys Is (rest a k)) → Keeps fs ys Is (goes_on o rest)
+      → Keeps fs [] Was o → ((a : A) (k : Known) → Has fs k → Was a → Keeps fs ys Is (rest a k)) → Keeps fs ys Is (goes_on o rest)
   quiet c f = joined c f
 
   -- an id that is judged behind a part, and stands in front of its ids
   pub with_id : {A B : Type 0} {id : List ℕ} {xs : List (List ℕ)} {Was : A → Type 0} {Is : B → Type 0} {o : Outcome A} {rest : A → Known → Outcome B}
-      → Keeps fs xs Was o → ((a : A) (k : Known) → k.functions ≡ fs → Was a → Keeps fs (id ∷ []) Is (rest a k)) → Keeps fs (id ∷ xs) Is (goes_on o rest)
+      → Keeps fs xs Was o → ((a : A) (k : Known) → Has fs k → Was a → Keeps fs (id ∷ []) Is (rest a k)) → Keeps fs (id ∷ xs) Is (goes_on o rest)
   with_id {A} {B} {id} {xs} {Was} {Is} (went {a} {known} h low was) f = in_front (f a known h was)
     where
       in_front : {o : Outcome B} → Keeps fs (id ∷ []) Is o → Keeps fs (id ∷ xs) Is o
@@ -100,18 +104,18 @@ module _ {fs : List Function} where
   -- ---- ends of nodes
 
   -- Where rules are broken the walk ends; so none of the first is.
-  pub judges_if : {ids : List (List ℕ)} (node : ℕ) (first others : List Rule) (known : Known) → known.functions ≡ fs → (first ≡ [] → AreLow ids) → Keeps fs ids Any (settle node (first ++ others) known)
+  pub judges_if : {ids : List (List ℕ)} (node : ℕ) (first others : List Rule) (known : Known) → Has fs known → (first ≡ [] → AreLow ids) → Keeps fs ids Any (settle node (first ++ others) known)
   judges_if {ids} node [] others known h low = elim (least others) as (λ rule. Keeps fs ids Any (unless_broken rule node known)) [ None ↦ went h (low refl) tt | Some rule ↦ broke ]
   judges_if node (rule ∷ rules) others known h low = broke
 
-  pub judges : (node : ℕ) (rules : List Rule) (known : Known) → known.functions ≡ fs → Keeps fs [] Any (settle node rules known)
+  pub judges : (node : ℕ) (rules : List Rule) (known : Known) → Has fs known → Keeps fs [] Any (settle node rules known)
   judges node rules known h = judges_if node [] rules known h (λ e. omega arith)
 
-  pub finished_if : {ids : List (List ℕ)} (node : ℕ) (role : Use) (it : Judged) (known : Known) → known.functions ≡ fs → (it.faults ≡ [] → AreLow ids) → Keeps fs ids Any (finish node role it known)
+  pub finished_if : {ids : List (List ℕ)} (node : ℕ) (role : Use) (it : Judged) (known : Known) → Has fs known → (it.faults ≡ [] → AreLow ids) → Keeps fs ids Any (finish node role it known)
   unfolding finish
   finished_if node role it known h low = after (judges_if node it.faults (faults_of_any known.structs role it.typed) known h low) (λ u k h w. done h tt)
 
-  pub finished : (node : ℕ) (role : Use) (it : Judged) (known : Known) → known.functions ≡ fs → Keeps fs [] Any (finish node role it known)
+  pub finished : (node : ℕ) (role : Use) (it : Judged) (known : Known) → Has fs known → Keeps fs [] Any (finish node role it known)
   finished node role it known h = finished_if node role it known h (λ e. omega arith)
 
   -- ---- scopes

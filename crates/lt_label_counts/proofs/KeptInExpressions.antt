@@ -1,6 +1,6 @@
 -- Typing of expressions, and of what stands inside them, keeps the functions; ids are in range, and a declarator has no more objects than names of
 -- parameters.
-use Rattle.std.proofs.Common.{◌≡◌, ◌≤◌, ℕ, ◌+◌, Bool, true, false, List, [], ◌∷◌, ◌++◌, length, Option, Some, None, refl, ap, ◌∙◌, subst, arith}
+use Rattle.std.proofs.Common.{◌≡◌, ◌≤◌, ℕ, ◌+◌, Bool, true, false, List, [], ◌∷◌, ◌++◌, length, Option, Some, None, refl, ap, subst, arith}
 use Rattle.std.specs.Prelude.{ℤ, pos, not, ◌&&◌, ◌==◌, if◌then◌else◌}
 use Rattle.std.specs.List.{list_all}
 use Rattle.std.specs.Cmp.{first_so, second_so}
@@ -25,7 +25,7 @@ use Rattle.lt_tree.specs.Typing.Declarators.{Built, Parameters, Declares, all_fa
 use Rattle.lt_tree.specs.Typing.NodeEnds.{text_object, text_at, judge_unary, operand_of, also, is_no_declarator, alone_faults, enter_if, end_of_declarator}
 use Rattle.lt_tree.specs.Typing.ExpressionTyping.{expression, expressions, maybe, marks, mark, bindings, specifiers, type_specifiers, type_specifier, members, struct_member, member_declarators, enumerators, declarator, parts, parameters, parameter_list}
 use Rattle.lt_tree.specs.Typing.UnitTyping.{objects_of}
-use Rattle.lt_label_counts.proofs.Keeping.{low_both, good_id, Keeps, Any, done, joined, after, quiet, with_id, grouped, judges_if, judges, finished_if, finished, unmarked, scoped, holds_unless, entered, unmarked_here, in_new_frame}
+use Rattle.lt_label_counts.proofs.Keeping.{low_both, good_id, Has, Keeps, Any, done, joined, after, quiet, with_id, grouped, judges_if, judges, finished_if, finished, unmarked, scoped, holds_unless, entered, unmarked_here, in_new_frame}
 
 -- ---- names of parameters
 
@@ -74,10 +74,10 @@ fourth p q r s t u v h = (fourth_and_fifth p q r s t u v h).0
 third : (p q r s : Bool) → (p && q && r && s) ≡ true → r ≡ true
 third p q r s h = second_so (p && q) r (first_so (p && q && r) s h)
 
-closed : (is_complete : Bool) (opened : OpenStruct) (list : List Member) (known : Known)
-    → ((if is_complete then (λ it. it) else with_members opened.number list) known).functions ≡ known.functions
-closed true opened list known = refl
-closed false opened list known = refl
+closed : {fs : List Function} (is_complete : Bool) (opened : OpenStruct) (list : List Member) (known : Known) → Has fs known
+    → Has fs ((if is_complete then (λ it. it) else with_members opened.number list) known)
+closed true opened list known h = h
+closed false opened list known h = h
 
 as_many : (name : Option (List ℕ)) (n : ℕ) (declared : Declares) (objects : List ℕ) (others : Parameters) → declared.name ≡ name → length objects ≤ if_named declared.name → length others.objects ≤ n
     → length (objects ++ others.objects) ≤ if_named name + n
@@ -89,75 +89,75 @@ as_many name n declared objects others is one few =
 module _ {fs : List Function} where
   -- ---- what has no ids
 
-  of_struct_tag : (tag : List ℕ) (found : Option Tagged) (known : Known) → known.functions ≡ fs → Keeps fs [] Any (struct_tagged tag found known)
+  of_struct_tag : (tag : List ℕ) (found : Option Tagged) (known : Known) → Has fs known → Keeps fs [] Any (struct_tagged tag found known)
   of_struct_tag tag None known h = done h tt
   of_struct_tag tag (Some (a_struct k)) known h = done h tt
   of_struct_tag tag (Some (an_enum is_complete)) known h = done h tt
 
-  of_open_tag : (tag : List ℕ) (found : Option Tagged) (known : Known) → known.functions ≡ fs → Keeps fs [] Any (open_tagged tag found known)
+  of_open_tag : (tag : List ℕ) (found : Option Tagged) (known : Known) → Has fs known → Keeps fs [] Any (open_tagged tag found known)
   of_open_tag tag None known h = done h tt
   of_open_tag tag (Some (a_struct k)) known h = done h tt
   of_open_tag tag (Some (an_enum is_complete)) known h = done h tt
 
-  of_open_struct : (tag : Option (List ℕ)) (known : Known) → known.functions ≡ fs → Keeps fs [] Any (open_struct tag known)
+  of_open_struct : (tag : Option (List ℕ)) (known : Known) → Has fs known → Keeps fs [] Any (open_struct tag known)
   of_open_struct None known h = done h tt
   of_open_struct (Some tag) known h = of_open_tag tag (tag_here tag known) known h
 
-  of_close : (opened : OpenStruct) (list : List Member) (known : Known) → known.functions ≡ fs → Keeps fs [] Any (close_struct opened list known)
-  of_close opened list known h = done (closed (is_complete_struct known.structs opened.number) opened list known ∙ h) tt
+  of_close : (opened : OpenStruct) (list : List Member) (known : Known) → Has fs known → Keeps fs [] Any (close_struct opened list known)
+  of_close opened list known h = done (closed (is_complete_struct known.structs opened.number) opened list known h) tt
 
-  of_open_enum : (tag : Option (List ℕ)) (known : Known) → known.functions ≡ fs → Keeps fs [] Any (open_enum tag known)
+  of_open_enum : (tag : Option (List ℕ)) (known : Known) → Has fs known → Keeps fs [] Any (open_enum tag known)
   of_open_enum None known h = done h tt
   of_open_enum (Some tag) known h = done h tt
 
-  of_close_enum : (tag : Option (List ℕ)) (faults : List Rule) (known : Known) → known.functions ≡ fs → Keeps fs [] Any (close_enum tag faults known)
+  of_close_enum : (tag : Option (List ℕ)) (faults : List Rule) (known : Known) → Has fs known → Keeps fs [] Any (close_enum tag faults known)
   of_close_enum None faults known h = done h tt
   of_close_enum (Some tag) faults known h = done h tt
 
-  of_binding_parameter : (is_definition is_register : Bool) (at : ℕ) (name : Option (List ℕ)) (t : CType) (known : Known) → known.functions ≡ fs
+  of_binding_parameter : (is_definition is_register : Bool) (at : ℕ) (name : Option (List ℕ)) (t : CType) (known : Known) → Has fs known
       → Keeps fs [] (λ (objects : List ℕ). length objects ≤ if_named name) (binds_parameter is_definition is_register at name t known)
   of_binding_parameter is_definition is_register at None t known h = done h (omega arith)
   of_binding_parameter is_definition is_register at (Some name) t known h = done h (omega arith)
 
-  may_enter : (written : Bool) (known : Known) → known.functions ≡ fs → Keeps fs [] Any (enter_if written known)
+  may_enter : (written : Bool) (known : Known) → Has fs known → Keeps fs [] Any (enter_if written known)
   may_enter true known h = done h tt
   may_enter false known h = done h tt
 
-  ended_declarator : (n : ℕ) (node : Option ℕ) (name : Option (List ℕ)) (b : Built) (faults : List Rule) (known : Known) → known.functions ≡ fs → HasFew n b.parameters
+  ended_declarator : (n : ℕ) (node : Option ℕ) (name : Option (List ℕ)) (b : Built) (faults : List Rule) (known : Known) → Has fs known → HasFew n b.parameters
       → Keeps fs [] (λ (it : Declares). (it.name ≡ name) × HasFew n it.parameters) (end_of_declarator node name b faults known)
   ended_declarator n None name b faults known h few = done h (refl, few)
   ended_declarator n (Some node) name b faults known h few = after (judges node faults known h) (λ u k h w. done h (refl, few))
 
   -- ---- what has ids
 
-  decided : (node : ℕ) (role : Use) (x : Typed) (when_true when_false tag : List ℕ) (k : Known) → k.functions ≡ fs
+  decided : (node : ℕ) (role : Use) (x : Typed) (when_true when_false tag : List ℕ) (k : Known) → Has fs k
       → Keeps fs (when_true ∷ when_false ∷ []) Any (finish node role (judge_decide role x when_true when_false tag k) k)
   unfolding judge_decide
   decided node role x when_true when_false tag k h =
       finished_if node role (judge_decide role x when_true when_false tag k) k h (λ e.
       let good = holds_unless (is_good_decision role k x when_true when_false tag) bad_mark e in
       let both = fourth_and_fifth (is_truth role) (not k.is_unmarked) (is_scalar (own_type x)) (is_good_id k when_true) (is_good_id k when_false) (not (number_of_id when_true == number_of_id when_false)) (is_tag tag) good in
-      low_both (when_true ∷ []) (when_false ∷ []) (good_id k when_true both.0) (good_id k when_false both.1))
+      low_both (when_true ∷ []) (when_false ∷ []) (good_id k when_true h.1 both.0) (good_id k when_false h.1 both.1))
 
-  noted : (node : ℕ) (role : Use) (x : Typed) (id tag : List ℕ) (k : Known) → k.functions ≡ fs → Keeps fs (id ∷ []) Any (finish node role (judge_after role x id tag k) k)
+  noted : (node : ℕ) (role : Use) (x : Typed) (id tag : List ℕ) (k : Known) → Has fs k → Keeps fs (id ∷ []) Any (finish node role (judge_after role x id tag k) k)
   unfolding judge_after
   noted node role x id tag k h =
       finished_if node role (judge_after role x id tag k) k h (λ e.
       let good = holds_unless (not (is_lvalue_in_use role x) && not k.is_unmarked && is_good_id k id && is_tag tag) bad_mark e in
-      good_id k id (third (not (is_lvalue_in_use role x)) (not k.is_unmarked) (is_good_id k id) (is_tag tag) good))
+      good_id k id h.1 (third (not (is_lvalue_in_use role x)) (not k.is_unmarked) (is_good_id k id) (is_tag tag) good))
 
-  labelled : (node : ℕ) (predicate : c.Expression) (x : Typed) (id tag : List ℕ) (bs : List TypedBinding) (k : Known) → k.functions ≡ fs
+  labelled : (node : ℕ) (predicate : c.Expression) (x : Typed) (id tag : List ℕ) (bs : List TypedBinding) (k : Known) → Has fs k
       → Keeps fs (id ∷ []) Any (settle node (unless (is_good_mark k predicate x id tag bs) bad_mark) k)
   labelled node predicate x id tag bs k h =
       subst (λ rules. Keeps fs (id ∷ []) Any (settle node rules k)) (append-nil (unless (is_good_mark k predicate x id tag bs) bad_mark))
       (judges_if node (unless (is_good_mark k predicate x id tag bs) bad_mark) [] k h (λ e.
       let good = holds_unless (is_good_mark k predicate x id tag bs) bad_mark e in
-      good_id k id (fourth (not k.is_unmarked) (is_scalar (own_type x)) (is_pure predicate) (is_good_id k id) (is_tag tag) (list_all is_good_binding bs) (are_new_names k (names_of bs)) good)))
+      good_id k id h.1 (fourth (not k.is_unmarked) (is_scalar (own_type x)) (is_pure predicate) (is_good_id k id) (is_tag tag) (list_all is_good_binding bs) (are_new_names k (names_of bs)) good)))
 
   -- ---- expressions
 
   mutual
-    pub of_expression : (it : c.Expression) (role : Use) (known : Known) → known.functions ≡ fs → Keeps fs (ids_in it) Any (expression it role known)
+    pub of_expression : (it : c.Expression) (role : Use) (known : Known) → Has fs known → Keeps fs (ids_in it) Any (expression it role known)
     of_expression (c.Name name) role known h = finished _ role (judge_name role name (meaning_of name known) (entered known)) (entered known) h
     of_expression (c.Constant text) role known h = finished _ role (judge_constant (constant_of known.model text)) (entered known) h
     of_expression (c.Text bytes) role known h =
@@ -198,34 +198,34 @@ module _ {fs : List Function} where
     of_expression (c.After operand id tag) role known h =
         joined (of_expression operand (inside_after role) (entered known) h) (λ x k h w. after (noted _ role x id tag k h) (λ result k h w. done h tt))
 
-    of_expressions : (them : c.Expressions) (known : Known) → known.functions ≡ fs → Keeps fs (ids_in_expressions them) Any (expressions them known)
+    of_expressions : (them : c.Expressions) (known : Known) → Has fs known → Keeps fs (ids_in_expressions them) Any (expressions them known)
     of_expressions c.no_expressions known h = done h tt
     of_expressions (c.an_expression first rest) known h = joined (of_expression first as_value known h) (λ x k h w. after (of_expressions rest k h) (λ xs k h w. done h tt))
 
-    of_maybe : (it : c.Maybe) (known : Known) → known.functions ≡ fs → Keeps fs (ids_in_maybe it) Any (maybe it known)
+    of_maybe : (it : c.Maybe) (known : Known) → Has fs known → Keeps fs (ids_in_maybe it) Any (maybe it known)
     of_maybe c.absent known h = done h tt
     of_maybe (c.present e) known h = after (unmarked known.is_unmarked (of_expression e as_value (unmarked_here known) h)) (λ x k h w. done h tt)
 
-    of_marks : (them : c.Marks) (known : Known) → known.functions ≡ fs → Keeps fs (ids_in_marks them) Any (marks them known)
+    of_marks : (them : c.Marks) (known : Known) → Has fs known → Keeps fs (ids_in_marks them) Any (marks them known)
     of_marks c.no_marks known h = done h tt
     of_marks (c.a_mark first rest) known h = joined (of_mark first known h) (λ m k h w. after (of_marks rest k h) (λ ms k h w. done h tt))
 
-    pub of_mark : (it : c.Mark) (known : Known) → known.functions ≡ fs → Keeps fs (ids_in_mark it) Any (mark it known)
+    pub of_mark : (it : c.Mark) (known : Known) → Has fs known → Keeps fs (ids_in_mark it) Any (mark it known)
     of_mark (c.mark predicate id tag bound) known h =
         joined (of_expression predicate as_value (entered known) h) (λ x k h w. with_id (of_bindings bound k h) (λ bs k h w. after (labelled _ predicate x id tag bs k h) (λ u k h w. done h tt)))
 
-    of_bindings : (them : c.Bindings) (known : Known) → known.functions ≡ fs → Keeps fs (ids_in_bindings them) Any (bindings them known)
+    of_bindings : (them : c.Bindings) (known : Known) → Has fs known → Keeps fs (ids_in_bindings them) Any (bindings them known)
     of_bindings c.no_bindings known h = done h tt
     of_bindings (c.a_binding name value rest) known h = joined (of_expression value as_value known h) (λ x k h w. after (of_bindings rest k h) (λ bs k h w. done h tt))
 
-    pub of_specifiers : (it : c.Specifiers) (setting : Setting) (known : Known) → known.functions ≡ fs → Keeps fs (ids_in_specifiers it) Any (specifiers it setting known)
+    pub of_specifiers : (it : c.Specifiers) (setting : Setting) (known : Known) → Has fs known → Keeps fs (ids_in_specifiers it) Any (specifiers it setting known)
     of_specifiers (c.specifiers words types) setting known h = after (of_types types (beside_words words setting) known h) (λ namings k h w. done h tt)
 
-    of_types : (them : c.TypeSpecifiers) (setting : Setting) (known : Known) → known.functions ≡ fs → Keeps fs (ids_in_types them) Any (type_specifiers them setting known)
+    of_types : (them : c.TypeSpecifiers) (setting : Setting) (known : Known) → Has fs known → Keeps fs (ids_in_types them) Any (type_specifiers them setting known)
     of_types c.no_types setting known h = done h tt
     of_types (c.a_type first rest) setting known h = joined (of_type first setting known h) (λ it k h w. after (of_types rest setting k h) (λ others k h w. done h tt))
 
-    of_type : (it : c.TypeSpecifier) (setting : Setting) (known : Known) → known.functions ≡ fs → Keeps fs (ids_in_type it) Any (type_specifier it setting known)
+    of_type : (it : c.TypeSpecifier) (setting : Setting) (known : Known) → Has fs known → Keeps fs (ids_in_type it) Any (type_specifier it setting known)
     of_type (c.Basic type) setting known h = done h tt
     of_type (c.Word word) setting known h = done h tt
     of_type (c.StructTag tag) setting known h = of_struct_tag tag (if is_alone setting then tag_here tag known else tagged_in tag known.frames) known h
@@ -235,36 +235,36 @@ module _ {fs : List Function} where
     of_type (c.Enum tag list) setting known h = quiet (of_open_enum tag known h) (λ faults k h w. after (of_enumerators list (pos 0) k h) (λ u k h w. of_close_enum tag faults k h))
     of_type (c.Named name) setting known h = done h tt
 
-    of_members : (them : c.Members) (list : List Member) (known : Known) → known.functions ≡ fs → Keeps fs (ids_in_members them) Any (members them list known)
+    of_members : (them : c.Members) (list : List Member) (known : Known) → Has fs known → Keeps fs (ids_in_members them) Any (members them list known)
     of_members c.no_members list known h = done h tt
     of_members (c.a_member first rest) list known h = joined (of_member first list known h) (λ longer k h w. of_members rest longer k h)
 
-    of_member : (it : c.StructMember) (list : List Member) (known : Known) → known.functions ≡ fs → Keeps fs (ids_in_member it) Any (struct_member it list known)
+    of_member : (it : c.StructMember) (list : List Member) (known : Known) → Has fs known → Keeps fs (ids_in_member it) Any (struct_member it list known)
     of_member (c.member s ds) list known h =
         joined (of_specifiers s elsewhere (entered known) h) (λ it k h w. after (of_member_declarators ds it list k h)
         (λ found k h w. after (judges _ (broken_if incomplete_type (is_no_declarator ds) ++ alone_faults (is_no_declarator ds) it ++ found.faults) k h) (λ u k h w. done h tt)))
 
-    of_member_declarators : (them : c.MemberDeclarators) (it : Specified) (list : List Member) (known : Known) → known.functions ≡ fs
+    of_member_declarators : (them : c.MemberDeclarators) (it : Specified) (list : List Member) (known : Known) → Has fs known
         → Keeps fs (ids_in_member_declarators them) Any (member_declarators them it list known)
     of_member_declarators c.no_declarators it list known h = done h tt
     of_member_declarators (c.a_declarator d width rest) it list known h =
         grouped (ids_in_declarator d) (ids_in_maybe width) (ids_in_member_declarators rest) (joined (of_declarator d it false (member_faults list (has_width width)) known h) (λ declared k h w. joined
         (of_maybe width k h) (λ written k h w. after (of_member_declarators rest it (with_member list declared) k h) (λ found k h w. done h tt))))
 
-    of_enumerators : (them : c.Enumerators) (counted : ℤ) (known : Known) → known.functions ≡ fs → Keeps fs (ids_in_enumerators them) Any (enumerators them counted known)
+    of_enumerators : (them : c.Enumerators) (counted : ℤ) (known : Known) → Has fs known → Keeps fs (ids_in_enumerators them) Any (enumerators them counted known)
     of_enumerators c.no_enumerators counted known h = done h tt
     of_enumerators (c.an_enumerator name value rest) counted known h =
         joined (of_maybe value (entered known) h)
         (λ x k h w. quiet {Was = Any} (after (judges _ (enumerator_faults k name (value_given counted x)) k h) (λ u k h w. done h tt)) (λ next k h w. of_enumerators rest next k h))
 
     -- the names of parameters of a declarator
-    pub of_declarator : (it : c.Declarator) (s : Specified) (is_definition : Bool) (judge : Option (List ℕ) → Known → Built → List Rule) (known : Known) → known.functions ≡ fs
+    pub of_declarator : (it : c.Declarator) (s : Specified) (is_definition : Bool) (judge : Option (List ℕ) → Known → Built → List Rule) (known : Known) → Has fs known
         → Keeps fs (ids_in_declarator it) (IsDeclared it) (declarator it s is_definition judge known)
     of_declarator (c.declarator name ps) s is_definition judge known h =
         quiet (may_enter (is_written name ps) known h) (λ node k h w. after (of_parts ps s.type is_definition true k h)
         (λ b k h few. ended_declarator (named_in_parts ps) node name b (all_faults s b (judge name k b)) k h few))
 
-    of_parts : (them : c.Parts) (t : CType) (is_definition is_outermost : Bool) (known : Known) → known.functions ≡ fs
+    of_parts : (them : c.Parts) (t : CType) (is_definition is_outermost : Bool) (known : Known) → Has fs known
         → Keeps fs (ids_in_parts them) (λ (b : Built). HasFew (named_in_parts them) b.parameters) (parts them t is_definition is_outermost known)
     of_parts c.no_parts t is_definition is_outermost known h = done h (omega arith)
     of_parts (c.Pointer q rest) t is_definition is_outermost known h = after (of_parts rest t false false known h) (λ inner k h w. done h (omega arith))
@@ -273,14 +273,14 @@ module _ {fs : List Function} where
     of_parts (c.Function them rest) t is_definition is_outermost known h =
         joined (scoped known.frames (of_parameters them is_definition (in_new_frame known) h)) (λ found k h few. after (of_parts rest t false false k h) (λ inner k h w. done h few))
 
-    of_parameters : (them : c.Parameters) (is_definition : Bool) (known : Known) → known.functions ≡ fs
+    of_parameters : (them : c.Parameters) (is_definition : Bool) (known : Known) → Has fs known
         → Keeps fs (ids_in_parameters them) (λ (it : Parameters). length it.objects ≤ named_in them) (parameters them is_definition known)
     of_parameters c.Unstated is_definition known h = done h (omega arith)
     of_parameters c.Void is_definition known h = done h (omega arith)
     of_parameters (c.Listed list) is_definition known h = of_parameter_list list is_definition known h
     of_parameters (c.Open list) is_definition known h = after (of_parameter_list list is_definition known h) (λ them k h few. done h few)
 
-    of_parameter_list : (them : c.ParameterList) (is_definition : Bool) (known : Known) → known.functions ≡ fs
+    of_parameter_list : (them : c.ParameterList) (is_definition : Bool) (known : Known) → Has fs known
         → Keeps fs (ids_in_parameter_list them) (λ (it : Parameters). length it.objects ≤ named_in_list them) (parameter_list them is_definition known)
     of_parameter_list c.no_parameters is_definition known h = done h (omega arith)
     of_parameter_list (c.a_parameter s d rest) is_definition known h =

@@ -7,7 +7,7 @@ use Rattle.lt_model.specs.declared.scalar.Scalar.{Scalar}
 use Rattle.lt_tree.specs.Tree as c
 use Rattle.lt_tree.specs.Typing.Types.{is_integer}
 use Rattle.lt_tree.specs.Typing.Rules.{broken_if, unless, bad_case, stray_jump}
-use Rattle.lt_tree.specs.Typing.Entities.{Known, Fact, a_function, at_start, bind_name}
+use Rattle.lt_tree.specs.Typing.Entities.{Known, Fact, a_function, starting, bind_name}
 use Rattle.lt_tree.specs.Typing.Steps.{Outcome}
 use Rattle.lt_tree.specs.Typing.Expressions.{as_value, as_truth, own_type}
 use Rattle.lt_tree.specs.Typing.Specifying.{elsewhere}
@@ -16,7 +16,7 @@ use Rattle.lt_tree.specs.Typing.Declaring.{definition_faults, with_declared}
 use Rattle.lt_tree.specs.Typing.DeclarationTyping.{declaration, effective_in_for}
 use Rattle.lt_tree.specs.Typing.StatementTyping.{Around, in_a_loop, in_a_switch, test_faults, optional_test_faults, optional_expression, optional_test, for_start, switch_type, Seen, is_new_case, with_case, case_value, labels, return_faults, statement, items, cases}
 use Rattle.lt_tree.specs.Typing.Programs.{Program, typed, program_of}
-use Rattle.lt_tree.specs.Typing.UnitTyping.{around_body, frame_of, external, externals, defined_in, answer, typing, IsProgramOf}
+use Rattle.lt_tree.specs.Typing.UnitTyping.{around_body, frame_of, external, externals, defined_in, answer, typing_to, IsProgramTo}
 use Rattle.lt_made_types.specs.Laws.{is_array_of_functions, NoFactIsAnArrayOfFunctions}
 use Rattle.lt_made_types.proofs.MadeTypes.{no_array_of_functions}
 use Rattle.lt_made_types.proofs.Keeping.{WhenThere, FrameMade, FactMade, Sound, Good, went, broke, Any, bind, judged, unmarked, blocked, with_frames, in_new_frame, unmarked_here, entered, new_frame, scoped}
@@ -131,8 +131,8 @@ of_externals (x ∷ xs) known s = bind (of_external x known s) (λ u k s h. of_e
 
 -- ---- programs
 
-nothing_known : (model : DataModel) (defined : List (List ℕ)) → Sound (at_start model defined)
-nothing_known model defined = record { frames = (tt, tt); structs = tt; objects = tt; declared = tt; facts = tt }
+nothing_known : (greatest : ℕ) (model : DataModel) (defined : List (List ℕ)) → Sound (starting greatest model defined)
+nothing_known greatest model defined = record { frames = (tt, tt); structs = tt; objects = tt; declared = tt; facts = tt }
 
 answered : (unit : c.Unit) (o : Outcome (Unit {0})) (program : Program) → Good Any o → answer unit o ≡ typed program → AllByRecursion FactMade program.facts
 answered unit o program (went {a} {known} s h) is =
@@ -140,14 +140,14 @@ answered unit o program (went {a} {known} s h) is =
 answered unit o program broke is = absurd cc
 
 -- what the program of a unit notes of its expressions
-pub facts_made : (model : DataModel) (unit : c.Unit) (program : Program) → IsProgramOf model unit program → AllByRecursion FactMade program.facts
-unfolding typing
-facts_made model unit program is =
-    answered unit (externals unit (at_start model (filter_map defined_in unit))) program (of_externals unit (at_start model (filter_map defined_in unit)) (nothing_known model (filter_map defined_in unit))) is
+pub facts_made : (greatest : ℕ) (model : DataModel) (unit : c.Unit) (program : Program) → IsProgramTo greatest model unit program → AllByRecursion FactMade program.facts
+unfolding typing_to
+facts_made greatest model unit program is =
+    answered unit (externals unit (starting greatest model (filter_map defined_in unit))) program (of_externals unit (starting greatest model (filter_map defined_in unit)) (nothing_known greatest model (filter_map defined_in unit))) is
 
 no_arrays : (facts : List Fact) → AllByRecursion FactMade facts → AllByRecursion (λ (fact : Fact). is_array_of_functions fact.type ≡ false) facts
 no_arrays [] h = tt
 no_arrays (fact ∷ facts) h = (no_array_of_functions fact.type h.0.0.so, no_arrays facts h.1)
 
 pub no_fact_is_an_array_of_functions : NoFactIsAnArrayOfFunctions
-no_fact_is_an_array_of_functions model unit program is = no_arrays program.facts (facts_made model unit program is)
+no_fact_is_an_array_of_functions greatest model unit program is = no_arrays program.facts (facts_made greatest model unit program is)

@@ -52,7 +52,7 @@ used_plain : (role : Use) (x : Typed) → Made (own_type x) → IsPlain x → Is
 used_plain role x made h = elim (is_read role) as (λ v. IsPlain (if v then as_it_is_read x else x)) [ true ↦ read_plain x made h | false ↦ h ]
 
 pub no_test_is_a_pointer_to_a_function : WhatIsComeToIsKnown → NoTestIsAPointerToAFunction
-no_test_is_a_pointer_to_a_function known_there model unit program is role known e there reads =
+no_test_is_a_pointer_to_a_function known_there greatest model unit program is role known e there reads =
     let at = known_there.0 program.facts known role e there in
-    let h : FactMade (fact_of known.next at.0) = found_made program.facts known.next (fact_of known.next at.0) at.2 (facts_made model unit program is) in
+    let h : FactMade (fact_of known.next at.0) = found_made program.facts known.next (fact_of known.next at.0) at.2 (facts_made greatest model unit program is) in
     subst IsPlain (sym at.1) (used_plain role at.0 h.0 h.1)

@@ -11,7 +11,7 @@ use Rattle.lt_tree.specs.Typing.Specifying.{elsewhere}
 use Rattle.lt_tree.specs.Typing.Declarators.{Declares}
 use Rattle.lt_tree.specs.Typing.Declaring.{definition_faults}
 use Rattle.lt_tree.specs.Typing.Programs.{Program, typed, program_of}
-use Rattle.lt_tree.specs.Typing.UnitTyping.{around_body, frame_of, objects_of, defines, external, externals, defined_in, answer, typing, IsProgramOf}
+use Rattle.lt_tree.specs.Typing.UnitTyping.{around_body, frame_of, objects_of, defines, external, externals, defined_in, answer, typing_to, IsProgramOf}
 use Rattle.lt_tree_laws.specs.Typing.NodeNumbers.{GoesOver}
 use Rattle.lt_marked_texts.proofs.Free.{FreeExternal, FreeUnit}
 use Rattle.lt_marked_texts.proofs.Walking.{IsBehind, named, start, judged, entered, in_frames, blocked}
@@ -141,7 +141,7 @@ answered unit program (Goes u k) (gave p) h = of_program (program_of unit k) pro
 answered unit program (Breaks rule node) g h = absurd cc
 
 pub typed_unit : GoesOn → (model : DataModel) (unit : c.Unit) (program : Program) → IsProgramOf model unit program → TypedUnit unit program
-unfolding typing
+unfolding typing_to
 typed_unit goes model unit program is =
     answered unit program (externals unit (at_start model (filter_map defined_in unit)))
     (of_externals goes (nodes unit) unit (at_start model (filter_map defined_in unit)) refl (λ j. (let e : j ≡ 0 + j = omega arith in ap (slice_get (nodes unit)) e)) tt) is

@@ -7,7 +7,6 @@ use Rattle.lt_model.specs.declared.input.CellSet.TheVariants as cellset
 use Rattle.lt_model.specs.declared.run.End.{End}
 use Rattle.lt_model.specs.declared.run.End.TheVariants.{Returned, Undefined, NoInput}
 use Rattle.lt_model.specs.declared.operator.Ub.TheVariants.{NoValue}
-use Rattle.lt_model.specs.State.{Made}
 use Rattle.lt_tree.specs.Tree as c
 use Rattle.lt_tree.specs.Typing.Entities.{Function}
 use Rattle.lt_tree.specs.Typing.Programs.{Program, typed, broken}

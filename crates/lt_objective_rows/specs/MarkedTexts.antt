@@ -1,6 +1,5 @@
 -- Examples: small units with the marks of criteria, as they are written.
 use Rattle.std.specs.Prelude.{◌≡◌, ℕ, ◌+◌, List, [], ◌∷◌, length, codes, true, false, Option, Some, None}
-use Rattle.lt_model.specs.declared.operator.Op.{Op}
 use Rattle.lt_model.specs.declared.operator.Op.TheVariants as op
 use Rattle.lt_model.specs.declared.scalar.DataModel.{DataModel}
 use Rattle.lt_model.specs.declared.scalar.DataModel.TheVariants.{Lp64, Lp64U}
@@ -12,9 +11,9 @@ use Rattle.lt_tree.specs.declared.specifier.Storage.TheVariants as storage
 use Rattle.lt_tree.specs.Grammar.{no_words, with_storage}
 use Rattle.lt_tree.specs.Tree as c
 use Rattle.lt_tree.specs.CanonUnits.{canon}
-use Rattle.lt_tree_laws.specs.Examples.{just, pair, of_type, int, char, x, one, two, zero_constant, pointer, array_of_three, declares, a, b, missing}
+use Rattle.lt_tree_laws.specs.Examples.{just, pair, int, char, x, one, two, zero_constant, pointer, array_of_three, declares, a, b, missing}
 use Rattle.lt_tree_laws.specs.WrittenStatements.{in_lines}
-use Rattle.lt_tree_laws.specs.Typing.ExampleTexts.{name, number, object, declaration_of, takes_int, basic_specifiers, qualified_int}
+use Rattle.lt_tree_laws.specs.Typing.ExampleTexts.{name, number, object, declaration_of, basic_specifiers, qualified_int}
 use Rattle.lt_tree.specs.Typing.Programs.{typed, broken}
 use Rattle.lt_tree.specs.Typing.UnitTyping.{typing}
 use Rattle.lt_objectives.specs.declared.criteria.Criterion.{Criterion}

@@ -1,6 +1,6 @@
 -- A mark that breaks no rule has an id that no label before it has.
 use Rattle.std.proofs.Common.{◌≡◌, refl, ℕ, List, [], ◌∷◌, Bool, true, false, Option, Some, None}
-use Rattle.std.specs.Prelude.{if◌then◌else◌, not, ◌&&◌, ◌||◌, ◌==◌, unwrap_or}
+use Rattle.std.specs.Prelude.{if◌then◌else◌, not, ◌&&◌, ◌||◌, ◌==◌, nat_le, unwrap_or}
 use Rattle.std.specs.List.{list_any, list_all}
 use Rattle.lt_tree.specs.Tree as c
 use Rattle.lt_tree.specs.Purity.{is_pure}
@@ -24,9 +24,13 @@ not_bound : (id : ℕ) (labels : List Label) → not (list_any (λ label. label.
 not_bound id [] h = refl
 not_bound id (it ∷ labels) h = not_first (it.id == id) (list_any (λ label. label.id == id) labels) it.bound (bound_by id labels) (not_bound id labels) h
 
-number_is_new : (known : Known) (found : Option ℕ) → holds (is_new_id known) found ≡ true → bound_by (unwrap_or found 0) known.labels ≡ None
+second : (a b : Bool) → (a && b) ≡ true → b ≡ true
+second false b h = absurd cc
+second true b h = h
+
+number_is_new : (known : Known) (found : Option ℕ) → holds (λ n. nat_le n known.greatest_id && is_new_id known n) found ≡ true → bound_by (unwrap_or found 0) known.labels ≡ None
 number_is_new known None h = absurd cc
-number_is_new known (Some n) h = not_bound n known.labels h
+number_is_new known (Some n) h = not_bound n known.labels (second (nat_le n known.greatest_id) (is_new_id known n) h)
 
 id_is_new : (known : Known) (text : List ℕ) → is_good_id known text ≡ true → bound_by (number_of_id text) known.labels ≡ None
 id_is_new known text h = number_is_new known (id_of text) h

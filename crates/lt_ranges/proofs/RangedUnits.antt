@@ -21,7 +21,7 @@ use Rattle.lt_tree.specs.Typing.Declaring.{definition_faults, with_declared}
 use Rattle.lt_tree.specs.Typing.DeclarationTyping.{declaration, effective_in_for}
 use Rattle.lt_tree.specs.Typing.StatementTyping.{Around, in_a_loop, in_a_switch, test_faults, optional_test_faults, optional_expression, optional_test, optional_value, TypedStart, for_start, switch_type, switch_value, Seen, is_new_case, with_case, case_value, labels, return_faults, returned, locals_before, statement, items, cases}
 use Rattle.lt_tree.specs.Typing.Programs.{Program, typed, made_of, all_made_of, with_new, types_of_struct, types_in, program_of}
-use Rattle.lt_tree.specs.Typing.UnitTyping.{around_body, frame_of, objects_of, external, externals, defined_in, answer, typing}
+use Rattle.lt_tree.specs.Typing.UnitTyping.{around_body, frame_of, objects_of, external, externals, defined_in, answer, typing_to}
 use Rattle.lt_tree.specs.Typing.Ranges.{Reference, Lists, to_parameter, in_type, in_types, in_value, in_option, in_for_start, in_statement, in_items, in_cases, in_member, in_struct, in_object, in_frame, in_fact, in_local, IsInRange}
 use Rattle.lt_ranges.specs.Laws.{ProgramsAreInRange}
 use Rattle.lt_ranges.proofs.References.{Has, none, cons, head, both, front, back, Kept, same, then_kept, later, pushed, appended}
@@ -286,6 +286,6 @@ answered unit o program (went {a} {known} kept s h) is = let it : program_of uni
 answered unit o program broke is = absurd cc
 
 pub programs_are_in_range : ProgramsAreInRange
-unfolding typing
+unfolding typing_to
 programs_are_in_range model unit program is =
     answered unit (externals unit (at_start model (filter_map defined_in unit))) program (of_externals unit (at_start model (filter_map defined_in unit)) (nothing_known model (filter_map defined_in unit))) is

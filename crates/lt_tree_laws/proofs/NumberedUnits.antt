@@ -15,7 +15,7 @@ use Rattle.lt_tree.specs.Typing.Declaring.{definition_faults, with_declared}
 use Rattle.lt_tree.specs.Typing.DeclarationTyping.{declaration, effective_in_for}
 use Rattle.lt_tree.specs.Typing.StatementTyping.{Around, in_a_loop, in_a_switch, test_faults, optional_test_faults, optional_expression, optional_test, for_start, switch_type, Seen, is_new_case, with_case, case_value, labels, return_faults, statement, items, cases}
 use Rattle.lt_tree.specs.Typing.Programs.{broken}
-use Rattle.lt_tree.specs.Typing.UnitTyping.{around_body, frame_of, external, externals, defined_in, answer, typing}
+use Rattle.lt_tree.specs.Typing.UnitTyping.{around_body, frame_of, external, externals, defined_in, answer, typing_to}
 use Rattle.lt_tree_laws.specs.Typing.NodeNumbers.{PartsAreNumbered, BrokenNodesAreThere}
 use Rattle.lt_tree_laws.proofs.NodeSteps.{Covers, went, broke, Whole, as_said, entered, unmarked_here, in_new_frame, done, after, joined, grouped, node, part, last, rest_of, judges, unmarked, blocked, scoped, from_here, inner}
 use Rattle.lt_tree_laws.proofs.NumberedExpressions.{of_expression, of_mark, of_specifiers, of_declarator}
@@ -136,5 +136,5 @@ answered unit xs o rule at (went e) is = absurd cc
 answered unit xs o rule at (broke {rule = r} {node = m} l u) is = let same : m ≡ at = cc in omega arith
 
 pub broken_nodes_are_there : BrokenNodesAreThere
-unfolding typing
+unfolding typing_to
 broken_nodes_are_there model unit rule at is = answered unit (nodes unit) (externals unit (at_start model (filter_map defined_in unit))) rule at (of_externals unit (at_start model (filter_map defined_in unit))) is

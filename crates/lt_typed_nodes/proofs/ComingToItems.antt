@@ -7,7 +7,7 @@ use Rattle.lt_tree.specs.declared.specifier.Storage.{Storage}
 use Rattle.lt_tree.specs.Tree as c
 use Rattle.lt_tree.specs.Typing.Types.{CType, struct_of, is_integer}
 use Rattle.lt_tree.specs.Typing.TypedTree.{Start, Statement, Items}
-use Rattle.lt_tree.specs.Typing.Entities.{Known, Frame, a_function, is_static, type_of_object, Fact, bind_name, at_start}
+use Rattle.lt_tree.specs.Typing.Entities.{Known, Frame, a_function, is_static, type_of_object, Fact, bind_name, starting}
 use Rattle.lt_tree.specs.Typing.Programs.{Program, Typing, typed, broken}
 use Rattle.lt_tree.specs.Typing.Rules.{unless, bad_case}
 use Rattle.lt_tree.specs.Typing.Steps.{Outcome, Goes, Breaks, goes_on, left, in_block}
@@ -20,7 +20,7 @@ use Rattle.lt_tree.specs.Typing.InitialiserTyping.{Judges, filling_for, initiali
 use Rattle.lt_tree.specs.Typing.Declaring.{an_object_of, kind_of, declaration_faults, with_declared, length_faults, definition_faults}
 use Rattle.lt_tree.specs.Typing.DeclarationTyping.{declare, declare_named, init_declarator, init_declarators, has_no_declarator, declaration_by, declaration}
 use Rattle.lt_tree.specs.Typing.StatementTyping.{Around, in_a_loop, in_a_switch, test_faults, optional_test_faults, TypedStart, optional_expression, optional_test, for_start, switch_type, Seen, statement, items, cases}
-use Rattle.lt_tree.specs.Typing.UnitTyping.{around_body, frame_of, external, externals, defined_in, answer, typing}
+use Rattle.lt_tree.specs.Typing.UnitTyping.{around_body, frame_of, external, externals, defined_in, answer, typing_to}
 use Rattle.lt_typed_nodes.specs.Coming.{ComesTo, entered, in_new_block}
 use Rattle.lt_typed_nodes.specs.ComingItems.{ComesInInitialiser, ComesToInitialisers, ComesInObject, ComesInDeclaration, ComesToDeclarators, ComesToStart, ComesToDeclared, ComesToTest, ComesToOptional, ComesInStart, ComesToBody, ComesInFor, ComesInStatement, ComesToItems, ComesToCases, ComesInExternal, ComesToExternals, UnitsAreComeTo, ExternalsAreComeTo, StatementsAreComeTo, DeclarationsAreComeTo, InitialisersAreComeTo}
 use Rattle.lt_typed_nodes.proofs.FactSteps.{Whole, whole, scoped}
@@ -258,6 +258,6 @@ to_program unit program start (Goes u k) begun is =
 to_program unit program start (Breaks rule node) begun is = absurd cc
 
 pub units_are_come_to : UnitsAreComeTo
-unfolding typing
-units_are_come_to model unit program is =
-    let start : Known = at_start model (filter_map defined_in unit) in to_program unit program start (externals unit start) tt is
+unfolding typing_to
+units_are_come_to greatest model unit program is =
+    let start : Known = starting greatest model (filter_map defined_in unit) in to_program unit program start (externals unit start) tt is

@@ -54,7 +54,7 @@ pub begun_behind : {A : Type 0} {a : A} (known behind : Known) → Whole known (
 begun_behind known behind (went more le e all) begun = begun_between known behind le (more, e, all) begun
 
 pub begun_nodes_are_noted : BegunNodesAreNoted
-begun_nodes_are_noted = ((λ model defined. tt), begun_inside, begun_between)
+begun_nodes_are_noted = ((λ greatest model defined. tt), begun_inside, begun_between)
 
 -- ---- expressions
 

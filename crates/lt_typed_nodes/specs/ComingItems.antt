@@ -5,7 +5,7 @@ use Rattle.lt_model.specs.declared.scalar.Scalar.{Scalar}
 use Rattle.lt_tree.specs.declared.specifier.Storage.{Storage}
 use Rattle.lt_tree.specs.Tree as c
 use Rattle.lt_tree.specs.Typing.Types.{CType}
-use Rattle.lt_tree.specs.Typing.Entities.{Known, Life, a_function, is_static, bind_name, type_of_object, Fact, at_start}
+use Rattle.lt_tree.specs.Typing.Entities.{Known, Life, a_function, is_static, bind_name, type_of_object, Fact, starting}
 use Rattle.lt_tree.specs.Typing.Programs.{Program}
 use Rattle.lt_tree.specs.Typing.Steps.{in_block}
 use Rattle.lt_tree.specs.Typing.Expressions.{as_value, as_truth}
@@ -17,7 +17,7 @@ use Rattle.lt_tree.specs.Typing.InitialiserTyping.{Judges, filling_for, initiali
 use Rattle.lt_tree.specs.Typing.Declaring.{an_object_of, kind_of, declaration_faults, with_declared, declare_object, length_faults, definition_faults}
 use Rattle.lt_tree.specs.Typing.DeclarationTyping.{declare_named, init_declarator, init_declarators, has_no_declarator, declaration_by, declaration, effective_in_for}
 use Rattle.lt_tree.specs.Typing.StatementTyping.{Around, in_a_loop, in_a_switch, optional_expression, optional_test, for_start, switch_type, Seen, labels, statement, items, cases}
-use Rattle.lt_tree.specs.Typing.UnitTyping.{around_body, frame_of, external, externals, defined_in, IsProgramOf}
+use Rattle.lt_tree.specs.Typing.UnitTyping.{around_body, frame_of, external, externals, defined_in, IsProgramTo}
 use Rattle.lt_typed_nodes.specs.Coming.{ComesTo, Behind, entered, in_new_block, ComesToIt, ComesToOne}
 
 -- ---- initialisers; where a string literal initialises an array of characters it is gone over by itself
@@ -144,8 +144,8 @@ ComesToExternals facts known (x ∷ xs) = ComesTo facts known (external x known)
 -- Typing comes to the externals of a unit that has a program, with the facts of the program.
 abbrev pub UnitsAreComeTo : Type 0
 UnitsAreComeTo =
-    (model : DataModel) (unit : c.Unit) (program : Program) → IsProgramOf model unit program
-    → ComesTo program.facts (at_start model (filter_map defined_in unit)) (externals unit (at_start model (filter_map defined_in unit)))
+    (greatest : ℕ) (model : DataModel) (unit : c.Unit) (program : Program) → IsProgramTo greatest model unit program
+    → ComesTo program.facts (starting greatest model (filter_map defined_in unit)) (externals unit (starting greatest model (filter_map defined_in unit)))
 
 abbrev pub ExternalsAreComeTo : Type 0
 ExternalsAreComeTo =

@@ -5,7 +5,7 @@ use Rattle.lt_model.specs.declared.scalar.DataModel.{DataModel}
 use Rattle.lt_tree.specs.Tree as c
 use Rattle.lt_tree.specs.Typing.Types.{CType, is_integer, is_pointer, is_array}
 use Rattle.lt_tree.specs.Typing.Constants.{Constancy, varying}
-use Rattle.lt_tree.specs.Typing.Entities.{Known, Fact, at_start}
+use Rattle.lt_tree.specs.Typing.Entities.{Known, Fact, starting}
 use Rattle.lt_tree.specs.Typing.Steps.{Outcome, Goes, Breaks}
 use Rattle.lt_tree.specs.Typing.Expressions.{Typed, Use, as_value, own_type, as_it_is_read, used, fact_of}
 use Rattle.lt_tree.specs.Typing.ExpressionTyping.{expression, mark}
@@ -65,7 +65,7 @@ NotesBegunNodes known = AllByRecursion (λ (fact : Fact). fact.node < known.next
 -- It is so at the start of a unit, and where it is so at a place, also inside the node that begins there, and behind each part.
 abbrev pub BegunNodesAreNoted : Type 0
 BegunNodesAreNoted =
-    ((model : DataModel) (defined : List (List ℕ)) → NotesBegunNodes (at_start model defined))
+    ((greatest : ℕ) (model : DataModel) (defined : List (List ℕ)) → NotesBegunNodes (starting greatest model defined))
     × ((known : Known) → NotesBegunNodes known → NotesBegunNodes (record known { next = known.next + 1 }))
     × ((known behind : Known) → known.next ≤ behind.next → NotesBetween known behind → NotesBegunNodes known → NotesBegunNodes behind)
 

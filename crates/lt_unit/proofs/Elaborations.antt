@@ -12,7 +12,7 @@ use Rattle.lt_tree.specs.Typing.Entities.{Known, no_names, at_start}
 use Rattle.lt_tree.specs.Typing.EntityView.{structs_of, object_of, declared_of, function_of, label_of, fact_of}
 use Rattle.lt_tree.specs.Typing.Steps.{Goes}
 use Rattle.lt_tree.specs.Typing.Programs.{typed, program_of}
-use Rattle.lt_tree.specs.Typing.UnitTyping.{typing, answer, externals, defined_in}
+use Rattle.lt_tree.specs.Typing.UnitTyping.{typing, typing_to, answer, externals, defined_in}
 use Rattle.lt_env.specs.NamesValue.{NamesValue, NameFrameValue, frame_at, frames_at}
 use Rattle.lt_env.specs.declared.walker.Walker.{Walker}
 use Rattle.lt_env.specs.declared.stop.TypeStop.{TypeStop}
@@ -25,7 +25,7 @@ use Rattle.lt_unit.specs.Programs.{IsProgram, KnowsInRange}
 use Rattle.lt_unit.proofs.ProgramRanges.{knows}
 
 typing_is : (model : DataModel) (unit : c.Unit) → typing model unit ≡ answer unit (externals unit (at_start model (filter_map defined_in unit)))
-unfolding typing
+unfolding typing_to
 typing_is model unit = refl
 
 -- what is known behind a whole unit

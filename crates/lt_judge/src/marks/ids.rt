@@ -12,6 +12,9 @@ use lt_table::id_of;
 use lt_tree::typed::LabelInfo;
 use std::alloc::{AllocError, Global};
 
+/// The greatest id that a text may have; those that are added later go on from there.
+const GREATEST_WRITTEN_ID: u32 = 1_000_000_000;
+
 /// An id as a number; 0 where it is none.
 pub(super) fn number_of_id(text: &[u8]) -> u32
     ensures { result ≡ marks.number_of_id text.now }
@@ -19,12 +22,12 @@ pub(super) fn number_of_id(text: &[u8]) -> u32
     id_of(text).unwrap_or(0)
 }
 
-/// Whether it is an id that no mark before has.
+/// Whether it is an id that no mark before has, at most the greatest.
 pub(super) fn is_good_id(walker: &Walker, text: &[u8]) -> bool
     ensures { (types : List CType) → result ≡ marks.is_good_id (known_of types walker.now) text.now }
 {
     match id_of(text) {
-        Some(id) => !walker.labels.has_id(id),
+        Some(id) => id <= GREATEST_WRITTEN_ID && !walker.labels.has_id(id),
         None => false,
     }
 }

@@ -8,8 +8,8 @@ ghost use Rattle.lt_tree.specs.Typing.MarkRules as marks;
 
 use crate::constants::literals::{character_byte, integer_parts, is_suffix};
 
-/// The greatest id that a text may have.
-const GREATEST_ID: i128 = 1_000_000_000;
+/// The greatest id that a label can have at all.
+const GREATEST_ID: i128 = 2_147_483_647;
 
 fn id_from(value: i128) -> Option<u32>
     ensures { result ≡ marks.id_from (Some value) }

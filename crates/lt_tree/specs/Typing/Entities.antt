@@ -155,6 +155,8 @@ pub record Known : Type 0 where
   pub defined : List (List ℕ)
   -- the number of the next node
   pub next : ℕ
+  -- the greatest id that a label may have
+  pub greatest_id : ℕ
   -- whether the place is in an expression that is to be constant, or in the operand of `sizeof`
   pub is_unmarked : Bool
   -- the frames in scope, the innermost first
@@ -166,12 +168,21 @@ pub record Known : Type 0 where
   pub labels : List Label
   pub facts : List Fact
 
--- at the start of a unit
-abbrev pub at_start : DataModel → List (List ℕ) → Known
-at_start model defined = record {
+-- the greatest id that a text may have; those that are added later go on from there
+abbrev pub greatest_written_id : ℕ
+greatest_written_id = 1000000000
+
+-- the greatest id that a label can have at all
+abbrev pub greatest_label_id : ℕ
+greatest_label_id = 2147483647
+
+-- at the start of a unit whose labels have ids to a greatest
+abbrev pub starting : ℕ → DataModel → List (List ℕ) → Known
+starting greatest model defined = record {
   model = model;
   defined = defined;
   next = 0;
+  greatest_id = greatest;
   is_unmarked = false;
   frames = no_names ∷ [];
   structs = [];
@@ -181,6 +192,10 @@ at_start model defined = record {
   labels = [];
   facts = [];
 }
+
+-- at the start of a unit as it is written
+abbrev pub at_start : DataModel → List (List ℕ) → Known
+at_start model defined = starting greatest_written_id model defined
 
 -- what a name stands for here
 abbrev pub meaning_of : List ℕ → Known → Option Entity

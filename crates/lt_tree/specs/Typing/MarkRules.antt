@@ -11,21 +11,17 @@ use Rattle.lt_tree.specs.Typing.Constants.{varying}
 use Rattle.lt_tree.specs.Typing.Rules.{unless, bad_mark}
 use Rattle.lt_tree.specs.Typing.TypedTree as e
 use Rattle.lt_tree.specs.Typing.TypedTree.{Bindings}
-use Rattle.lt_tree.specs.Typing.Entities.{Known, Label}
+use Rattle.lt_tree.specs.Typing.Entities.{Known, Label, greatest_label_id}
 use Rattle.lt_tree.specs.Typing.Operands.{holds}
 use Rattle.lt_tree.specs.Typing.Expressions.{Typed, Use, as_value, as_truth, as_place, as_callee, valued, own_type, is_lvalue, as_it_is_read, value_in, Judged, judgement}
 use Rattle.lt_tree.specs.Typing.Operations.{is_among}
 
 -- ---- ids, tags and names
 
--- the greatest id that a text may have; those that are added later go on from there
-abbrev pub greatest_written_id : ℕ
-greatest_written_id = 1000000000
-
 abbrev pub id_from : Option ℤ → Option ℕ
 id_from None = None
 id_from (Some (negsuc n)) = None
-id_from (Some (pos n)) = if nat_le 1 n && nat_le n greatest_written_id then Some n else None
+id_from (Some (pos n)) = if nat_le 1 n && nat_le n greatest_label_id then Some n else None
 
 -- the number that an id says, if it may be one
 abbrev pub id_of : List ℕ → Option ℕ
@@ -39,8 +35,9 @@ number_of_id text = unwrap_or (id_of text) 0
 abbrev pub is_new_id : Known → ℕ → Bool
 is_new_id known id = not (list_any (λ label. label.id == id) known.labels)
 
+-- an id that no mark before has, at most the greatest
 abbrev pub is_good_id : Known → List ℕ → Bool
-is_good_id known text = holds (is_new_id known) (id_of text)
+is_good_id known text = holds (λ n. nat_le n known.greatest_id && is_new_id known n) (id_of text)
 
 -- 1 to 32 letters, digits, low lines, full stops, colons and hyphens
 abbrev pub is_tag : List ℕ → Bool

@@ -5,7 +5,7 @@ use Rattle.lt_tree.specs.Tree as c
 use Rattle.lt_tree.specs.Typing.Types.{CType, Void, Function}
 use Rattle.lt_tree.specs.Typing.Rules.{Rule}
 use Rattle.lt_tree.specs.Typing.TypedTree.{Items}
-use Rattle.lt_tree.specs.Typing.Entities.{Known, Frame, no_names, at_start}
+use Rattle.lt_tree.specs.Typing.Entities.{Known, Frame, no_names, greatest_written_id, starting}
 use Rattle.lt_tree.specs.Typing.Steps.{Outcome, Goes, Breaks, Walk, ◌>>=◌, ◌>>◌, gives, enter, settle, changes, within}
 use Rattle.lt_tree.specs.Typing.Expressions.{Typed, as_place, finish}
 use Rattle.lt_tree.specs.Typing.Specifying.{elsewhere}
@@ -71,14 +71,22 @@ abbrev pub answer : c.Unit → Outcome (Unit {0}) → Typing
 answer unit (Goes it known) = typed (program_of unit known)
 answer unit (Breaks rule node) = broken rule node
 
--- the typed program of a unit, or the first rule that it breaks
-unfoldable pub typing : DataModel → c.Unit → Typing
+-- the typed program of a unit whose labels have ids to a greatest, or the first rule that it breaks
+unfoldable pub typing_to : ℕ → DataModel → c.Unit → Typing
 unfolding judge_name judge_constant judge_plus judge_minus judge_complement judge_not judge_address_of judge_dereference judge_step judge_size judge_member judge_arrow judge_index judge_function judge_call judge_cast judge_binary judge_logical judge_conditional judge_assign judge_update judge_comma judge_decide judge_after judge_marked text_at finish
-typing model unit = answer unit (externals unit (at_start model (filter_map defined_in unit)))
+typing_to greatest model unit = answer unit (externals unit (starting greatest model (filter_map defined_in unit)))
+
+-- the typed program of a unit as it is written, or the first rule that it breaks
+abbrev pub typing : DataModel → c.Unit → Typing
+typing model unit = typing_to greatest_written_id model unit
+
+-- this program is the unit's, where ids are set aside but for a greatest
+abbrev pub IsProgramTo : ℕ → DataModel → c.Unit → Program → Type 0
+IsProgramTo greatest model unit program = typing_to greatest model unit ≡ typed program
 
 -- this program is the unit's
 abbrev pub IsProgramOf : DataModel → c.Unit → Program → Type 0
-IsProgramOf model unit program = typing model unit ≡ typed program
+IsProgramOf model unit program = IsProgramTo greatest_written_id model unit program
 
 -- of the rules that the unit breaks this is the first, at the node of this number
 abbrev pub BreaksFirst : DataModel → c.Unit → Rule → ℕ → Type 0

@@ -1,0 +1,5 @@
+pub mod Rising
+pub mod Alike
+pub mod RisingExpressions
+pub mod RisingDeclarations
+pub mod RisingUnits
