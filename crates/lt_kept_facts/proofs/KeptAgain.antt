@@ -1,22 +1,22 @@
 -- Expressions with marks added note the same of their nodes.
-use Rattle.std.proofs.Common.{◌≡◌, refl, sym, ap, ◌∙◌, subst, inl, inr, ℕ, ◌+◌, Bool, true, false, List, [], ◌∷◌, ◌++◌}
+use Rattle.std.proofs.Common.{◌≡◌, refl, sym, ap, ◌∙◌, subst, inl, inr, ℕ, ◌+◌, Bool, true, false, List}
 use Rattle.std.proofs.lemmas.Bool.{false≢true}
-use Rattle.std.specs.Prelude.{◌⊎◌, ◌&&◌, ◌||◌}
+use Rattle.std.specs.Prelude.{◌&&◌, ◌||◌}
 use Rattle.lt_tree.specs.declared.expression.UnaryOp.{UnaryOp}
 use Rattle.lt_tree.specs.declared.expression.UnaryOp.TheVariants as unary
 use Rattle.lt_tree.specs.Tree as c
-use Rattle.lt_tree.specs.Nodes.{in_expression, in_expressions, in_mark}
+use Rattle.lt_tree.specs.Nodes.{in_expressions, in_mark}
 use Rattle.lt_tree.specs.Typing.Constants.{is_null_constant}
 use Rattle.lt_tree.specs.Typing.TypedTree.{Value}
 use Rattle.lt_tree.specs.Typing.Entities.{Known, Fact}
-use Rattle.lt_tree.specs.Typing.Expressions.{Form, a_value, Typed, Use, as_value, as_truth, as_place, as_callee}
+use Rattle.lt_tree.specs.Typing.Expressions.{a_value, Typed, Use, as_value, as_truth, as_place, as_callee}
 use Rattle.lt_tree.specs.Typing.MarkRules.{inside_mark, inside_after}
 use Rattle.lt_tree.specs.Typing.NodeEnds.{operand_of}
 use Rattle.lt_tree.specs.Typing.Specifying.{elsewhere}
 use Rattle.lt_tree.specs.Typing.ExpressionTyping.{expressions, expression, mark}
 use Rattle.lt_tree_laws.specs.Typing.NodeNumbers.{GoesOver}
 use Rattle.lt_typed_nodes.specs.Laws.{NotesItsNodes}
-use Rattle.lt_mark_typing.specs.Beside.{IsBeside, IsAtMost, AddsTyped, AddsTest, Follows, Position, in_use, in_test, use_of, AddsAt}
+use Rattle.lt_mark_typing.specs.Beside.{IsBeside, IsAtMost, AddsTyped, Follows, Position, in_use, in_test, use_of, AddsAt}
 use Rattle.lt_mark_typing.specs.Placed as p
 use Rattle.lt_mark_typing.specs.Placed.{IsMarkable, takes_labels, entered, position_of, behind_marks, any_type_name, AddsTo, as_it_is, in_parts, in_front, around, AddsToParts, AddsToAll}
 use Rattle.lt_mark_typing.proofs.NewMarks.{numbered_alone}

@@ -5,10 +5,9 @@ use Rattle.lt_tree.specs.Nodes.{Node, in_expression, in_mark}
 use Rattle.lt_tree.specs.Typing.Types.{CType, Void}
 use Rattle.lt_tree.specs.Typing.Constants.{is_number}
 use Rattle.lt_tree.specs.Typing.Entities.{Known, Fact}
-use Rattle.lt_tree.specs.Typing.Steps.{Outcome, Goes, Breaks}
+use Rattle.lt_tree.specs.Typing.Steps.{Goes}
 use Rattle.lt_tree.specs.Typing.ExpressionTyping.{expression, mark}
-use Rattle.lt_tree.specs.Typing.Programs.{Program}
-use Rattle.lt_objectives.specs.Places.{fact_among, corresponding, unmarked_numbers, type_at, is_constant}
+use Rattle.lt_objectives.specs.Places.{fact_among, corresponding, unmarked_numbers}
 use Rattle.lt_tree_laws.specs.Typing.NodeNumbers.{GoesOver}
 use Rattle.lt_typed_nodes.specs.Laws.{NotesItsNodes}
 use Rattle.lt_facts.proofs.OutsideMarks.{places_unit}
@@ -17,7 +16,7 @@ use Rattle.lt_mark_typing.specs.Laws.{ExpressionsAreTypedAgain}
 use Rattle.lt_kept_facts.specs.Asked.{asked, seen}
 use Rattle.lt_kept_facts.specs.Laws.{ExpressionsNoteTheSame, FactsAreFoundByEither}
 use Rattle.lt_kept_facts.proofs.SeenAlike.{SeenIn}
-use Rattle.lt_kept_facts.proofs.KeptSteps.{Keeps, went, first_broke, second_broke}
+use Rattle.lt_kept_facts.proofs.KeptSteps.{Keeps, went}
 use Rattle.lt_kept_facts.proofs.KeptAgain.{whole_to}
 
 cancel : (xs ys zs : List Fact) → xs ++ ys ≡ xs ++ zs → ys ≡ zs
@@ -27,7 +26,8 @@ cancel (x ∷ xs) ys zs h = cancel xs ys zs (rest h)
     rest : x ∷ (xs ++ ys) ≡ x ∷ (xs ++ zs) → xs ++ ys ≡ xs ++ zs
     rest h = cc
 
-seen_there : {A B : Type 0} {F G : List Fact} {new : ℕ → Bool} {ids : List ℕ} {R : A → B → Type 0} {k j : ℕ} {facts others : List Fact} {xs ys : List Node} {a : A} {b : B} {m n : Known}
+-- what is asked of the nodes of a piece, where these facts are noted of them
+pub seen_there : {A B : Type 0} {F G : List Fact} {new : ℕ → Bool} {ids : List ℕ} {R : A → B → Type 0} {k j : ℕ} {facts others : List Fact} {xs ys : List Node} {a : A} {b : B} {m n : Known}
     → Keeps F G new ids R k facts xs j others ys (Goes a m) (Goes b n) → m.facts ≡ facts ++ F → n.facts ≡ others ++ G → seen F k xs ≡ seen G j ys
 seen_there {F = F} {G = G} {facts = facts} {others = others} (went r s p q h) f g =
     h (λ i low high. ap (λ l. fact_among l i) (cancel facts F p.more (sym f ∙ p.noted))) (λ i low high. ap (λ l. fact_among l i) (cancel others G q.more (sym g ∙ q.noted)))

@@ -1,28 +1,28 @@
 -- Steps that go over no nodes leave the same known in both texts.
 use Rattle.std.proofs.Common.{◌≡◌, refl, sym, ap, ◌∙◌, subst, inr, ℕ, ℤ, pos, zero, suc, ◌+◌, Bool, true, false, if◌then◌else◌, List, [], ◌∷◌, ◌++◌, length, Option, Some, None}
-use Rattle.std.specs.Prelude.{◌+ℤ◌, slice_get, unwrap_or}
+use Rattle.std.specs.Prelude.{slice_get, unwrap_or}
 use Rattle.lt_model.specs.Layout.{then_some}
 use Rattle.lt_tree.specs.Nodes.{Node}
 use Rattle.lt_tree.specs.Typing.Types.{CType, Void, Struct}
 use Rattle.lt_tree.specs.Typing.Constants.{TypedConstant, constant_of, address, varying, is_form}
 use Rattle.lt_tree.specs.Typing.Extents.{Member, Structs, has_too_many_cells}
 use Rattle.lt_tree.specs.Typing.Rules.{Rule, broken_if, declared_twice, bad_length}
-use Rattle.lt_tree.specs.Typing.TypedTree as e
-use Rattle.lt_tree.specs.Typing.Entities.{Known, Object, Fact, Frame, Tagged, a_struct, an_enum, an_enumerator, Entity, an_object, a_function, a_typedef, tag_here, tagged_in, meaning_of, bound_in, innermost, binding, no_names, parameter, unmade, type_of_object}
-use Rattle.lt_tree.specs.Typing.Steps.{Outcome, Goes, Breaks, goes_on, left, marked_again, gives, binds, settle, ◌>>◌}
-use Rattle.lt_tree.specs.Typing.Expressions.{Typed, Use, as_truth, as_value, as_place, as_callee, Judged}
+use Rattle.lt_tree.specs.Typing.Entities.{Known, Object, Fact, Frame, Tagged, a_struct, an_enum, an_enumerator, Entity, an_object, a_function, a_typedef, tag_here, meaning_of, bound_in, innermost, binding, parameter, unmade, type_of_object}
+use Rattle.lt_tree.specs.Typing.Steps.{Outcome, Goes, goes_on, left, marked_again}
+use Rattle.lt_tree.specs.Typing.Expressions.{Typed, Use}
 use Rattle.lt_tree.specs.Typing.Operations.{judge_name, judge_constant, constancy_of_object, lives_from_the_start, function_named}
 use Rattle.lt_tree.specs.Typing.NodeEnds.{text_at, end_of_enumerator, without_parameters}
 use Rattle.lt_tree.specs.Typing.Specifying.{Naming, struct_faults, OpenStruct, open_new, open_tagged, open_struct, is_complete_struct, with_members, close_struct, open_enum, close_enum, struct_tagged, enumerator_faults}
 use Rattle.lt_tree.specs.Typing.Declarators.{no_parameters_yet, binds_parameter}
-use Rattle.lt_mark_laws.specs.Added.{AreSameObjects, AddsFunctions}
+use Rattle.lt_mark_laws.specs.Added.{AreSameObjects}
 use Rattle.lt_mark_typing.specs.Beside.{IsBeside, Follows, goes, breaks}
+use Rattle.lt_mark_typing.proofs.Going.{with_others}
 use Rattle.lt_mark_typing.proofs.Unchanged.{Same, SameDeclares, frames_beside, frames_same, object_beside}
 use Rattle.lt_mark_typing.proofs.Ends.{at_other}
 use Rattle.lt_tree.specs.Typing.Declarators.{Declares}
 use Rattle.lt_kept_facts.proofs.SeenAlike.{SeenAlike, alike_itself}
 use Rattle.lt_kept_facts.proofs.SeenOperators.{alike_places}
-use Rattle.lt_kept_facts.proofs.KeptSteps.{Part, Keeps, went, first_broke, second_broke, Piece, done, joined, after, judges}
+use Rattle.lt_kept_facts.proofs.KeptSteps.{Keeps, went, first_broke, second_broke, Piece, done, joined, after, judges}
 
 -- a struct that is closed, where it is known whether it was complete before
 abbrev closing : ℕ → List Member → Bool → Known → Known
@@ -63,7 +63,7 @@ entered_beside {k = k} {l} b = record { same = ap (λ (it : Known). record it { 
 
 beside_unmarked : {new : ℕ → Bool} {ids : List ℕ} {k l : Known} (was other : Bool) → other ≡ was → IsBeside new ids k l → IsBeside new ids (record k { is_unmarked = was }) (record l { is_unmarked = other })
 beside_unmarked {k = k} {l} was other e b = record {
-  same = ap (λ (it : Known). record it { is_unmarked = other }) b.same ∙ ap (λ u. record k { is_unmarked = u; next = l.next; objects = l.objects; functions = l.functions; labels = l.labels; facts = l.facts }) e;
+  same = ap (λ (it : Known). record it { is_unmarked = other }) b.same ∙ ap (λ u. with_others (record k { is_unmarked = u }) l.next l.objects l.functions l.labels l.facts) e;
   objects = b.objects;
   functions = b.functions;
   labels = b.labels;

@@ -1,27 +1,26 @@
 -- Of the nodes of marks nothing is asked.
-use Rattle.std.proofs.Common.{◌≡◌, refl, sym, ap, ◌∙◌, subst, ℕ, ◌+◌, Bool, true, false, List, [], ◌∷◌, ◌++◌}
+use Rattle.std.proofs.Common.{◌≡◌, refl, sym, ap, ◌∙◌, subst, ℕ, ◌+◌, Bool, false, List, [], ◌∷◌, ◌++◌}
 use Rattle.lt_tree.specs.Tree as c
 use Rattle.lt_tree.specs.Nodes.{Node, an_expression, in_expression, in_mark, in_marks}
-use Rattle.lt_tree.specs.Typing.Rules.{Rule}
 use Rattle.lt_tree.specs.Typing.TypedTree as e
 use Rattle.lt_tree.specs.Typing.TypedTree.{Value}
 use Rattle.lt_tree.specs.Typing.Entities.{Known, Fact}
 use Rattle.lt_tree.specs.Typing.Steps.{Outcome, Goes, Breaks, goes_on}
-use Rattle.lt_tree.specs.Typing.Expressions.{Form, a_value, Typed, Use, as_value, as_truth, as_place, as_callee, own_type, value_in, used, fact_of, finish}
+use Rattle.lt_tree.specs.Typing.Expressions.{a_value, Typed, Use, as_value, as_truth, as_place, as_callee, own_type, value_in, used, fact_of, finish}
 use Rattle.lt_tree.specs.Typing.MarkRules.{number_of_id, label_of, judge_marked, judge_decide, inside_mark}
 use Rattle.lt_tree.specs.Typing.ExpressionTyping.{expression, mark, marks}
 use Rattle.lt_tree_laws.specs.Typing.NodeNumbers.{GoesOver}
 use Rattle.lt_typed_nodes.specs.Laws.{NotesItsNodes}
-use Rattle.lt_mark_typing.specs.Beside.{IsBeside, Follows, goes, breaks}
+use Rattle.lt_mark_typing.specs.Beside.{IsBeside, Follows, goes}
 use Rattle.lt_mark_typing.specs.Placed.{AreOld, IsNewId, AreNewLabels, joined as joined_labels, entered}
 use Rattle.lt_mark_typing.proofs.Unchanged.{Same, old_first, old_second, of_marks, of_mark}
 use Rattle.lt_mark_typing.proofs.NewMarks.{new_labels, new_label_beside, numbered_alone}
 use Rattle.lt_kept_facts.proofs.MarksEnd.{mark_ends}
 use Rattle.lt_kept_facts.specs.Asked.{seen}
 use Rattle.lt_kept_facts.proofs.SeenNodes.{mark_unseen, marks_unseen}
-use Rattle.lt_kept_facts.proofs.SeenAlike.{SeenAlike, SeenAs, SeenTruth, SeenIn, SameKind, values, same_type}
+use Rattle.lt_kept_facts.proofs.SeenAlike.{SeenTruth, SeenIn, SameKind, values, same_type}
 use Rattle.lt_kept_facts.proofs.KeptSteps.{Part, nothing_more, part_then, Keeps, went, first_broke, second_broke, Piece, done, joined, after}
-use Rattle.lt_kept_facts.proofs.KeptNodes.{EndsAlone, around_piece, front, finished_with, finished_alone}
+use Rattle.lt_kept_facts.proofs.KeptNodes.{around_piece, front, finished_with, finished_alone}
 use Rattle.lt_kept_facts.proofs.KeptOperators.{Whole}
 
 went_on : {A B : Type 0} {f : A → Known → Outcome B} (o : Outcome A) (b : B) (n : Known) → goes_on o f ≡ Goes b n → (a : A) × (m : Known) × (o ≡ Goes a m) × (f a m ≡ Goes b n)
@@ -33,7 +32,7 @@ same_known q = cc
 
 module _ (numbered : (it : c.Mark) (known : Known) → GoesOver (in_mark it) known (mark it known)) (noting : (it : c.Mark) (known : Known) → NotesItsNodes known (mark it known)) where
   -- what marks note
-  mark_part : (it : c.Mark) (known behind : Known) (t : e.Mark) → mark it known ≡ Goes t behind → Part known.next known.facts (in_mark it) behind
+  pub mark_part : (it : c.Mark) (known behind : Known) (t : e.Mark) → mark it known ≡ Goes t behind → Part known.next known.facts (in_mark it) behind
   mark_part it known behind t q =
       let counts = subst (λ o. GoesOver (in_mark it) known o) q (numbered it known) in
       let notes = subst (λ o. NotesItsNodes known o) q (noting it known) in

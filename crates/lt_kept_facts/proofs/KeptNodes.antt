@@ -1,25 +1,25 @@
 -- The ends of expressions in both texts, and nodes that only the second has.
-use Rattle.std.proofs.Common.{◌≡◌, refl, sym, ap, ◌∙◌, subst, ℕ, suc, ◌+◌, ◌<◌, ◌≤◌, eqb, eq-eqb, Bool, true, false, if◌then◌else◌, List, [], ◌∷◌, ◌++◌, length, Option, Some, None, append_assoc, length-append, arith}
+use Rattle.std.proofs.Common.{◌≡◌, refl, sym, ap, ◌∙◌, subst, ℕ, ◌+◌, ◌<◌, ◌≤◌, eq-eqb, Bool, if◌then◌else◌, List, [], ◌∷◌, ◌++◌, length, Option, Some, None, append_assoc, length-append, arith}
 use Rattle.std.proofs.lemmas.Bool.{ne_eqb}
 use Rattle.std.proofs.lemmas.List.{append-nil}
 use Rattle.lt_tree.specs.Nodes.{Node}
 use Rattle.lt_tree.specs.Typing.Types.{CType}
 use Rattle.lt_tree.specs.Typing.Constants.{is_number}
-use Rattle.lt_tree.specs.Typing.Rules.{Rule, least}
+use Rattle.lt_tree.specs.Typing.Rules.{Rule}
 use Rattle.lt_tree.specs.Typing.Entities.{Known, Fact, Label}
-use Rattle.lt_tree.specs.Typing.Steps.{Outcome, Goes, Breaks, goes_on, unless_broken, settle, notes, gives, ◌>>◌}
+use Rattle.lt_tree.specs.Typing.Steps.{Outcome, Goes, Breaks, goes_on, settle, notes, gives, ◌>>◌}
 use Rattle.lt_tree.specs.Typing.Expressions.{Typed, Use, Judged, own_type, used, fact_of, faults_of_any, finish}
 use Rattle.lt_objectives.specs.Places.{fact_among}
 use Rattle.lt_sites.specs.Sites.{part_of}
 use Rattle.lt_facts.specs.Outside.{mark_size}
 use Rattle.lt_typed_nodes.specs.Laws.{AreOfNodes}
 use Rattle.lt_typed_nodes.proofs.FactSteps.{all_joined, among}
-use Rattle.lt_mark_typing.specs.Beside.{IsBeside, Follows, goes, breaks}
+use Rattle.lt_mark_typing.specs.Beside.{IsBeside}
 use Rattle.lt_mark_typing.proofs.Ends.{noted_beside}
 use Rattle.lt_kept_facts.proofs.MarksEnd.{Ends, both_end}
 use Rattle.lt_kept_facts.specs.Asked.{asked, seen}
 use Rattle.lt_kept_facts.proofs.SeenAlike.{SeenAlike, same_type, same_number}
-use Rattle.lt_kept_facts.proofs.KeptSteps.{found_first, found_second, others_before, Part, Agrees, nothing_more, part_then, first_agrees, second_agrees, seen_then, Keeps, went, first_broke, second_broke, Piece}
+use Rattle.lt_kept_facts.proofs.KeptSteps.{found_first, found_second, others_before, Part, Agrees, part_then, first_agrees, second_agrees, seen_then, Keeps, went, first_broke, second_broke}
 
 -- From a node of this number on these nodes have been gone over, and the end of the node that is around them, of which a fact is noted.
 pub record Ending (node k : ℕ) (facts : List Fact) (xs : List Node) (behind : Known) (y : Typed) : Type 0 where

@@ -1,5 +1,5 @@
 -- Expressions and type names in which no mark is added note the same in both texts.
-use Rattle.std.proofs.Common.{◌≡◌, refl, sym, ap, ◌∙◌, subst, inl, ℕ, ℤ, pos, ◌+◌, Bool, true, false, if◌then◌else◌, List, [], ◌∷◌, ◌++◌, length, Option, Some, None}
+use Rattle.std.proofs.Common.{◌≡◌, refl, sym, ap, subst, inl, ℕ, ℤ, pos, Bool, true, false, if◌then◌else◌, List, [], ◌∷◌, ◌++◌, length, Option, Some, None}
 use Rattle.lt_tree.specs.Tree as c
 use Rattle.lt_tree.specs.Nodes as n
 use Rattle.lt_tree.specs.Nodes.{Node, an_expression, in_expression, in_expressions, in_maybe, in_mark, in_marks, in_specifiers, in_types, in_type, in_members, in_member_declarators, in_enumerators, in_declarator, if_written, in_parts, in_parameters, in_parameter_list}
@@ -9,27 +9,27 @@ use Rattle.lt_tree.specs.Typing.Constants.{constant_of, is_null_constant}
 use Rattle.lt_tree.specs.Typing.Rules.{Rule, broken_if, incomplete_type}
 use Rattle.lt_tree.specs.Typing.Entities.{Known, Fact, meaning_of, tag_here, tagged_in, no_names, bound_in}
 use Rattle.lt_tree.specs.Typing.Steps.{Outcome, Goes, goes_on}
-use Rattle.lt_tree.specs.Typing.Expressions.{Typed, Use, as_value, as_truth, as_place, as_callee, own_type, Judged, used, finish}
+use Rattle.lt_tree.specs.Typing.Expressions.{Typed, Use, as_value, as_truth, as_place, as_callee, own_type}
 use Rattle.lt_tree.specs.Typing.Operations.{judge_name, judge_constant, judge_size, judge_cast}
 use Rattle.lt_tree.specs.Typing.MarkRules.{inside_mark, inside_after}
 use Rattle.lt_tree.specs.Typing.Specifying.{Specified, is_register, Setting, is_alone, elsewhere, beside_words, enum_tagged, typedef_named, value_given}
 use Rattle.lt_tree.specs.Typing.Declarators.{Built, Declares, all_faults, setting_in_sizeof, type_name_faults, parameter_faults, binds_parameter, parameter_before, member_faults, with_member, has_width, array_of, length_or_none}
 use Rattle.lt_tree.specs.Typing.NodeEnds.{text_object, text_at, operand_of, also as faults_too, is_no_declarator, alone_faults}
-use Rattle.lt_tree.specs.Typing.ExpressionTyping.{expression, expressions, maybe, mark, marks, specifiers, type_specifiers, type_specifier, members, struct_member, member_declarators, enumerators, declarator, parts, parameters, parameter_list}
+use Rattle.lt_tree.specs.Typing.ExpressionTyping.{expressions, maybe, mark, specifiers, type_specifiers, type_specifier, members, member_declarators, enumerators, declarator, parts, parameters, parameter_list}
 use Rattle.lt_tree_laws.specs.Typing.NodeNumbers.{GoesOver}
 use Rattle.lt_typed_nodes.specs.Laws.{NotesItsNodes}
-use Rattle.lt_mark_typing.specs.Beside.{IsBeside, Follows}
+use Rattle.lt_mark_typing.specs.Beside.{IsBeside}
 use Rattle.lt_mark_typing.specs.Placed.{AreOld, entered}
 use Rattle.lt_mark_typing.proofs.Unchanged as u
 use Rattle.lt_mark_typing.proofs.Unchanged.{Same, SameDeclares, old_first, old_second, frames_beside, frames_same, unmarked_beside, unmarked_same, object_beside}
-use Rattle.lt_kept_facts.proofs.SeenAlike.{SeenAlike, SeenIn, same_type, used_alike}
+use Rattle.lt_kept_facts.proofs.SeenAlike.{SeenAlike, same_type}
 use Rattle.lt_kept_facts.proofs.SeenBinaryOperators.{SeenEach, none_seen, one_seen}
 use Rattle.lt_kept_facts.proofs.KeptSteps.{Keeps, Piece, done, joined, after, grouped, so, judges, unnoted}
 use Rattle.lt_kept_facts.proofs.KeptNodes.{Rest, behind, last, in_groups, finished, noted_node}
 use Rattle.lt_kept_facts.proofs.KeptOperators as o
 use Rattle.lt_kept_facts.proofs.KeptOperators.{SameNull, Seen, Operand, Whole, made, size_seen, sized_seen, cast_too}
 use Rattle.lt_kept_facts.proofs.KeptLeaves.{entered_beside, also, joined_same, after_same, joined_declares, unmarked, scoped, struct_found, opened_struct, closed_struct, opened_enum, closed_enum, enumerator_ended, parameter_bound, no_more_parameters, name_seen, constant_seen, text_seen}
-use Rattle.lt_kept_facts.proofs.KeptMarks.{old_mark, old_marks}
+use Rattle.lt_kept_facts.proofs.KeptMarks.{old_marks}
 
 same_null : (role : Use) (x y : Typed) → y ≡ x → SameNull role x y
 same_null as_value x y q = ap (λ (it : Typed). is_null_constant it.constancy) q

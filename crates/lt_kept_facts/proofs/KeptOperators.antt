@@ -1,5 +1,5 @@
 -- Expressions whose operands are gone over side by side are so themselves.
-use Rattle.std.proofs.Common.{◌≡◌, refl, sym, ap, ◌∙◌, subst, inl, inr, ℕ, suc, ◌+◌, Bool, true, false, List, [], ◌∷◌, ◌++◌, Option, Some, None}
+use Rattle.std.proofs.Common.{◌≡◌, refl, sym, ap, ◌∙◌, subst, ℕ, ◌+◌, Bool, false, List, [], ◌∷◌, ◌++◌, Option}
 use Rattle.std.specs.Prelude.{◌⊎◌}
 use Rattle.lt_model.specs.declared.operator.Op.{Op}
 use Rattle.lt_model.specs.declared.operator.Op.TheVariants as O
@@ -7,27 +7,27 @@ use Rattle.lt_tree.specs.declared.expression.LogicalOp.{LogicalOp}
 use Rattle.lt_tree.specs.declared.expression.UnaryOp.{UnaryOp}
 use Rattle.lt_tree.specs.declared.expression.UnaryOp.TheVariants as unary
 use Rattle.lt_tree.specs.Tree as c
-use Rattle.lt_tree.specs.Nodes.{Node, an_expression, in_expression, in_expressions, in_marks, in_specifiers, in_declarator}
-use Rattle.lt_tree.specs.Typing.Types.{CType, is_integer}
-use Rattle.lt_tree.specs.Typing.Constants.{Constancy, varying, is_null_constant}
-use Rattle.lt_tree.specs.Typing.Rules.{Rule, unless, bad_mark}
+use Rattle.lt_tree.specs.Nodes.{an_expression, in_expression, in_expressions, in_marks}
+use Rattle.lt_tree.specs.Typing.Types.{CType}
+use Rattle.lt_tree.specs.Typing.Constants.{varying, is_null_constant}
+use Rattle.lt_tree.specs.Typing.Rules.{Rule}
 use Rattle.lt_tree.specs.Typing.TypedTree as e
 use Rattle.lt_tree.specs.Typing.TypedTree.{When, before, after}
 use Rattle.lt_tree.specs.Typing.Entities.{Known, Fact}
-use Rattle.lt_tree.specs.Typing.Steps.{Outcome, Goes, goes_on, adds_label, marked_again}
-use Rattle.lt_tree.specs.Typing.Expressions.{Typed, Use, as_value, as_truth, as_place, as_callee, own_type, value_in, valued, as_it_is_read, used, Judged, finish}
+use Rattle.lt_tree.specs.Typing.Steps.{Goes, goes_on}
+use Rattle.lt_tree.specs.Typing.Expressions.{Typed, Use, as_value, as_truth, as_place, as_callee, own_type, as_it_is_read, used, Judged, finish}
 use Rattle.lt_tree.specs.Typing.Operations.{judge_step, judge_member, judge_arrow, judge_index, judge_call, judge_cast, judge_size}
 use Rattle.lt_tree.specs.Typing.BinaryOperations.{judge_binary, judge_logical, judge_conditional, judge_assignment, judge_comma}
-use Rattle.lt_tree.specs.Typing.MarkRules.{number_of_id, is_good_decision, label_of, judge_decide, judge_marked, judge_after, inside_mark, inside_after, after_of}
-use Rattle.lt_tree.specs.Typing.NodeEnds.{judge_unary, operand_of, also}
+use Rattle.lt_tree.specs.Typing.MarkRules.{number_of_id, label_of, judge_decide, judge_marked, judge_after, inside_mark, inside_after, after_of}
+use Rattle.lt_tree.specs.Typing.NodeEnds.{judge_unary, operand_of}
 use Rattle.lt_tree.specs.Typing.ExpressionTyping.{expression, expressions, marks}
 use Rattle.lt_mark_typing.specs.Beside.{IsBeside}
 use Rattle.lt_mark_typing.specs.Placed.{entered}
 use Rattle.lt_mark_typing.proofs.Unchanged.{label_beside, unary_known}
-use Rattle.lt_kept_facts.proofs.SeenAlike.{SameForm, SeenAlike, SeenAs, SeenTruth, SeenIn, IsRead, SameKind, values, same_type, alike_values, alike_itself, integer_of, read_no_place, read_again, as_read, used_alike}
+use Rattle.lt_kept_facts.proofs.SeenAlike.{SameForm, SeenAlike, SeenAs, SeenIn, values, same_type, alike_itself, integer_of, read_no_place, read_again, as_read, used_alike}
 use Rattle.lt_kept_facts.proofs.SeenOperators.{plus_seen, minus_seen, complement_seen, not_seen, address_of_seen, dereference_seen, step_seen, member_seen, arrow_seen, index_seen, call_seen, cast_seen}
 use Rattle.lt_kept_facts.proofs.SeenBinaryOperators.{binary_seen, logical_seen, conditional_seen, assignment_seen, SeenEach, comma_seen}
-use Rattle.lt_kept_facts.proofs.KeptSteps.{Keeps, Piece}
+use Rattle.lt_kept_facts.proofs.KeptSteps.{Piece}
 use Rattle.lt_kept_facts.proofs.KeptNodes.{Rest, behind, last, in_groups, finished, with_labels, noted_node, hidden_node}
 
 -- what is said of null pointer constants, where truths alone are used nothing

@@ -1,5 +1,5 @@
 -- Two texts are gone over side by side, and the same is noted of the nodes outside of marks.
-use Rattle.std.proofs.Common.{◌≡◌, refl, sym, ap, ◌∙◌, subst, ℕ, suc, ◌+◌, ◌<◌, ◌≤◌, eqb, Bool, true, false, if◌then◌else◌, List, [], ◌∷◌, ◌++◌, length, map, Option, Some, None, append_assoc, length-append, arith}
+use Rattle.std.proofs.Common.{◌≡◌, refl, sym, ap, ◌∙◌, subst, ℕ, ◌+◌, ◌<◌, ◌≤◌, eqb, Bool, false, if◌then◌else◌, List, [], ◌∷◌, ◌++◌, length, Option, Some, None, append_assoc, length-append, arith}
 use Rattle.std.proofs.lemmas.Bool.{ne_eqb}
 use Rattle.std.proofs.lemmas.List.{append-nil}
 use Rattle.std.specs.List.{AllByRecursion}
@@ -99,7 +99,8 @@ pub data Keeps {A B : Type 0} (F G : List Fact) (new : ℕ → Bool) (used : Lis
 abbrev pub Piece : {A B : Type 0} → (F G : List Fact) → (ℕ → Bool) → List ℕ → (A → B → Type 0) → Known → List Node → Known → List Node → Outcome A → Outcome B → Type 0
 Piece F G new used relation k xs l ys o p = Keeps F G new used relation k.next k.facts xs l.next l.facts ys o p
 
-abbrev node_part : {k : ℕ} {facts : List Fact} {xs : List Node} {m : Known} (x : Node) → mark_size (part_of x) ≡ 0 → Part (k + 1) facts xs m → Part k facts (x ∷ xs) m
+-- a node of which no fact is noted, in front of a part
+abbrev pub node_part : {k : ℕ} {facts : List Fact} {xs : List Node} {m : Known} (x : Node) → mark_size (part_of x) ≡ 0 → Part (k + 1) facts xs m → Part k facts (x ∷ xs) m
 node_part {k} {facts} {xs} {m} x e p = record {
   more = p.more;
   counts = omega (arith, p.counts);
@@ -112,7 +113,8 @@ module _ {F G : List Fact} {new : ℕ → Bool} where
   pub done : {A B : Type 0} {used : List ℕ} {R : A → B → Type 0} {a : A} {b : B} {m n : Known} → R a b → IsBeside new used m n → Piece F G new used R m [] n [] (Goes a m) (Goes b n)
   done {m = m} {n = n} r b = went r b (nothing_more m) (nothing_more n) (λ f g. refl)
 
-  moved : {C D : Type 0} {after : List ℕ} {Q : C → D → Type 0} {k j : ℕ} {facts others : List Fact} {xs ys xs' ys' : List Node} {m n : Known} {o : Outcome C} {r : Outcome D}
+  -- what has been gone over in both texts, in front of a piece
+  pub moved : {C D : Type 0} {after : List ℕ} {Q : C → D → Type 0} {k j : ℕ} {facts others : List Fact} {xs ys xs' ys' : List Node} {m n : Known} {o : Outcome C} {r : Outcome D}
       → (p : Part k facts xs m) → (q : Part j others ys n) → (Agrees F k m.next p.more → Agrees G j n.next q.more → seen F k xs ≡ seen G j ys)
       → Keeps F G new after Q m.next m.facts xs' n.next n.facts ys' o r → Keeps F G new after Q k facts (xs ++ xs') j others (ys ++ ys') o r
   moved {k = k} {j = j} {xs = xs} {ys = ys} {xs' = xs'} {ys' = ys'} {m = m} {n = n} p q h (went r b p' q' h') = went r b (part_then p p') (part_then q q') (λ f g.

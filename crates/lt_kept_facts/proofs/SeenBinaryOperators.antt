@@ -1,27 +1,23 @@
 -- What operators make of two and three operands that are seen alike is seen alike: C11 6.5.5 to 6.5.17; and what marks make of them.
-use Rattle.std.proofs.Common.{◌≡◌, refl, sym, ap, ◌∙◌, subst, inl, inr, ℕ, ℤ, pos, List, [], ◌∷◌, Option, Some, None, Bool, true, false, if◌then◌else◌}
+use Rattle.std.proofs.Common.{◌≡◌, refl, sym, ap, ◌∙◌, subst, inl, inr, ℤ, List, [], ◌∷◌, Option, Some, None, Bool, true, false, if◌then◌else◌}
 use Rattle.std.proofs.lemmas.Bool.{false≢true}
-use Rattle.std.specs.Prelude.{◌⊎◌, ◌&&◌, ◌||◌, ◌++◌, not}
-use Rattle.lt_model.specs.declared.scalar.DataModel.{DataModel}
-use Rattle.lt_model.specs.declared.scalar.Scalar.{Scalar}
-use Rattle.lt_model.specs.declared.scalar.Scalar.TheVariants as S
+use Rattle.std.specs.Prelude.{◌⊎◌, ◌&&◌, ◌||◌}
 use Rattle.lt_model.specs.declared.operator.Op.{Op}
 use Rattle.lt_model.specs.declared.operator.Op.TheVariants as O
-use Rattle.lt_model.specs.Conversions.{usual_of}
 use Rattle.lt_model.specs.Scalar.{difference_type}
 use Rattle.lt_tree.specs.declared.expression.LogicalOp.{LogicalOp}
-use Rattle.lt_tree.specs.Typing.Types.{CType, CTypes, Void, Num, Pointer, Array, Struct, Function, Floating, Qualified, target_of, unqualified, is_integer, is_pointer}
-use Rattle.lt_tree.specs.Typing.Extents.{Structs, has_size}
-use Rattle.lt_tree.specs.Typing.Constants.{Constancy, varying, faulty, number, null_constant, null_address, address, is_form, is_null_constant, converted, applied, operated, negated, connected, chosen, moved_by}
+use Rattle.lt_tree.specs.Typing.Types.{CType, Void, Num, Pointer, Array, Struct, Function, Floating, Qualified, unqualified, is_integer, is_pointer}
+use Rattle.lt_tree.specs.Typing.Extents.{Structs}
+use Rattle.lt_tree.specs.Typing.Constants.{Constancy, varying, faulty, number, null_constant, null_address, address, is_form, is_null_constant, converted, applied, connected, chosen, moved_by}
 use Rattle.lt_tree.specs.Typing.Rules.{Rule, unless, bad_sum}
 use Rattle.lt_tree.specs.Typing.TypedTree as e
 use Rattle.lt_tree.specs.Typing.TypedTree.{Value, type_of}
 use Rattle.lt_tree.specs.Typing.Entities.{Known}
-use Rattle.lt_tree.specs.Typing.Operands.{points_to, are_integers, is_movable, is_pointer_and_integer, can_be_added, can_be_subtracted, point_alike}
-use Rattle.lt_tree.specs.Typing.Expressions.{Typed, Use, as_value, as_truth, as_place, as_callee, valued, varies, own_type, value_in, place_in, constancy_to, converted_to}
+use Rattle.lt_tree.specs.Typing.Operands.{are_integers, is_movable, is_pointer_and_integer, can_be_added, can_be_subtracted, point_alike}
+use Rattle.lt_tree.specs.Typing.Expressions.{Typed, own_type, value_in, place_in, constancy_to, converted_to}
 use Rattle.lt_tree.specs.Typing.Operations.{pointer_among, other_among, object_size, element_size}
-use Rattle.lt_tree.specs.Typing.BinaryOperations.{operation_type, right_type, on_integers, on_pointers, moved, towards, distance, compared, operand_faults, judge_binary, settles, judge_logical, chosen_type, judge_conditional, judge_assign, updated, judge_update, judge_assignment, last_of, values_of, judge_comma}
-use Rattle.lt_kept_facts.proofs.SeenAlike.{SameForm, SameKind, values, SeenAlike, SeenAs, same_type, same_by, same_both, alike_values}
+use Rattle.lt_tree.specs.Typing.BinaryOperations.{operation_type, right_type, on_integers, on_pointers, moved, towards, distance, compared, operand_faults, judge_binary, settles, judge_logical, chosen_type, judge_conditional, judge_assign, updated, judge_update, judge_assignment, last_of, judge_comma}
+use Rattle.lt_kept_facts.proofs.SeenAlike.{SameForm, values, SeenAlike, same_type, same_by, same_both, alike_values}
 use Rattle.lt_kept_facts.proofs.SeenOperators.{converted_none, moved_by_none, pointer_type}
 
 -- ---- constants that are no integers

@@ -1,13 +1,11 @@
 -- What is asked of the nodes outside of marks, piece by piece.
-use Rattle.std.proofs.Common.{◌≡◌, refl, sym, ap, ◌∙◌, subst, ℕ, suc, ◌+◌, ◌-◌, ◌<◌, ◌≤◌, max, eqb, Bool, true, false, if◌then◌else◌, ◌&&◌, List, [], ◌∷◌, ◌++◌, length, map, Option, Some, None, arith}
+use Rattle.std.proofs.Common.{◌≡◌, refl, ap, ◌∙◌, ℕ, suc, ◌+◌, ◌-◌, ◌≤◌, max, eqb, Bool, true, false, ◌&&◌, List, [], ◌∷◌, ◌++◌, length, map, arith}
 use Rattle.std.proofs.lemmas.Bool.Decides.{nat_tests}
 use Rattle.std.proofs.lemmas.List.{map-append}
 use Rattle.lt_tree.specs.Tree as c
 use Rattle.lt_tree.specs.Nodes.{Node, a_mark, in_mark, in_marks, in_expression, in_bindings}
-use Rattle.lt_tree.specs.Typing.Types.{CType}
-use Rattle.lt_tree.specs.Typing.Constants.{is_number}
 use Rattle.lt_tree.specs.Typing.Entities.{Fact}
-use Rattle.lt_objectives.specs.Places.{fact_among, stays_without_marks}
+use Rattle.lt_objectives.specs.Places.{stays_without_marks}
 use Rattle.lt_sites.specs.Sites.{part_of}
 use Rattle.lt_facts.specs.Outside.{mark_size, outside_from, places_from}
 use Rattle.lt_kept_facts.specs.Asked.{asked, kept, seen}
@@ -29,7 +27,8 @@ places_both k inside (x ∷ xs) ys =
     (places_from (k + suc (length xs)) (outside_from (inside_after later xs) (map part_of ys)))
     (places_both (k + 1) later xs ys ∙ ap (λ n. places_from (k + 1) (outside_from later (map part_of xs)) ++ places_from n (outside_from (inside_after later xs) (map part_of ys))) e)
 
-kept_both : (k : ℕ) (xs ys : List Node) → Ends xs → kept k (xs ++ ys) ≡ kept k xs ++ kept (k + length xs) ys
+-- the nodes outside of marks, of one piece and of the next
+pub kept_both : (k : ℕ) (xs ys : List Node) → Ends xs → kept k (xs ++ ys) ≡ kept k xs ++ kept (k + length xs) ys
 kept_both k xs ys ends = places_both k 0 xs ys ∙ ap (λ n. kept k xs ++ places_from (k + length xs) (outside_from n (map part_of ys))) (none_inside xs ends)
 
 pub seen_both : (facts : List Fact) (k : ℕ) (xs ys : List Node) → Ends xs → seen facts k (xs ++ ys) ≡ seen facts k xs ++ seen facts (k + length xs) ys

@@ -8,14 +8,14 @@ use Rattle.lt_model.specs.declared.scalar.Scalar.TheVariants as S
 use Rattle.lt_model.specs.declared.operator.Op.{Op}
 use Rattle.lt_model.specs.declared.operator.Op.TheVariants as O
 use Rattle.lt_model.specs.Conversions.{promoted}
-use Rattle.lt_tree.specs.Typing.Types.{CType, Void, Num, Pointer, Array, Struct, Function, Floating, Qualified, target_of, unqualified, qualified, qualifiers_of, is_void, is_integer, is_pointer}
+use Rattle.lt_tree.specs.Typing.Types.{CType, Void, Num, Pointer, Array, Struct, Function, Floating, Qualified, target_of, unqualified, qualified, qualifiers_of, is_integer, is_pointer}
 use Rattle.lt_tree.specs.Typing.Extents.{is_complete, size_of, Placed}
 use Rattle.lt_tree.specs.Typing.Constants.{Constancy, varying, faulty, number, null_constant, null_address, address, is_form, converted, applied, negated, moved_to, moved_by}
 use Rattle.lt_tree.specs.Typing.Rules.{unless, bad_cast, bad_address, bad_call}
 use Rattle.lt_tree.specs.Typing.TypedTree as e
 use Rattle.lt_tree.specs.Typing.TypedTree.{Value, When, type_of}
 use Rattle.lt_tree.specs.Typing.Entities.{Known}
-use Rattle.lt_tree.specs.Typing.Operands.{points_to, are_integers, can_be_cast}
+use Rattle.lt_tree.specs.Typing.Operands.{points_to, can_be_cast}
 use Rattle.lt_tree.specs.Typing.Expressions.{Form, a_value, a_place, a_designator, Typed, as_value, valued, placed, nothing, own_type, is_lvalue, is_lvalue_place, value_in, place_in, Judged, judgement, cast_to, scalar_in, null_of, constancy_as_pointer, constancy_as_number, constancy_to}
 use Rattle.lt_tree.specs.Typing.Operations.{judge_plus, judge_minus, judge_complement, judge_not, judge_address_of, judge_dereference, judge_step, judge_part, part_of, judge_member, judge_arrow, judge_index, judge_function, judge_call, judge_cast, constant_address, target_in, member_in, stepped, object_size, element_size, pointer_among, other_among}
 use Rattle.lt_kept_facts.proofs.SeenAlike.{SameForm, SameKind, values, places, designators, HasAddress, SeenAlike, SeenAs, same_type, same_by, alike_values, alike_itself, integer_of}

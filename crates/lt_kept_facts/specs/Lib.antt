@@ -1,2 +1,4 @@
 pub mod Asked
 pub mod Laws
+pub mod Known
+pub mod Objectives

@@ -10,7 +10,7 @@ use Rattle.lt_tree.specs.Tree as c
 use Rattle.lt_tree.specs.Nodes.{in_marks, in_mark}
 use Rattle.lt_tree.specs.Typing.Types.{CType, Num, is_scalar}
 use Rattle.lt_tree.specs.Typing.Extents.{Structs, has_too_many_cells}
-use Rattle.lt_tree.specs.Typing.Constants.{Constancy, varying}
+use Rattle.lt_tree.specs.Typing.Constants.{varying}
 use Rattle.lt_tree.specs.Typing.Rules.{Rule, unless, bad_mark, broken_if, floating_type, bad_length, function_as_value}
 use Rattle.lt_tree.specs.Typing.TypedTree as e
 use Rattle.lt_tree.specs.Typing.TypedTree.{Value, Marks, Mark, Bindings, type_of, before, after}
@@ -26,7 +26,7 @@ use Rattle.lt_tree.specs.Typing.Declarators.{Declares}
 use Rattle.lt_tree.specs.Typing.ExpressionTyping.{expression, expressions, marks}
 use Rattle.lt_mark_laws.specs.Added as a
 use Rattle.lt_mark_laws.specs.Added.{AreNew, Adds, can_be_marked, AddsMarks, Keeps, KeepsBound}
-use Rattle.lt_mark_typing.specs.Beside.{IsBeside, AddsForm, values, AddsMade, AddsTyped, AddsTest, AddsEach, none_added, one_added, Position, in_use, in_test, use_of, AddsAt, Follows, goes, breaks}
+use Rattle.lt_mark_typing.specs.Beside.{IsBeside, AddsForm, values, AddsMade, AddsTest, AddsEach, none_added, one_added, Position, in_use, in_test, use_of, AddsAt, Follows, goes, breaks}
 use Rattle.lt_mark_typing.specs.Placed as p
 use Rattle.lt_mark_typing.specs.Placed.{IsNewId, AreOld, AreNewLabels, takes_labels, IsMarkable, is_good_type, IsNoNull, position_of, behind_marks, any_type_name, joined, AddsTo, as_it_is, in_parts, in_front, around, AddsToParts, AddsToAll}
 use Rattle.lt_mark_laws.proofs.Itself.{itself}
@@ -36,7 +36,7 @@ use Rattle.lt_mark_typing.proofs.Knowing.{index_known, binary_known, conditional
 use Rattle.lt_mark_typing.proofs.Operators.{left_empty, right_empty, empty_both, unless_more, scalar_more, unary_adds, step_adds, member_adds, arrow_adds, index_adds, cast_judged, call_adds}
 use Rattle.lt_mark_typing.proofs.BinaryOperators.{binary_adds, logical_adds, conditional_adds, assignment_adds, comma_adds}
 use Rattle.lt_mark_typing.proofs.Ends.{structs_same, ended, finished, finished_alone}
-use Rattle.lt_mark_typing.proofs.Unchanged.{Same, SameDeclares, old_first, old_second, label_beside, decide_same, after_same, unary_known, of_expression, of_specifiers, of_declarator, of_mark}
+use Rattle.lt_mark_typing.proofs.Unchanged.{Same, SameDeclares, old_first, old_second, label_beside, decide_too, decide_typed, after_too, after_typed, unary_known, of_expression, of_specifiers, of_declarator, of_mark}
 use Rattle.lt_mark_typing.proofs.NewMarks.{new_labels, new_id, new_label_beside, numbered_alone, unmarked_there, good_faults}
 
 -- ---- positions
@@ -78,6 +78,10 @@ use_behind (in_use role) = refl
 
 there : {new : ℕ → Bool} {j i i' : Judged} → i' ≡ i → AddsJudged new j i → AddsJudged new j i'
 there {new} {j} h d = subst (AddsJudged new j) (sym h) d
+
+-- where fewer rules may be broken
+there_too : {new : ℕ → Bool} {j i i' : Judged} → (i.faults ≡ [] → i'.faults ≡ []) → i'.typed ≡ i.typed → AddsJudged new j i → AddsJudged new j i'
+there_too {new} {j} f h d = record { faults = λ g. f (d.faults g); typed = subst (AddsMade new j.typed) (sym h) d.typed }
 
 -- ---- values behind marks
 
@@ -370,7 +374,7 @@ module _ {new : ℕ → Bool} where
   decide_end {last} k l d e when_true when_false tag role r h g f =
       subst (λ role. Follows new last (AddsMade new) (expression (c.Decide d when_true when_false tag) role k) (expression (c.Decide e when_true when_false tag) role l)) (sym r)
       (bind f (λ x y m n p b. bind (finished k.next l.next as_truth (judge_decide as_truth x when_true when_false tag m) (judge_decide as_truth y when_true when_false tag n)
-      (there (decide_same b as_truth y when_true when_false tag h g) (decide_adds when_true when_false tag m p)) b)
+      (there_too (decide_too b as_truth y when_true when_false tag h g) (decide_typed b as_truth y when_true when_false tag) (decide_adds when_true when_false tag m p)) b)
       (λ x y m n p b. goes p (label_beside (label_of when_false tag []) g (label_beside (label_of when_true tag []) h b)))))
 
   -- a `pc_after` with new labels in front of what stands in it
@@ -385,7 +389,7 @@ module _ {new : ℕ → Bool} where
   after_labels position role k id tag labels it other h u f are s d l b =
       bind_at (front_under labels other role u (λ x m q. (f x m q).1) are d (entered_beside b)) (λ x z m n q r b.
       bind (end_at position k.next l.next (judge_after role x id tag m) (judge_after role z id tag n)
-      (there (after_same b role z id tag h)
+      (there_too (after_too b role z id tag h) (after_typed b role z id tag)
       (subst (λ (z : Typed). AddsJudged new (judge_after role x id tag m) (judge_after role z id tag m)) (sym r.4) (after_under x r.0 r.1 (f x m q).0.0 role id tag m s r.2 r.3 (f x m q).0.1))) b)
       (λ x y m n r b. goes r (label_beside (label_of id tag []) h b)))
 
@@ -438,7 +442,7 @@ module _ {new : ℕ → Bool} where
         (λ x y m n s b. marked_end x y position k.next l.next s r b))
     of_parts (p.Decide {position} {known = k} {when_true} {when_false} {tag} {d = v} {e = w} h g i d) {l} b = so (λ x y. made_at position) (decide_end k l v w when_true when_false tag (use_of position) h g i (of_to d (entered_beside b)))
     of_parts (p.After {position} {known = k} {id} {tag} h d) {l} b = bind (of_to d (entered_beside b)) (λ x y m n r b.
-        bind (end_at position k.next l.next (judge_after (use_of position) x id tag m) (judge_after (use_of position) y id tag n) (there (after_same b (use_of position) y id tag h) (after_judged (use_of position) id tag m (made_in_use (inside_after (use_of position)) r))) b)
+        bind (end_at position k.next l.next (judge_after (use_of position) x id tag m) (judge_after (use_of position) y id tag n) (there_too (after_too b (use_of position) y id tag h) (after_typed b (use_of position) y id tag) (after_judged (use_of position) id tag m (made_in_use (inside_after (use_of position)) r))) b)
         (λ x y m n r b. goes r (label_beside (label_of id tag []) h b)))
     of_parts (p.AfterLabels {position = in_use as_value} {known = k} {id} {tag} {labels} {d = v} {e = w} h t u f are d) {l} b = after_labels (in_use as_value) as_value k id tag labels v w h u f are (λ it. refl) (λ j b. so (λ x y r. made r) (of_to d b)) l b
     of_parts (p.AfterLabels {position = in_use as_truth} {known = k} {id} {tag} {labels} {d = v} {e = w} h t u f are d) {l} b = after_labels (in_use as_truth) as_truth k id tag labels v w h u f are (λ it. refl) (λ j b. of_to d b) l b

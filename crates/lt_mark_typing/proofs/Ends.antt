@@ -47,6 +47,11 @@ module _ {new : ℕ → Bool} {used' : List ℕ} where
   finished_same n m role j i d b = ended n m role j i (λ h. ap (λ (it : Judged). it.faults) d ∙ h) (λ structs h. ap (λ (it : Judged). faults_of_any structs role it.typed) d ∙ h)
       (ap (λ (it : Judged). used role it.typed) d) b
 
+  -- the same is judged, where fewer rules may be broken
+  pub finished_alike : {k l : Known} (n m : ℕ) (role : Use) (j i : Judged) → (j.faults ≡ [] → i.faults ≡ []) → i.typed ≡ j.typed → IsBeside new used' k l
+      → Follows new used' (λ (x y : Typed). y ≡ x) (finish n role j k) (finish m role i l)
+  finished_alike n m role j i f d b = ended n m role j i f (λ structs h. ap (faults_of_any structs role) d ∙ h) (ap (used role) d) b
+
 -- a node that the first text doesn't have
 pub finished_alone : (l : Known) (m : ℕ) (role : Use) (i : Judged) → i.faults ≡ [] → faults_of_any l.structs role i.typed ≡ []
     → finish m role i l ≡ Goes (used role i.typed) (record l { facts = l.facts ++ fact_of m i.typed ∷ [] })

@@ -1,14 +1,14 @@
 -- Going over both texts side by side.
 use Rattle.std.proofs.Common.{◌≡◌, ℕ, ◌+◌, List, [], ◌∷◌, Bool, refl, ap, ◌∙◌}
 use Rattle.lt_tree.specs.Typing.Rules.{Rule}
-use Rattle.lt_tree.specs.Typing.Entities.{Known, Object, Function, Label, Fact}
+use Rattle.lt_tree.specs.Typing.Entities.{Known, Object, Function, Label, Fact, greatest_label_id}
 use Rattle.lt_tree.specs.Typing.Steps.{Outcome, Goes, Breaks, goes_on, settle}
 use Rattle.lt_mark_laws.specs.Added.{AreSameObjects}
 use Rattle.lt_mark_typing.specs.Beside.{IsBeside, Follows, goes, breaks}
 
--- what is known there, with these numbers, objects, functions, labels and facts
+-- what is known there, with these numbers, objects, functions, labels and facts, where labels may have any id
 abbrev pub with_others : Known → ℕ → List Object → List Function → List Label → List Fact → Known
-with_others known n os fs ls facts = record known { next = n; objects = os; functions = fs; labels = ls; facts = facts }
+with_others known n os fs ls facts = record known { next = n; greatest_id = greatest_label_id; objects = os; functions = fs; labels = ls; facts = facts }
 
 module _ {new : ℕ → Bool} where
   -- what doesn't depend on what differs is the same

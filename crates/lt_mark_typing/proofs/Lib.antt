@@ -1,16 +1,17 @@
-mod Going
-mod Operands
-mod Knowing
-mod Operators
-mod BinaryOperators
+pub mod GoodIds
+pub mod Going
+pub mod Operands
+pub mod Knowing
+pub mod Operators
+pub mod BinaryOperators
 pub mod Ends
 pub mod Unchanged
 pub mod NewMarks
-mod Again
-mod Declared
-mod Initialisers
-mod Statements
-mod Units
-mod TypesOfObjects
+pub mod Again
+pub mod Declared
+pub mod Initialisers
+pub mod Statements
+pub mod Units
+pub mod TypesOfObjects
 pub mod Predicates
 pub mod Quiet

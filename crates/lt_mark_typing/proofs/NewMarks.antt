@@ -1,7 +1,7 @@
 -- New marks are typed where they stand.
 use Rattle.std.proofs.Common.{◌≡◌, ℕ, ◌+◌, List, [], ◌∷◌, Option, Some, None, Bool, true, false, refl, sym, ap, ◌∙◌, subst}
 use Rattle.std.proofs.lemmas.Bool.{false≢true, eqb-true, eq-eqb}
-use Rattle.std.specs.Prelude.{◌++◌, ◌==◌, ◌||◌, ◌&&◌, not, is_some, unwrap_or}
+use Rattle.std.specs.Prelude.{◌++◌, ◌==◌, ◌||◌, ◌&&◌, nat_le, not, is_some, unwrap_or}
 use Rattle.std.specs.List.{list_any}
 use Rattle.lt_tree.specs.Tree as c
 use Rattle.lt_tree.specs.Purity.{is_pure}
@@ -10,7 +10,8 @@ use Rattle.lt_tree.specs.Typing.Extents.{Structs, has_too_many_cells}
 use Rattle.lt_tree.specs.Typing.Rules.{unless, bad_mark, broken_if, floating_type, bad_length, function_as_value}
 use Rattle.lt_tree.specs.Typing.TypedTree as e
 use Rattle.lt_tree.specs.Typing.TypedTree.{Value, Marks, type_of}
-use Rattle.lt_tree.specs.Typing.Entities.{Known, Label, Fact}
+use Rattle.lt_tree.specs.Typing.Operands.{holds}
+use Rattle.lt_tree.specs.Typing.Entities.{Known, Label, Fact, greatest_label_id}
 use Rattle.lt_tree.specs.Typing.Steps.{Goes, goes_on, settle, adds_label, gives, ◌>>◌}
 use Rattle.lt_tree.specs.Typing.Expressions.{Typed, own_type, value_in, has_floating, has_pointer_to_function}
 use Rattle.lt_tree.specs.Typing.MarkRules.{is_new_id, is_good_id, id_of, number_of_id, is_tag, is_good_mark, label_of}
@@ -20,6 +21,7 @@ use Rattle.lt_mark_laws.specs.Added.{AreNew}
 use Rattle.lt_mark_typing.specs.Beside.{AddsLabels, no_labels, kept, added, is_used, IsBeside}
 use Rattle.lt_mark_typing.specs.Placed.{IsNewId, IsPredicateAt, AreNewLabels, is_good_type}
 use Rattle.lt_mark_typing.proofs.Going.{same_of}
+use Rattle.lt_mark_typing.proofs.GoodIds.{both_hold, id_small}
 
 apart_by : (new : ℕ → Bool) (n id : ℕ) (b : Bool) → (n == id) ≡ b → new n ≡ false → new id ≡ true → b ≡ false
 apart_by new n id false q h g = refl
@@ -29,9 +31,10 @@ unused_by : (us : List ℕ) (n id : ℕ) (b : Bool) → (n == id) ≡ b → is_u
 unused_by us n id false q h g = refl
 unused_by us n id true q h g = absurd (false≢true (sym g ∙ ap (λ i. is_used i us) (sym (eqb-true n id q)) ∙ h))
 
-good_by : (known : Known) (found : Option ℕ) → is_some found ≡ true → is_new_id known (unwrap_or found 0) ≡ true → elim (found) as (λ _. Bool) [ None ↦ false | Some n ↦ is_new_id known n ] ≡ true
-good_by known None h g = h
-good_by known (Some n) h g = g
+good_by : (known : Known) (text : List ℕ) (found : Option ℕ) → id_of text ≡ found → known.greatest_id ≡ greatest_label_id → is_some found ≡ true → is_new_id known (unwrap_or found 0) ≡ true
+    → holds (λ n. nat_le n known.greatest_id && is_new_id known n) found ≡ true
+good_by known text None e all h g = h
+good_by known text (Some n) e all h g = both_hold (nat_le n known.greatest_id) (is_new_id known n) (ap (nat_le n) all ∙ id_small text n e) g
 
 module _ {new : ℕ → Bool} where
   -- ---- labels
@@ -44,7 +47,7 @@ module _ {new : ℕ → Bool} where
       ap (λ b. b || list_any (λ label. label.id == id) ys) (unused_by used label.id id (label.id == id) refl is_in g) ∙ none_among id h g d
 
   pub new_id : {used : List ℕ} {k l : Known} (id : List ℕ) → IsNewId new used id → IsBeside new used k l → is_good_id l id ≡ true
-  new_id {used} {k} {l} id h b = good_by l (id_of id) h.0 (ap not (none_among (number_of_id id) h.1 h.2 b.labels))
+  new_id {used} {k} {l} id h b = good_by l id (id_of id) refl (ap (λ (it : Known). it.greatest_id) b.same) h.0 (ap not (none_among (number_of_id id) h.1 h.2 b.labels))
 
   more_used : {used : List ℕ} {xs ys : List Label} (n : ℕ) → AddsLabels new used xs ys → AddsLabels new (n ∷ used) xs ys
   more_used n no_labels = no_labels

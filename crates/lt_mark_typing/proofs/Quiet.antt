@@ -19,6 +19,7 @@ use Rattle.lt_tree.specs.Typing.NodeEnds.{judge_unary, text_object, operand_of, 
 use Rattle.lt_tree.specs.Typing.ExpressionTyping.{expression, expressions, maybe, specifiers, type_specifiers, type_specifier, declarator, parts, parameters, parameter_list}
 use Rattle.lt_mark_typing.specs.Beside.{IsBeside, Follows, goes}
 use Rattle.lt_mark_typing.specs.Placed.{AreOld, IsThere}
+use Rattle.lt_mark_typing.proofs.Going.{with_others}
 use Rattle.lt_mark_typing.proofs.Knowing.{length_same}
 use Rattle.lt_mark_typing.proofs.Unchanged.{Same}
 use Rattle.lt_mark_typing.proofs.Unchanged as unchanged
@@ -211,9 +212,9 @@ module _ {new : ℕ → Bool} {used : List ℕ} where
       same : j ≡ record l { next = j.next; facts = j.facts }
       same =
           s.same
-          ∙ ap (λ those. record k { next = j.next; objects = those; functions = j.functions; labels = j.labels; facts = j.facts }) objects
-          ∙ ap (λ those. record k { next = j.next; objects = l.objects; functions = those; labels = j.labels; facts = j.facts }) h.functions_same
-          ∙ ap (λ those. record k { next = j.next; objects = l.objects; functions = l.functions; labels = those; facts = j.facts }) h.labels_same
+          ∙ ap (λ those. with_others k j.next those j.functions j.labels j.facts) objects
+          ∙ ap (λ those. with_others k j.next l.objects those j.labels j.facts) h.functions_same
+          ∙ ap (λ those. with_others k j.next l.objects l.functions those j.facts) h.labels_same
           ∙ sym (ap (λ (it : Known). record it { next = j.next; facts = j.facts }) b.same)
   there_by test x k l n facts (Breaks rule node) t b d h = elim d [ ]
 

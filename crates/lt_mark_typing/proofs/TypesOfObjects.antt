@@ -1,5 +1,5 @@
 -- The list of types of a program begins with those of which members and objects are made.
-use Rattle.std.proofs.Common.{◌≡◌, ℕ, List, [], ◌∷◌, ◌++◌, length, Option, Some, None, Bool, true, false, refl, sym, ap, ◌∙◌, subst, append_assoc}
+use Rattle.std.proofs.Common.{◌≡◌, ℕ, List, [], ◌∷◌, ◌++◌, Bool, true, false, refl, sym, ap, ◌∙◌, subst, append_assoc}
 use Rattle.std.proofs.lemmas.Bool.{eq-eqb}
 use Rattle.std.proofs.lemmas.List.{append-nil}
 use Rattle.std.specs.Prelude.{◌==◌, ◌||◌, ◌&&◌, not, if◌then◌else◌, filter_map}
@@ -10,15 +10,14 @@ use Rattle.lt_model.specs.declared.scalar.Scalar.TheVariants as S
 use Rattle.lt_model.specs.Types.{Qualifiers}
 use Rattle.lt_tree.specs.Tree as c
 use Rattle.lt_tree.specs.Typing.Types.{CType, CTypes, no_types, a_type, Void, Num, Pointer, Array, Struct, Function as FunctionType, Floating, Qualified, same, all_same, same_scalar, same_bool, same_qualifiers, include}
-use Rattle.lt_tree.specs.Typing.Extents.{StructType}
-use Rattle.lt_tree.specs.Typing.Entities.{Known, Object, Function, Fact, at_start}
+use Rattle.lt_tree.specs.Typing.Entities.{Known, Object, Fact, greatest_label_id, starting}
 use Rattle.lt_tree.specs.Typing.Steps.{Outcome, Goes, Breaks}
-use Rattle.lt_tree.specs.Typing.UnitTyping.{externals, defined_in, answer, typing}
-use Rattle.lt_tree.specs.Typing.Programs.{Program, Typing, typed, made_of, with_new, types_of_struct, types_in, program_of}
+use Rattle.lt_tree.specs.Typing.UnitTyping.{externals, defined_in, answer, typing_to}
+use Rattle.lt_tree.specs.Typing.Programs.{Program, typed, made_of, with_new, types_of_struct, program_of}
 use Rattle.lt_mark_laws.specs.Added.{AddsProgram, AreSameObjects}
-use Rattle.lt_mark_laws.specs.TypeLists.{AreAmong, BeginAlike}
+use Rattle.lt_mark_laws.specs.TypeLists.{AreAmong, types_of_objects, BeginAlike}
 use Rattle.lt_mark_laws.proofs.TypeLists.{all_first, all_second, numbers_change_nothing}
-use Rattle.lt_mark_typing.specs.Laws.{types_of_objects, MarkedUnitsRunTheSame}
+use Rattle.lt_mark_typing.specs.Laws.{MarkedUnitsRunTheSame}
 use Rattle.lt_mark_typing.proofs.Predicates.{both_true}
 use Rattle.lt_mark_typing.proofs.Units.{units, functions_length, function_at}
 
@@ -134,10 +133,10 @@ known_by unit (Goes u known) program e = (known, is e)
     is e = cc
 known_by unit (Breaks rule node) program e = absurd cc
 
-program_begins : (model : DataModel) (unit : c.Unit) (program : Program) → typing model unit ≡ typed program → (more : List CType) × (program.types ≡ types_of_objects program ++ more)
-unfolding typing
-program_begins model unit program e =
-    let it = known_by unit (externals unit (at_start model (filter_map defined_in unit))) program e in
+program_begins : (greatest : ℕ) (model : DataModel) (unit : c.Unit) (program : Program) → typing_to greatest model unit ≡ typed program → (more : List CType) × (program.types ≡ types_of_objects program ++ more)
+unfolding typing_to
+program_begins greatest model unit program e =
+    let it = known_by unit (externals unit (starting greatest model (filter_map defined_in unit))) program e in
     subst (λ (those : Program). (more : List CType) × (those.types ≡ types_of_objects those ++ more)) it.1 (types_begin unit it.0)
 
 made_same : (xs ys : List Object) → AreSameObjects xs ys → flat_map (λ (object : Object). made_of object.type) ys ≡ flat_map (λ (object : Object). made_of object.type) xs
@@ -169,10 +168,10 @@ begin_alike program other adds h g =
 -- ---- the law
 
 pub runs_same : MarkedUnitsRunTheSame
-runs_same new model unit marked after program d e h =
-    let it = units {new = new} model unit marked after program d e h in
+runs_same new greatest model unit marked after program d e h =
+    let it = units {new = new} greatest model unit marked after program d e h in
     let adds = it.2 in
-    let lists = begin_alike {new = new} program it.0 adds (program_begins model unit program h) (program_begins model marked it.0 it.1) in (
+    let lists = begin_alike {new = new} program it.0 adds (program_begins greatest model unit program h) (program_begins greatest_label_id model marked it.0 it.1) in (
       it.0,
       it.1,
       functions_length new program.functions it.0.functions adds.functions,

@@ -1,26 +1,28 @@
 -- What is typed in a text is typed alike where marks are added elsewhere.
 use Rattle.std.proofs.Common.{◌≡◌, ℕ, ℤ, pos, ◌+◌, List, [], ◌∷◌, Option, Some, None, Bool, true, false, refl, sym, ap, ◌∙◌, subst}
 use Rattle.std.proofs.lemmas.Bool.{false≢true, eqb-true}
-use Rattle.std.specs.Prelude.{◌++◌, ◌==◌, ◌||◌, ◌&&◌, ◌+ℤ◌, not, length, unwrap_or, if◌then◌else◌}
-use Rattle.std.specs.List.{list_any}
+use Rattle.std.specs.Prelude.{◌++◌, ◌==◌, ◌||◌, ◌&&◌, ◌+ℤ◌, nat_le, not, length, unwrap_or, if◌then◌else◌}
+use Rattle.std.specs.List.{list_any, list_all}
 use Rattle.lt_model.specs.declared.operator.Op.TheVariants as O
 use Rattle.lt_model.specs.declared.scalar.Scalar.TheVariants as S
 use Rattle.lt_tree.specs.declared.expression.UnaryOp.{UnaryOp}
 use Rattle.lt_tree.specs.declared.expression.UnaryOp.TheVariants as unary
 use Rattle.lt_tree.specs.Tree as c
+use Rattle.lt_tree.specs.Purity.{is_pure}
 use Rattle.lt_tree.specs.Nodes.{Node, in_expression, in_expressions, in_maybe, in_marks, in_mark, in_bindings, in_specifiers, in_types, in_type, in_members, in_member_declarators, in_enumerators, in_declarator, if_written, in_parts, in_parameters, in_parameter_list}
-use Rattle.lt_tree.specs.Typing.Types.{CType, Struct, adjusted}
+use Rattle.lt_tree.specs.Typing.Types.{CType, Struct, adjusted, is_scalar}
 use Rattle.lt_tree.specs.Typing.Extents.{Member, Structs, has_too_many_cells}
 use Rattle.lt_tree.specs.Typing.Constants.{constant_of, address}
 use Rattle.lt_tree.specs.Typing.Rules.{Rule, broken_if, unless, bad_mark, bad_length, incomplete_type, declared_twice}
 use Rattle.lt_tree.specs.Typing.TypedTree as e
 use Rattle.lt_tree.specs.Typing.TypedTree.{before, after, letters}
+use Rattle.lt_tree.specs.Typing.Operands.{holds}
 use Rattle.lt_tree.specs.Typing.Entities.{Known, Object, Function, Label, Fact, Frame, Tagged, a_struct, an_enum, an_enumerator, tag_here, tagged_in, meaning_of, bound_in, innermost, binding, an_object, no_names, literal, unmade, parameter}
 use Rattle.lt_tree.specs.Typing.Steps.{Outcome, Goes, goes_on, settle, left, marked_again, gives, binds, adds_label, ◌>>◌}
 use Rattle.lt_tree.specs.Typing.Expressions.{Typed, Use, as_value, as_truth, as_place, as_callee, own_type, value_in, placed, judgement, finish}
 use Rattle.lt_tree.specs.Typing.Operations.{judge_name, judge_constant, judge_size, judge_cast, judge_plus, judge_minus, judge_complement, judge_dereference, is_among, text_type}
 use Rattle.lt_tree.specs.Typing.BinaryOperations.{judge_logical, judge_comma}
-use Rattle.lt_tree.specs.Typing.MarkRules.{TypedBinding, names_of, is_new_id, is_new_name, are_new_names, is_good_id, id_of, number_of_id, is_good_mark, label_of, judge_decide, inside_mark, inside_after, judge_after, judge_marked, bindings_of}
+use Rattle.lt_tree.specs.Typing.MarkRules.{TypedBinding, names_of, is_new_id, is_new_name, are_new_names, is_good_id, id_of, number_of_id, is_tag, is_good_binding, is_good_mark, is_truth, is_good_decision, is_lvalue_in_use, label_of, judge_decide, inside_mark, inside_after, judge_after, judge_marked, bindings_of}
 use Rattle.lt_tree.specs.Typing.Specifying.{Naming, struct_faults, Specified, is_register, Setting, elsewhere, is_alone, beside_words, struct_tagged, OpenStruct, open_new, open_tagged, open_struct, is_complete_struct, with_members, close_struct, open_enum, close_enum, enum_tagged, typedef_named, value_given, enumerator_faults}
 use Rattle.lt_tree.specs.Typing.Declarators.{Built, Declares, declares, no_parameters_yet, array_of, length_or_none, all_faults, setting_in_sizeof, is_written, type_name_faults, parameter_faults, binds_parameter, parameter_before, member_faults, with_member, has_width}
 use Rattle.lt_tree.specs.Typing.NodeEnds.{text_object, text_at, judge_unary, operand_of, also, is_no_declarator, alone_faults, end_of_mark, end_of_enumerator, end_of_declarator, enter_if, without_parameters}
@@ -30,7 +32,9 @@ use Rattle.lt_mark_typing.specs.Beside.{AddsLabels, no_labels, kept, added, IsBe
 use Rattle.lt_mark_typing.specs.Placed.{AreOld}
 use Rattle.lt_mark_typing.proofs.Going.{with_others, same_of, bind, entered_beside, settled}
 use Rattle.lt_mark_typing.proofs.Knowing.{length_same, name_known, index_known, binary_known, conditional_known, assignment_known, call_known, member_known, arrow_known, step_known, size_known, cast_known}
-use Rattle.lt_mark_typing.proofs.Ends.{at_other, structs_same, finished_same}
+use Rattle.lt_mark_typing.proofs.Ends.{at_other, structs_same, finished_same, finished_alike}
+use Rattle.lt_mark_typing.proofs.Operators.{unless_more}
+use Rattle.lt_mark_typing.proofs.GoodIds.{second_of, both_hold, id_small, third_more, fourth_more, fourth_and_fifth_more}
 
 abbrev pub Same : {A : Type 0} → A → A → Type 0
 Same a b = b ≡ a
@@ -103,15 +107,18 @@ module _ {new : ℕ → Bool} {used : List ℕ} where
     old_id id h = ap not (old_among id h b.labels)
 
     good_id_by : (text : List ℕ) (found : Option ℕ) → id_of text ≡ found → new (number_of_id text) ≡ false
-        → elim (found) as (λ _. Bool) [ None ↦ false | Some n ↦ is_new_id j n ] ≡ elim (found) as (λ _. Bool) [ None ↦ false | Some n ↦ is_new_id k n ]
-    good_id_by text None e h = refl
-    good_id_by text (Some n) e h = old_id n (ap new (sym (number e)) ∙ h)
+        → holds (λ n. nat_le n k.greatest_id && is_new_id k n) found ≡ true → holds (λ n. nat_le n j.greatest_id && is_new_id j n) found ≡ true
+    good_id_by text None e h g = g
+    good_id_by text (Some n) e h g =
+        both_hold (nat_le n j.greatest_id) (is_new_id j n) (ap (λ (it : Known). nat_le n it.greatest_id) b.same ∙ id_small text n e)
+        (old_id n (ap new (sym (number e)) ∙ h) ∙ second_of (nat_le n k.greatest_id) (is_new_id k n) g)
       where
         number : id_of text ≡ Some n → number_of_id text ≡ n
-        number e = rw e refl
+        number e = ap (λ it. unwrap_or it 0) e
 
-    pub good_id : (text : List ℕ) → new (number_of_id text) ≡ false → is_good_id j text ≡ is_good_id k text
-    good_id text h = good_id_by text (id_of text) refl h
+    -- an id that is good in the first text is so in the second, where it may be greater
+    pub good_id : (text : List ℕ) → new (number_of_id text) ≡ false → is_good_id k text ≡ true → is_good_id j text ≡ true
+    good_id text h g = good_id_by text (id_of text) refl h g
 
     names_same : (names : List (List ℕ)) → are_new_names j names ≡ are_new_names k names
     names_same [] = refl
@@ -121,17 +128,32 @@ module _ {new : ℕ → Bool} {used : List ℕ} where
     unmarked_same = same_of (λ (it : Known). it.is_unmarked) b (λ n os fs ls facts h. refl)
 
     good_mark : (written : c.Expression) (x : Typed) (id tag : List ℕ) (bound : List TypedBinding) → new (number_of_id id) ≡ false
-        → is_good_mark j written x id tag bound ≡ is_good_mark k written x id tag bound
-    good_mark written x id tag bound h = rw (unmarked_same) (rw (good_id id h) (rw (names_same (names_of bound)) refl))
+        → is_good_mark k written x id tag bound ≡ true → is_good_mark j written x id tag bound ≡ true
+    good_mark written x id tag bound h g =
+        rw (unmarked_same) (rw (names_same (names_of bound))
+        (fourth_more (not k.is_unmarked) (is_scalar (own_type x)) (is_pure written) (is_good_id k id) (is_good_id j id) (is_tag tag) (list_all is_good_binding bound) (are_new_names k (names_of bound)) (good_id id h) g))
 
-    pub decide_same : (role : Use) (x : Typed) (when_true when_false tag : List ℕ) → new (number_of_id when_true) ≡ false → new (number_of_id when_false) ≡ false
-        → judge_decide role x when_true when_false tag j ≡ judge_decide role x when_true when_false tag k
+    -- a `pc_decide` and a `pc_after` that break no rule in the first text break none in the second, and are typed alike
+    pub decide_too : (role : Use) (x : Typed) (when_true when_false tag : List ℕ) → new (number_of_id when_true) ≡ false → new (number_of_id when_false) ≡ false
+        → (judge_decide role x when_true when_false tag k).faults ≡ [] → (judge_decide role x when_true when_false tag j).faults ≡ []
     unfolding judge_decide
-    decide_same role x when_true when_false tag h g = rw (unmarked_same) (rw (good_id when_true h) (rw (good_id when_false g) refl))
+    decide_too role x when_true when_false tag h g = unless_more bad_mark (is_good_decision role k x when_true when_false tag) (is_good_decision role j x when_true when_false tag)
+        (λ good. rw (unmarked_same)
+        (fourth_and_fifth_more (is_truth role) (not k.is_unmarked) (is_scalar (own_type x)) (is_good_id k when_true) (is_good_id k when_false) (is_good_id j when_true) (is_good_id j when_false)
+        (not (number_of_id when_true == number_of_id when_false)) (is_tag tag) (good_id when_true h) (good_id when_false g) good))
 
-    pub after_same : (role : Use) (x : Typed) (id tag : List ℕ) → new (number_of_id id) ≡ false → judge_after role x id tag j ≡ judge_after role x id tag k
+    pub decide_typed : (role : Use) (x : Typed) (when_true when_false tag : List ℕ) → (judge_decide role x when_true when_false tag j).typed ≡ (judge_decide role x when_true when_false tag k).typed
+    unfolding judge_decide
+    decide_typed role x when_true when_false tag = refl
+
+    pub after_too : (role : Use) (x : Typed) (id tag : List ℕ) → new (number_of_id id) ≡ false → (judge_after role x id tag k).faults ≡ [] → (judge_after role x id tag j).faults ≡ []
     unfolding judge_after
-    after_same role x id tag h = rw (unmarked_same) (rw (good_id id h) refl)
+    after_too role x id tag h = unless_more bad_mark (not (is_lvalue_in_use role x) && not k.is_unmarked && is_good_id k id && is_tag tag) (not (is_lvalue_in_use role x) && not j.is_unmarked && is_good_id j id && is_tag tag)
+        (λ good. rw (unmarked_same) (third_more (not (is_lvalue_in_use role x)) (not k.is_unmarked) (is_good_id k id) (is_good_id j id) (is_tag tag) (good_id id h) good))
+
+    pub after_typed : (role : Use) (x : Typed) (id tag : List ℕ) → (judge_after role x id tag j).typed ≡ (judge_after role x id tag k).typed
+    unfolding judge_after
+    after_typed role x id tag = refl
 
   -- ---- steps
 
@@ -267,7 +289,7 @@ module _ {new : ℕ → Bool} {used : List ℕ} where
   mark_ended n m written x id tag bound {k} {j} h b =
       settled (λ u. adds_label (label_of id tag (names_of bound)) >> gives (e.mark (value_in x) (number_of_id id) (bindings_of bound))) (λ u. adds_label (label_of id tag (names_of bound)) >> gives (e.mark (value_in x) (number_of_id id) (bindings_of bound)))
       n m (unless (is_good_mark k written x id tag bound) bad_mark) (unless (is_good_mark j written x id tag bound) bad_mark)
-      (λ r. ap (λ t. unless t bad_mark) (good_mark b written x id tag bound h) ∙ r) (goes refl (label_beside (label_of id tag (names_of bound)) h b))
+      (unless_more bad_mark (is_good_mark k written x id tag bound) (is_good_mark j written x id tag bound) (good_mark b written x id tag bound h)) (goes refl (label_beside (label_of id tag (names_of bound)) h b))
 
   -- ---- all that stands in expressions
 
@@ -343,10 +365,10 @@ module _ {new : ℕ → Bool} {used : List ℕ} where
         bind_same (of_marks ms (old_first new (in_marks ms) (in_expression value) h.1) (entered_beside b)) (λ typed m n b. bind_same (of_expression value (inside_mark role) (old_second new (in_marks ms) (in_expression value) h.1) b)
         (λ x m n b. finished_same k.next j.next role (judge_marked typed x) (judge_marked typed x) refl b))
     of_expression (c.Decide operand when_true when_false tag) role {k} {j} h b =
-        bind_same (of_expression operand (inside_mark role) h.1 (entered_beside b)) (λ x m n b. bind_same (finished_same k.next j.next role _ _ (decide_same b role x when_true when_false tag h.0.0 h.0.1) b)
+        bind_same (of_expression operand (inside_mark role) h.1 (entered_beside b)) (λ x m n b. bind_same (finished_alike k.next j.next role _ _ (decide_too b role x when_true when_false tag h.0.0 h.0.1) (decide_typed b role x when_true when_false tag) b)
         (λ result m n b. goes refl (label_beside (label_of when_false tag []) h.0.1 (label_beside (label_of when_true tag []) h.0.0 b))))
     of_expression (c.After operand id tag) role {k} {j} h b =
-        bind_same (of_expression operand (inside_after role) h.1 (entered_beside b)) (λ x m n b. bind_same (finished_same k.next j.next role _ _ (after_same b role x id tag h.0) b)
+        bind_same (of_expression operand (inside_after role) h.1 (entered_beside b)) (λ x m n b. bind_same (finished_alike k.next j.next role _ _ (after_too b role x id tag h.0) (after_typed b role x id tag) b)
         (λ result m n b. goes refl (label_beside (label_of id tag []) h.0 b)))
 
     pub of_expressions : (them : c.Expressions) {k j : Known} → AreOld new (in_expressions them) → IsBeside new used k j → Follows new used Same (expressions them k) (expressions them j)

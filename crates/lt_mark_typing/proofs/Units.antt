@@ -10,12 +10,12 @@ use Rattle.lt_tree.specs.Tree as c
 use Rattle.lt_tree.specs.Typing.Types.{CType}
 use Rattle.lt_tree.specs.Typing.Rules.{broken_if, function_disagrees}
 use Rattle.lt_tree.specs.Typing.TypedTree.{Items}
-use Rattle.lt_tree.specs.Typing.Entities.{Known, Frame, Function, a_function, bind_name, at_start}
+use Rattle.lt_tree.specs.Typing.Entities.{Known, Frame, Function, a_function, bind_name, greatest_label_id, starting}
 use Rattle.lt_tree.specs.Typing.Steps.{Outcome, Goes, Breaks, left}
 use Rattle.lt_tree.specs.Typing.Specifying.{elsewhere, is_class}
 use Rattle.lt_tree.specs.Typing.Declarators.{Built, Declares}
 use Rattle.lt_tree.specs.Typing.Declaring.{declaration_faults, definition_shape_faults, definition_faults, has_body_already, with_declared}
-use Rattle.lt_tree.specs.Typing.UnitTyping.{around_body, frame_of, objects_of, defines, external, externals, defined_in, answer, typing}
+use Rattle.lt_tree.specs.Typing.UnitTyping.{around_body, frame_of, objects_of, defines, external, externals, defined_in, answer, typing_to}
 use Rattle.lt_tree.specs.Typing.Programs.{Program, typed, program_of}
 use Rattle.lt_mark_laws.specs.Added.{AddsItems, AddsFunction, AddsFunctions, AddsProgram}
 use Rattle.lt_mark_laws.proofs.Runs.{nothing_changes}
@@ -113,13 +113,13 @@ module _ {new : ℕ → Bool} where
   answered unit marked (Goes u k) (Breaks rule node) program d h = elim d [ ]
   answered unit marked (Breaks rule node) r program d h = absurd cc
 
-  pub units : (model : DataModel) (unit marked : c.Unit) (after : List ℕ) (program : Program)
-      → AddsToUnit new [] after (at_start model (filter_map defined_in unit)) unit marked → filter_map defined_in marked ≡ filter_map defined_in unit → typing model unit ≡ typed program
-      → (other : Program) × (typing model marked ≡ typed other) × AddsProgram new (record program { types = other.types }) other
-  unfolding typing
-  units model unit marked after program d e h =
-      answered unit marked (externals unit (at_start model (filter_map defined_in unit))) (externals marked (at_start model (filter_map defined_in marked))) program
-      (subst (λ names. Follows new after (Same {A = Unit {0}}) (externals unit (at_start model (filter_map defined_in unit))) (externals marked (at_start model names))) (sym e)
+  pub units : (greatest : ℕ) (model : DataModel) (unit marked : c.Unit) (after : List ℕ) (program : Program)
+      → AddsToUnit new [] after (starting greatest model (filter_map defined_in unit)) unit marked → filter_map defined_in marked ≡ filter_map defined_in unit → typing_to greatest model unit ≡ typed program
+      → (other : Program) × (typing_to greatest_label_id model marked ≡ typed other) × AddsProgram new (record program { types = other.types }) other
+  unfolding typing_to
+  units greatest model unit marked after program d e h =
+      answered unit marked (externals unit (starting greatest model (filter_map defined_in unit))) (externals marked (starting greatest_label_id model (filter_map defined_in marked))) program
+      (subst (λ names. Follows new after (Same {A = Unit {0}}) (externals unit (starting greatest model (filter_map defined_in unit))) (externals marked (starting greatest_label_id model names))) (sym e)
       (of_externals d (record { same = refl; objects = tt; functions = tt; labels = no_labels }))) h
 
 -- ---- runs
@@ -141,8 +141,8 @@ function_at new [] (y ∷ gs) h n f g p q = absurd h
 function_at new (x ∷ fs) [] h n f g p q = absurd h
 
 pub run_alike : MarkedUnitsRunAlike
-run_alike new model unit marked after program d e h =
-    let it = units {new = new} model unit marked after program d e h in
+run_alike new greatest model unit marked after program d e h =
+    let it = units {new = new} greatest model unit marked after program d e h in
     let adds = it.2 in (
       it.0,
       it.1,

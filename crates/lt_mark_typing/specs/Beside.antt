@@ -7,7 +7,7 @@ use Rattle.lt_tree.specs.Typing.Rules.{Rule}
 use Rattle.lt_tree.specs.Typing.Constants.{Constancy, varying}
 use Rattle.lt_tree.specs.Typing.TypedTree.{Value, Place}
 use Rattle.lt_tree.specs.Typing.Types.{CType}
-use Rattle.lt_tree.specs.Typing.Entities.{Known, Label}
+use Rattle.lt_tree.specs.Typing.Entities.{Known, Label, greatest_label_id}
 use Rattle.lt_tree.specs.Typing.Steps.{Outcome, Goes, Breaks}
 use Rattle.lt_tree.specs.Typing.Expressions.{Form, a_value, a_place, a_designator, Typed, Use, as_truth, own_type, value_in}
 use Rattle.lt_tree.specs.Typing.Operations.{counts_as_null}
@@ -26,9 +26,10 @@ pub data AddsLabels (new : ℕ → Bool) (used : List ℕ) : List Label → List
   added : {label : Label} {xs ys : List Label}
       → new label.id ≡ true → is_used label.id used ≡ true → label.bound ≡ [] → AddsLabels new used xs ys → AddsLabels new used xs (label ∷ ys)
 
--- The same is known at a place of both texts, but for the numbers of nodes, facts, added labels, and marks in bodies of functions.
+-- The same is known at a place of both texts, but for the numbers of nodes, facts, added labels, and marks in bodies of functions. In the second text a label
+-- may have any id that a label can have.
 pub record IsBeside (new : ℕ → Bool) (used : List ℕ) (known other : Known) : Type 0 where
-  pub same : other ≡ record known { next = other.next; objects = other.objects; functions = other.functions; labels = other.labels; facts = other.facts }
+  pub same : other ≡ record known { next = other.next; greatest_id = greatest_label_id; objects = other.objects; functions = other.functions; labels = other.labels; facts = other.facts }
   pub objects : AreSameObjects known.objects other.objects
   pub functions : AddsFunctions new known.functions other.functions
   pub labels : AddsLabels new used known.labels other.labels

@@ -1,6 +1,5 @@
 -- That what is marked is typed again.
-use Rattle.std.specs.Prelude.{◌≡◌, ℕ, Bool, true, List, [], ◌++◌, length, slice_get, filter_map, Some}
-use Rattle.std.specs.List.{flat_map}
+use Rattle.std.specs.Prelude.{◌≡◌, ℕ, Bool, true, List, [], length, slice_get, filter_map, Some}
 use Rattle.lt_model.specs.declared.scalar.DataModel.{DataModel}
 use Rattle.lt_model.specs.declared.operator.Op.{Op}
 use Rattle.lt_model.specs.declared.input.Input.{Input}
@@ -11,18 +10,18 @@ use Rattle.lt_tree.specs.Typing.Types.{CType, is_scalar, is_integer}
 use Rattle.lt_tree.specs.Purity.{is_pure}
 use Rattle.lt_tree.specs.Nodes.{in_expression}
 use Rattle.lt_tree.specs.Typing.Steps.{Goes}
-use Rattle.lt_tree.specs.Typing.Entities.{Known, Object, Function, Fact, an_object, meaning_of, at_start}
+use Rattle.lt_tree.specs.Typing.Entities.{Known, Function, Fact, an_object, meaning_of, greatest_label_id, starting}
 use Rattle.lt_tree.specs.Typing.Expressions.{Typed, Use, as_value, own_type, as_it_is_read, faults_of_any}
 use Rattle.lt_tree.specs.Typing.Constants.{TypedConstant, constant_of}
 use Rattle.lt_tree.specs.Typing.Operations.{object_named}
 use Rattle.lt_tree.specs.Typing.ExpressionTyping.{expression}
 use Rattle.lt_tree.specs.Typing.StatementTyping.{Around, statement, items}
-use Rattle.lt_tree.specs.Typing.UnitTyping.{defined_in, IsProgramOf}
-use Rattle.lt_tree.specs.Typing.Programs.{Program, made_of, with_new, types_of_struct}
+use Rattle.lt_tree.specs.Typing.UnitTyping.{defined_in, IsProgramTo}
+use Rattle.lt_tree.specs.Typing.Programs.{Program}
 use Rattle.lt_meaning.specs.Runs.{run}
 use Rattle.lt_mark_laws.specs.Added.{AddsStatement, AddsItems, AddsProgram}
 use Rattle.lt_mark_laws.specs.Laws.{AreAlike}
-use Rattle.lt_mark_laws.specs.TypeLists.{AreBelow}
+use Rattle.lt_mark_laws.specs.TypeLists.{types_of_objects, AreBelow}
 use Rattle.lt_mark_typing.specs.Beside.{IsBeside, Position, use_of, AddsAt, Follows}
 use Rattle.lt_mark_typing.specs.Placed.{AreOld, IsThere, AddsTo}
 use Rattle.lt_mark_typing.specs.PlacedItems.{AddsToStatement, AddsToItems}
@@ -50,37 +49,33 @@ StatementsAreTypedAgain =
     × ((them marked : c.Items) → AddsToItems new used after around known them marked → Follows new after (AddsItems new) (items them around known) (items marked around other))
 
 -- A unit with marks added, each where it may stand, has a typed program, if the unit has one: that of the unit with these marks added, but for the list
--- of types. (The types of predicates may come into it, and before others.)
+-- of types. (The types of predicates may come into it, and before others.) Ids go to the greatest that a label can have.
 abbrev pub UnitsAreTypedAgain : Type 0
 UnitsAreTypedAgain =
-    (new : ℕ → Bool) (model : DataModel) (unit marked : c.Unit) (after : List ℕ) (program : Program)
-    → AddsToUnit new [] after (at_start model (filter_map defined_in unit)) unit marked → filter_map defined_in marked ≡ filter_map defined_in unit
-    → IsProgramOf model unit program
-    → (other : Program) × IsProgramOf model marked other × AddsProgram new (record program { types = other.types }) other
+    (new : ℕ → Bool) (greatest : ℕ) (model : DataModel) (unit marked : c.Unit) (after : List ℕ) (program : Program)
+    → AddsToUnit new [] after (starting greatest model (filter_map defined_in unit)) unit marked → filter_map defined_in marked ≡ filter_map defined_in unit
+    → IsProgramTo greatest model unit program
+    → (other : Program) × IsProgramTo greatest_label_id model marked other × AddsProgram new (record program { types = other.types }) other
 
 -- And each function of the marked unit runs as that of the unit does where types have these numbers: the same end, memory, ticks and values left, and
 -- the same marks, new ones aside.
 abbrev pub MarkedUnitsRunAlike : Type 0
 MarkedUnitsRunAlike =
-    (new : ℕ → Bool) (model : DataModel) (unit marked : c.Unit) (after : List ℕ) (program : Program)
-    → AddsToUnit new [] after (at_start model (filter_map defined_in unit)) unit marked → filter_map defined_in marked ≡ filter_map defined_in unit
-    → IsProgramOf model unit program
-    → (other : Program) × IsProgramOf model marked other × (length other.functions ≡ length program.functions)
+    (new : ℕ → Bool) (greatest : ℕ) (model : DataModel) (unit marked : c.Unit) (after : List ℕ) (program : Program)
+    → AddsToUnit new [] after (starting greatest model (filter_map defined_in unit)) unit marked → filter_map defined_in marked ≡ filter_map defined_in unit
+    → IsProgramTo greatest model unit program
+    → (other : Program) × IsProgramTo greatest_label_id model marked other × (length other.functions ≡ length program.functions)
     × ((n : ℕ) (f g : Function) (input : Input) (ticks : ℕ) → slice_get program.functions n ≡ Some f → slice_get other.functions n ≡ Some g
     → AreAlike new (run (record program { types = other.types }) f input ticks) (run other g input ticks))
-
--- the types of which members and objects are made, each once: the list of types begins with them
-abbrev pub types_of_objects : Program → List CType
-types_of_objects program = with_new [] (flat_map types_of_struct program.structs ++ flat_map (λ (object : Object). made_of object.type) program.objects)
 
 -- And as that of the unit does, where the blocks of the input have cells of the types of objects: the numbers of these are the same in both programs, and
 -- accesses by others meet no cells.
 abbrev pub MarkedUnitsRunTheSame : Type 0
 MarkedUnitsRunTheSame =
-    (new : ℕ → Bool) (model : DataModel) (unit marked : c.Unit) (after : List ℕ) (program : Program)
-    → AddsToUnit new [] after (at_start model (filter_map defined_in unit)) unit marked → filter_map defined_in marked ≡ filter_map defined_in unit
-    → IsProgramOf model unit program
-    → (other : Program) × IsProgramOf model marked other × (length other.functions ≡ length program.functions)
+    (new : ℕ → Bool) (greatest : ℕ) (model : DataModel) (unit marked : c.Unit) (after : List ℕ) (program : Program)
+    → AddsToUnit new [] after (starting greatest model (filter_map defined_in unit)) unit marked → filter_map defined_in marked ≡ filter_map defined_in unit
+    → IsProgramTo greatest model unit program
+    → (other : Program) × IsProgramTo greatest_label_id model marked other × (length other.functions ≡ length program.functions)
     × ((n : ℕ) (f g : Function) (input : Input) (ticks : ℕ) → slice_get program.functions n ≡ Some f → slice_get other.functions n ≡ Some g
     → AreBelow (length (types_of_objects program)) input.blocks → AreAlike new (run program f input ticks) (run other g input ticks))
 

@@ -120,7 +120,7 @@ module _ (g : Given) {new : ℕ → Bool} {unit : c.Unit} {program : Program} {c
           let value = value_found as_truth refl e (entered known) next x goes in (
             (value.0, value.1),
             good_scalar next.structs (own_type x) (here.taken x next goes)
-                (subst (λ (y : Typed). has_pointer_to_function (own_type y) ≡ false) (same_found here.comes.goes goes) (g.tests s.model unit program s.typed as_truth (entered known) e here.comes refl)),
+                (subst (λ (y : Typed). has_pointer_to_function (own_type y) ≡ false) (same_found here.comes.goes goes) (g.tests s.greatest s.model unit program s.typed as_truth (entered known) e here.comes refl)),
           )
 
       by : {between after : List ℕ} {x : c.Expression} (ms : c.Marks) → new (number_of_id number) ≡ false → AreNewLabels new used between (entered known) ms → AddsTo new (in_use as_truth) between after (entered known) e x

@@ -194,7 +194,7 @@ module _ {new : ℕ → Bool} {unit : c.Unit} {program : Program} {criterion : C
 -- ---- the predicates at the start of a body
 
 pub predicates_at_body : DomainsAreThere → (new : ℕ → Bool) (unit : c.Unit) (program : Program) (criterion : Criterion) (id : ℕ) (setting : Setting new unit program criterion id)
-    → (s : c.Specifiers) (d : c.Declarator) (body : c.Items) (xs : List c.External) (known : Known) → IsReached setting.model unit (c.Defines s d body ∷ xs) known → IsIn unit known.next (an_external (c.Defines s d body)) → ComesTo program.facts known (external (c.Defines s d body) known)
+    → (s : c.Specifiers) (d : c.Declarator) (body : c.Items) (xs : List c.External) (known : Known) → IsReached setting.greatest setting.model unit (c.Defines s d body ∷ xs) known → IsIn unit known.next (an_external (c.Defines s d body)) → ComesTo program.facts known (external (c.Defines s d body) known)
     → (it : Specified) (next : Known) (declared : Declares) (last : Known)
     → specifiers s elsewhere (entered known) ≡ Goes it next → declarator d it true (definition_faults it.storage) next ≡ Goes declared last
     → (behind : Known) → IsBehindMarks body (in_body declared last) behind → (used : List ℕ) → ArePredicates new used behind (at_body unit program criterion known.next)

@@ -8,9 +8,9 @@ use Rattle.lt_model.specs.declared.scalar.DataModel.TheVariants as model
 use Rattle.lt_model.specs.declared.scalar.Scalar.TheVariants as S
 use Rattle.lt_tree.specs.Tree as c
 use Rattle.lt_tree.specs.Erasure.{erased}
-use Rattle.lt_tree.specs.Typing.MarkRules.{greatest_written_id, number_of_id, is_tag}
+use Rattle.lt_tree.specs.Typing.MarkRules.{number_of_id, is_tag}
 use Rattle.lt_tree.specs.Typing.Constants.{constant_of}
-use Rattle.lt_tree.specs.Typing.Entities.{Known}
+use Rattle.lt_tree.specs.Typing.Entities.{Known, greatest_label_id}
 use Rattle.lt_tree.specs.Typing.Programs.{Program}
 use Rattle.lt_objectives.specs.declared.criteria.Criterion.{Criterion}
 use Rattle.lt_objectives.specs.Criteria.{tag_of}
@@ -43,7 +43,7 @@ one_is model.Lp64U = refl
 one_is model.Llp64U = refl
 
 -- the two ids of a `pc_decide`, as those of two labels
-pub two_ids : Given → (new : ℕ → Bool) (criterion : Criterion) (known : Known) (used : List ℕ) (j : ℕ) → 1 ≤ j → j + 2 ≤ suc greatest_written_id
+pub two_ids : Given → (new : ℕ → Bool) (criterion : Criterion) (known : Known) (used : List ℕ) (j : ℕ) → 1 ≤ j → j + 2 ≤ suc greatest_label_id
     → ((n : ℕ) → j ≤ n → n < j + 2 → (new n ≡ true) × (is_used n used ≡ false))
     → IsNewId new used (decimal j) × IsNewId new (number_of_id (decimal j) ∷ used) (decimal (suc j)) × (is_tag (tag_of criterion) ≡ true)
     × AddsIds used (number_of_id (decimal (suc j)) ∷ number_of_id (decimal j) ∷ used) j 2
@@ -65,7 +65,7 @@ module _ (g : Given) {new : ℕ → Bool} {unit : c.Unit} {program : Program} {c
     undecided : ((x : c.Expression) → decided (marks_of unit program criterion id) k x ≡ x) → Around k role e
     decided_there : role ≡ in_test → can_be_decided e ≡ true → labels in_front (marks_of unit program criterion id) k ≡ c.no_marks
         → (j : ℕ) → ((x : c.Expression) → decided (marks_of unit program criterion id) k x ≡ c.Decide x (decimal j) (decimal (suc j)) (tag_of criterion))
-        → 1 ≤ j → j + 2 ≤ suc greatest_written_id → ((n : ℕ) → j ≤ n → n < j + 2 → (new n ≡ true) × IsIdAt (marks_of unit program criterion id) k n) → Around k role e
+        → 1 ≤ j → j + 2 ≤ suc greatest_label_id → ((n : ℕ) → j ≤ n → n < j + 2 → (new n ≡ true) × IsIdAt (marks_of unit program criterion id) k n) → Around k role e
 
   module _ (role : Role) (e : c.Expression) (k : ℕ) (isin : IsIn unit k (an_expression role e)) where
     decided_of : DecidedAreOf unit program criterion k id (at_expression unit program criterion (core k e).number (core k e).expression)

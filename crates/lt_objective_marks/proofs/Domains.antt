@@ -10,7 +10,7 @@ use Rattle.lt_tree.specs.Tree as c
 use Rattle.lt_tree.specs.Typing.Types.{CType, Void, Num, Pointer, Qualified, is_integer, is_pointer, is_floating, own_qualifiers}
 use Rattle.lt_tree.specs.Typing.Extents.{has_too_many_cells, type_cells, struct_cells}
 use Rattle.lt_tree.specs.Typing.Rules.{broken_if, floating_type, bad_length, function_as_value, volatile_access}
-use Rattle.lt_tree.specs.Typing.Entities.{Known, Frame, Object, Function, parameter, an_object, meaning_of, type_of_object, at_start}
+use Rattle.lt_tree.specs.Typing.Entities.{Known, Frame, Object, Function, parameter, an_object, meaning_of, type_of_object, starting}
 use Rattle.lt_tree.specs.Typing.Steps.{Outcome, Goes, Breaks, goes_on, left}
 use Rattle.lt_tree.specs.Typing.Expressions.{as_value, has_floating, has_pointer_to_function, faults_of_any}
 use Rattle.lt_tree.specs.Typing.Operations.{object_named}
@@ -20,7 +20,7 @@ use Rattle.lt_tree.specs.Typing.Declaring.{definition_faults}
 use Rattle.lt_tree.specs.Typing.ExpressionTyping.{specifiers, declarator}
 use Rattle.lt_tree.specs.Typing.TypedTree.{Items}
 use Rattle.lt_tree.specs.Typing.StatementTyping.{items}
-use Rattle.lt_tree.specs.Typing.UnitTyping.{around_body, adds_function, defines, objects_of, external, externals, defined_in, answer, typing, IsProgramOf}
+use Rattle.lt_tree.specs.Typing.UnitTyping.{around_body, adds_function, defines, objects_of, external, externals, defined_in, answer, typing_to, IsProgramTo}
 use Rattle.lt_tree.specs.Typing.Programs.{Program, program_of, typed}
 use Rattle.lt_tree.specs.Nodes.{in_external}
 use Rattle.lt_tree.specs.Typing.Types.{is_scalar}
@@ -118,13 +118,13 @@ program_end unit (Goes u end) program e = (u, end, refl, same e)
     same e = cc
 program_end unit (Breaks rule node) program e = absurd cc
 
-unit_end : (model : DataModel) (unit : c.Unit) (program : Program) → IsProgramOf model unit program
-    → (u : Unit {0}) × (end : Known) × (externals unit (at_start model (filter_map defined_in unit)) ≡ Goes u end) × (program_of unit end ≡ program)
-unfolding typing
-unit_end model unit program is = program_end unit (externals unit (at_start model (filter_map defined_in unit))) program is
+unit_end : (greatest : ℕ) (model : DataModel) (unit : c.Unit) (program : Program) → IsProgramTo greatest model unit program
+    → (u : Unit {0}) × (end : Known) × (externals unit (starting greatest model (filter_map defined_in unit)) ≡ Goes u end) × (program_of unit end ≡ program)
+unfolding typing_to
+unit_end greatest model unit program is = program_end unit (externals unit (starting greatest model (filter_map defined_in unit))) program is
 
-goes_from : {model : DataModel} {unit : c.Unit} {u : Unit {0}} {end known : Known} (ys : List c.External) → externals unit (at_start model (filter_map defined_in unit)) ≡ Goes u end
-    → IsReached model unit ys known → externals ys known ≡ Goes u end
+goes_from : {greatest : ℕ} {model : DataModel} {unit : c.Unit} {u : Unit {0}} {end known : Known} (ys : List c.External) → externals unit (starting greatest model (filter_map defined_in unit)) ≡ Goes u end
+    → IsReached greatest model unit ys known → externals ys known ≡ Goes u end
 goes_from ys goes first_reached = goes
 goes_from ys goes (next_reached {x = x} {xs = xs} before here) = through (λ u. externals xs) (goes_from (x ∷ xs) goes before) here
 
@@ -219,7 +219,7 @@ external_is_a_node : (x : c.External) → 1 ≤ length (in_external x)
 external_is_a_node (c.Defines s d body) = omega arith
 external_is_a_node (c.Declared d) = omega arith
 
-reached_below : PartsAreNumbered → {model : DataModel} {unit : c.Unit} {ys : List c.External} {known : Known} → IsReached model unit ys known → AllByRecursion (λ (f : Function). f.node < known.next) known.functions
+reached_below : PartsAreNumbered → {greatest : ℕ} {model : DataModel} {unit : c.Unit} {ys : List c.External} {known : Known} → IsReached greatest model unit ys known → AllByRecursion (λ (f : Function). f.node < known.next) known.functions
 reached_below numbered first_reached = tt
 reached_below numbered (next_reached {x = x} {u = u} {known = known} {behind = behind} before goes) =
     let it = external_lasts {Was = None_was} no_parameters x known u behind (λ n o was. absurd was) goes in
@@ -252,8 +252,8 @@ domains_there numbered law names new unit program id setting s d body xs known r
     Goal : Program → Type 0
     Goal program = ArePredicates new used behind (flat_map (domains_of_object program) (parameters_at unit program known.next))
 
-    whole : (u : Unit {0}) × (end : Known) × (externals unit (at_start setting.model (filter_map defined_in unit)) ≡ Goes u end) × (program_of unit end ≡ program)
-    whole = unit_end setting.model unit program setting.typed
+    whole : (u : Unit {0}) × (end : Known) × (externals unit (starting setting.greatest setting.model (filter_map defined_in unit)) ≡ Goes u end) × (program_of unit end ≡ program)
+    whole = unit_end setting.greatest setting.model unit program setting.typed
 
     Was : ℕ → Object → Type 0
     Was n o = IsAmong n (objects_of declared.parameters) × (slice_get last.objects n ≡ Some o) × (o.life ≡ parameter)

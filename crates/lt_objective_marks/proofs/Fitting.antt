@@ -1,26 +1,24 @@
 -- What an expression is as a constant fits its type and form: an integer constant is no pointer, and a place is at most the address of an object.
-use Rattle.std.proofs.Common.{◌≡◌, refl, sym, ap, subst, ◌∙◌, ℕ, ◌+◌, ℤ, pos, negsuc, Bool, true, false, ◌&&◌, ◌||◌, if◌then◌else◌, List, [], ◌∷◌, ◌++◌, length, Option, Some, None, Result, Ok, Err}
+use Rattle.std.proofs.Common.{◌≡◌, refl, sym, subst, ◌∙◌, ℕ, ℤ, pos, negsuc, Bool, true, false, ◌&&◌, ◌||◌, if◌then◌else◌, List, [], ◌∷◌, ◌++◌, length, Option, Some, None}
 use Rattle.std.proofs.lemmas.Bool.{false≢true}
-use Rattle.std.specs.Prelude.{◌-ℤ◌, nat_le, option_and_then}
+use Rattle.std.specs.Prelude.{nat_le, option_and_then}
 use Rattle.lt_model.specs.declared.scalar.DataModel.{DataModel}
-use Rattle.lt_model.specs.declared.scalar.Scalar.{Scalar}
 use Rattle.lt_model.specs.declared.scalar.Scalar.TheVariants as S
 use Rattle.lt_model.specs.declared.operator.Op.{Op}
 use Rattle.lt_model.specs.declared.operator.Op.TheVariants as O
-use Rattle.lt_model.specs.declared.operator.Ub.{Ub}
 use Rattle.lt_tree.specs.declared.expression.UnaryOp.{UnaryOp}
 use Rattle.lt_tree.specs.declared.expression.UnaryOp.TheVariants as unary
 use Rattle.lt_tree.specs.Tree as c
-use Rattle.lt_tree.specs.Typing.Types.{CType, Void, Num, Pointer, Array, Struct, Function, Floating, Qualified, is_pointer, is_array, same, target_of, unqualified}
+use Rattle.lt_tree.specs.Typing.Types.{CType, Void, Num, Pointer, Function, is_pointer, is_array, same, target_of, unqualified}
 use Rattle.lt_tree.specs.Typing.Extents.{Placed, is_complete}
-use Rattle.lt_tree.specs.Typing.Constants.{Constancy, varying, faulty, number, null_constant, null_address, address, is_form, is_zero, is_true, value_or_fault, converted, applied, negated, connected, chosen, moved_to, moved_by, TypedConstant, constant_of}
+use Rattle.lt_tree.specs.Typing.Constants.{Constancy, varying, faulty, number, null_constant, null_address, address, is_form, is_zero, chosen, moved_to, moved_by, TypedConstant, constant_of}
 use Rattle.lt_tree.specs.Typing.Rules.{Rule, least, unless, bad_address}
 use Rattle.lt_tree.specs.Typing.TypedTree as e
 use Rattle.lt_tree.specs.Typing.TypedTree.{Place, When, before, after, type_at, type_of}
 use Rattle.lt_tree.specs.Typing.Entities.{Known, Entity, an_object, a_function, a_typedef, an_enumerator, Label, meaning_of}
 use Rattle.lt_tree.specs.Typing.Operands.{are_integers, points_to, is_relation, is_equality}
 use Rattle.lt_tree.specs.Typing.Steps.{Outcome, Goes, Breaks, goes_on, unless_broken, marked_again}
-use Rattle.lt_tree.specs.Typing.Expressions.{Typed, Form, a_value, a_place, a_designator, Use, as_value, as_truth, as_place, as_callee, own_type, is_lvalue, is_lvalue_place, value_at, value_in, varies, valued, nothing, placed, read, as_it_is_read, used, fact_of, Judged, judgement, faults_of_any, finish, null_of, constancy_as_pointer, constancy_as_number, constancy_to}
+use Rattle.lt_tree.specs.Typing.Expressions.{Typed, Form, a_value, a_place, a_designator, Use, as_value, as_truth, as_place, as_callee, own_type, is_lvalue, is_lvalue_place, value_at, value_in, varies, valued, nothing, placed, as_it_is_read, used, fact_of, Judged, judgement, faults_of_any, finish, null_of, constancy_as_pointer, constancy_to}
 use Rattle.lt_tree.specs.Typing.Operations.{judge_name, judge_constant, judge_plus, judge_minus, judge_complement, judge_not, judge_address_of, judge_dereference, judge_step, judge_size, part_of, judge_part, judge_member, judge_arrow, judge_index, judge_function, judge_call, judge_cast, constancy_of_object, lives_from_the_start, member_in, object_size, pointer_among, other_among, element_size, target_in, constant_address}
 use Rattle.lt_tree.specs.Typing.BinaryOperations.{operation_type, on_integers, on_pointers, moved, distance, towards, judge_binary, judge_logical, chosen_type, judge_conditional, judge_assign, judge_update, judge_assignment, judge_comma}
 use Rattle.lt_tree.specs.Typing.MarkRules.{label_of, judge_decide, inside_mark, inside_after, judge_after, judge_marked}

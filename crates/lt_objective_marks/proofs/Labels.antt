@@ -26,6 +26,7 @@ use Rattle.lt_objective_marks.specs.Settings.{marks_of, Setting, IsIdAt, AreUnus
 use Rattle.lt_objective_marks.proofs.Given.{Given}
 use Rattle.lt_objective_marks.proofs.Ids.{next_from, next_both, numbered_both, next_of_all, id_of_all}
 use Rattle.lt_objective_marks.proofs.Ends.{and_left}
+use Rattle.lt_objective_marks.proofs.Copies.{place_of, node_there}
 use Rattle.lt_objective_marks.proofs.Shapes as shapes
 use Rattle.lt_objective_marks.proofs.Shapes.{Shape, shape}
 use Rattle.lt_objective_marks.proofs.Predicates.{are_predicates}
@@ -123,7 +124,9 @@ module _ (g : Given) {new : ℕ → Bool} {unit : c.Unit} {program : Program} {c
             let all = among_all (at_expression unit program criterion known.next e) labels_of.together o here in
             let may = (g.may_stand unit program criterion known.next o all refl).0 role e isin in
             let there = comes o may in
-            let erasable = g.copies known there.0.behind e there.0.found copied (s.copies o role e known all refl refl isin there.0) there.0.goes in
+            let place = place_of o (objectives unit program criterion) all in
+            let node = node_there known.next e (g.stand.2 unit known.next (an_expression role e) isin).stand.there in
+            let erasable = g.copies known there.0.behind e there.0.found copied (s.copies place.0 o e known place.1 refl refl node there.0) there.0.goes in
             let them = subst (LabelsAreOf unit program criterion in_front known.next id) are labels_of in
             let found = new_labels known.next (p ∷ ps) them.together known used (are_predicates g s known e may.0 (and_left (is_pure (erased e)) (not (hides e)) copied) there.0 erasable there.1 (p ∷ ps) are) unused in
             labelled found.0 (subst (AreNewLabels new used found.0 known) (sym them.labels_are) found.1) found.2 o may erasable

@@ -6,6 +6,7 @@ pub mod Made
 pub mod Values
 pub mod Noted
 pub mod Predicates
+pub mod Copies
 pub mod Labels
 pub mod Decided
 pub mod Mutated
@@ -39,3 +40,13 @@ pub mod LastingUnits
 pub mod Domains
 pub mod Names
 pub mod Named
+pub mod OldExpressions
+pub mod OldStatements
+pub mod Pure
+pub mod PurePredicates
+pub mod Numbers
+pub mod OldIds
+pub mod Alike
+pub mod Rounds
+pub mod FunctionsStand
+pub mod KnowAsMuch

@@ -1,7 +1,6 @@
 -- Labels stand in front of values that are integers, neither calls nor conversions.
-use Rattle.std.proofs.Common.{◌≡◌, refl, ap, ◌∙◌, subst, ℕ, List, [], ◌∷◌, ◌++◌, Bool, true, false, ◌&&◌, if◌then◌else◌}
+use Rattle.std.proofs.Common.{◌≡◌, refl, ap, ◌∙◌, ℕ, List, [], Bool, true, false, ◌&&◌, if◌then◌else◌}
 use Rattle.std.proofs.lemmas.Bool.{false≢true}
-use Rattle.std.specs.Prelude.{map}
 use Rattle.lt_model.specs.declared.operator.Op.{Op}
 use Rattle.lt_model.specs.declared.operator.Op.TheVariants as O
 use Rattle.lt_tree.specs.declared.expression.LogicalOp.{LogicalOp}
@@ -18,13 +17,10 @@ use Rattle.lt_tree.specs.Typing.ExpressionTyping.{expression}
 use Rattle.lt_tree.specs.Typing.Programs.{Program}
 use Rattle.lt_objectives.specs.declared.criteria.Criterion.{Criterion}
 use Rattle.lt_objectives.specs.declared.criteria.Criterion.TheVariants as C
-use Rattle.lt_objectives.specs.Places.{type_at, is_open, is_value_position}
-use Rattle.lt_objectives.specs.Decisions.{decisions, clauses, inequality}
+use Rattle.lt_objectives.specs.Places.{type_at}
 use Rattle.lt_objectives.specs.Mutants.{is_one_of, relations, pointer_relations, is_fitting, is_signed_integer, arithmetic_mutants, relational_mutants, connector_mutants}
-use Rattle.lt_objectives.specs.Copies.{is_core, can_be_copied}
-use Rattle.lt_objectives.specs.Objectives.{in_front, Objective, all_at, decided_at, at_test, left_type, right_type, mutants, differences}
-use Rattle.lt_objective_places.specs.Stands.{IsAmong, MayStand}
-use Rattle.lt_objective_places.specs.Stands as stands
+use Rattle.lt_objectives.specs.Copies.{is_core}
+use Rattle.lt_objectives.specs.Objectives.{left_type, right_type, mutants}
 use Rattle.lt_erased_typing.specs.Erasable.{CanBeErased}
 use Rattle.lt_typed_nodes.specs.Coming.{ComesToIt}
 use Rattle.lt_objective_marks.specs.Settings.{Setting}

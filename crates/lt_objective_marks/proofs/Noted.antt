@@ -10,7 +10,7 @@ use Rattle.lt_tree.specs.Typing.Types.{CType, Void, Num, Pointer, Array, Struct,
 use Rattle.lt_tree.specs.Typing.Entities.{Known, Fact}
 use Rattle.lt_tree.specs.Typing.Steps.{Outcome, Goes, Breaks}
 use Rattle.lt_tree.specs.Typing.Expressions.{Typed, Use, as_value, as_callee, own_type}
-use Rattle.lt_tree.specs.Typing.UnitTyping.{typing, answer, IsProgramOf}
+use Rattle.lt_tree.specs.Typing.UnitTyping.{typing_to, answer, IsProgramTo}
 use Rattle.lt_tree.specs.Typing.Programs.{Program, typed, program_of}
 use Rattle.lt_tree_laws.specs.Typing.NodeNumbers.{GoesOver}
 use Rattle.lt_objectives.specs.declared.criteria.Criterion.{Criterion}
@@ -38,9 +38,9 @@ unit_of : (unit : c.Unit) (o : Outcome (Unit {0})) (program : Program) → answe
 unit_of unit (Goes a known) program is = let same : program_of unit known ≡ program = cc in ap (λ (it : Program). it.unit) (sym same)
 unit_of unit (Breaks rule node) program is = absurd cc
 
-pub program_of_unit : (model : DataModel) (unit : c.Unit) (program : Program) → IsProgramOf model unit program → program.unit ≡ unit
-unfolding typing
-program_of_unit model unit program is = unit_of unit _ program is
+pub program_of_unit : (greatest : ℕ) (model : DataModel) (unit : c.Unit) (program : Program) → IsProgramTo greatest model unit program → program.unit ≡ unit
+unfolding typing_to
+program_of_unit greatest model unit program is = unit_of unit _ program is
 
 signed_is_integer : (m : DataModel) (t : CType) → is_signed_integer m t ≡ true → is_integer t ≡ true
 signed_is_integer m (Num s) is = refl
@@ -67,7 +67,7 @@ module _ (g : Given) {new : ℕ → Bool} {unit : c.Unit} {program : Program} {c
       own : (n : ℕ) → corresponding_node unit program k ≡ Some n → n ≡ k
       own n there =
           corresponding_same k n (unmarked_numbers unit)
-          (subst (λ (u : c.Unit). corresponding k (unmarked_numbers unit) (unmarked_numbers u) ≡ Some n) (program_of_unit s.model unit program s.typed) there)
+          (subst (λ (u : c.Unit). corresponding k (unmarked_numbers unit) (unmarked_numbers u) ≡ Some n) (program_of_unit s.greatest s.model unit program s.typed) there)
 
       by_fact : (n : ℕ) → n ≡ k → (found : Option Fact) → fact_among program.facts n ≡ found → test (elim (found) as (λ _. CType) [ None ↦ Void | Some fact ↦ fact.type ]) ≡ true
           → (fact : Fact) × (fact_among program.facts k ≡ Some fact) × (test fact.type ≡ true)

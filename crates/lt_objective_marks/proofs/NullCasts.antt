@@ -1,5 +1,5 @@
 -- What is a null pointer constant is a cast of an integer constant, or such a cast with marks around it.
-use Rattle.std.proofs.Common.{◌≡◌, refl, sym, ap, ◌∙◌, ℕ, ◌+◌, ℤ, pos, Bool, true, false, ◌&&◌, ◌||◌, if◌then◌else◌, List, [], ◌∷◌, ◌++◌, length, Option, Some, None, Result, Ok, Err}
+use Rattle.std.proofs.Common.{◌≡◌, refl, sym, ◌∙◌, ℕ, ℤ, pos, Bool, true, false, ◌&&◌, ◌||◌, if◌then◌else◌, List, [], ◌∷◌, length, Option, Some, None, Result, Ok, Err}
 use Rattle.std.proofs.lemmas.Bool.{false≢true}
 use Rattle.std.specs.Prelude.{◌-ℤ◌, option_and_then}
 use Rattle.lt_model.specs.declared.scalar.DataModel.{DataModel}
@@ -13,15 +13,15 @@ use Rattle.lt_tree.specs.declared.expression.LogicalOp.{LogicalOp}
 use Rattle.lt_tree.specs.declared.expression.UnaryOp.{UnaryOp}
 use Rattle.lt_tree.specs.declared.expression.UnaryOp.TheVariants as unary
 use Rattle.lt_tree.specs.Tree as c
-use Rattle.lt_tree.specs.Typing.Types.{CType, Num, Pointer, Function, is_pointer, is_array, same, target_of}
+use Rattle.lt_tree.specs.Typing.Types.{CType, Num, Pointer, Function, is_pointer, is_array, target_of}
 use Rattle.lt_tree.specs.Typing.Extents.{Placed, is_complete}
-use Rattle.lt_tree.specs.Typing.Constants.{Constancy, varying, faulty, number, null_constant, null_address, address, is_number, is_form, is_zero, is_true, value_or_fault, converted, applied, negated, connected, chosen, moved_by, TypedConstant, constant_of}
+use Rattle.lt_tree.specs.Typing.Constants.{Constancy, varying, faulty, number, null_constant, null_address, address, is_number, is_form, is_zero, is_true, value_or_fault, converted, applied, negated, connected, chosen, TypedConstant, constant_of}
 use Rattle.lt_tree.specs.Typing.Rules.{bad_address}
 use Rattle.lt_tree.specs.Typing.TypedTree as e
 use Rattle.lt_tree.specs.Typing.TypedTree.{Place, When, before, after, type_at}
 use Rattle.lt_tree.specs.Typing.Entities.{Known, Entity, an_object, a_function, a_typedef, an_enumerator, meaning_of}
 use Rattle.lt_tree.specs.Typing.Operands.{are_integers, points_to}
-use Rattle.lt_tree.specs.Typing.Steps.{Outcome, Goes, marked_again}
+use Rattle.lt_tree.specs.Typing.Steps.{Goes, marked_again}
 use Rattle.lt_tree.specs.Typing.Expressions.{Typed, Form, a_value, a_place, a_designator, Use, as_value, as_truth, as_place, as_callee, own_type, value_at, value_in, varies, nothing, placed, as_it_is_read, used, Judged, judgement, finish, null_of, constancy_as_pointer, constancy_as_number, constancy_to, scalar_in}
 use Rattle.lt_tree.specs.Typing.Operations.{judge_name, judge_constant, judge_plus, judge_minus, judge_complement, judge_not, judge_address_of, judge_dereference, judge_step, judge_size, judge_part, judge_member, judge_arrow, judge_index, judge_function, judge_call, member_in, target_in, constant_address}
 use Rattle.lt_tree.specs.Typing.BinaryOperations.{on_integers, on_pointers, moved, distance, operation_type, right_type, settles, judge_binary, judge_logical, chosen_pointer, chosen_type, judge_conditional, judge_assign, judge_update, judge_assignment, judge_comma}

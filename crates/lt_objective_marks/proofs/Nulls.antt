@@ -1,5 +1,5 @@
 -- Nothing is marked in a null pointer constant, where it is used as more than a truth.
-use Rattle.std.proofs.Common.{◌≡◌, ◌⊎◌, inl, inr, refl, sym, ap, ◌∙◌, subst, ℕ, suc, ◌+◌, ◌<◌, ◌≤◌, List, [], ◌∷◌, ◌++◌, length, length-append, Bool, true, false, ◌&&◌, ◌||◌, if◌then◌else◌, arith}
+use Rattle.std.proofs.Common.{◌≡◌, ◌⊎◌, inl, inr, refl, sym, ap, ◌∙◌, subst, ℕ, suc, ◌+◌, List, [], ◌∷◌, ◌++◌, length, length-append, Bool, true, false, ◌&&◌, ◌||◌, if◌then◌else◌, arith}
 use Rattle.std.proofs.lemmas.Bool.{false≢true}
 use Rattle.lt_tree.specs.Tree as c
 use Rattle.lt_tree.specs.Erasure.{erased}
@@ -44,7 +44,7 @@ use Rattle.lt_objective_marks.proofs.Mutated.{mutants_there}
 use Rattle.lt_objective_marks.proofs.Labels.{among_all, labels_of}
 use Rattle.lt_objective_marks.proofs.Decided.{Around, undecided, decided_there, own_decision}
 use Rattle.lt_objective_marks.proofs.Taken.{labels_behind, not_decided}
-use Rattle.lt_objective_marks.proofs.Fitting.{Holds, held, past, ended as ends}
+use Rattle.lt_objective_marks.proofs.Fitting.{held, past, ended as ends}
 use Rattle.lt_objective_marks.proofs.NullCasts.{is_null, may_be_null, conversion_null, no_null_found}
 
 -- ---- null pointer constants
@@ -189,7 +189,7 @@ module _ (g : Given) {new : ℕ → Bool} {unit : c.Unit} {program : Program} {c
       → (comes : ComesToIt program.facts known taken e) → is_number comes.found.erased ≡ true → AreClosed unit program known.next (length (in_expression e))
   constant_closed role taken known e stays isin comes constant =
       let it = g.known.0 program.facts known taken e comes in
-      g.closed unit program role known.next e (fact_of known.next it.0) (program_of_unit s.model unit program s.typed) stays (g.stand.2 unit known.next (an_expression role e) isin) it.2
+      g.closed unit program role known.next e (fact_of known.next it.0) (program_of_unit s.greatest s.model unit program s.typed) stays (g.stand.2 unit known.next (an_expression role e) isin) it.2
       (used_erased is_number taken it.0 refl (ap (λ (x : Typed). is_number x.erased) (sym it.1) ∙ constant))
 
   -- ---- in front of it and around it

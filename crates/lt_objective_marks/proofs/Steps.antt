@@ -11,8 +11,7 @@ use Rattle.lt_tree.specs.Typing.Programs.{Program}
 use Rattle.lt_objectives.specs.declared.criteria.Criterion.{Criterion}
 use Rattle.lt_objectives.specs.Objectives.{Objective}
 use Rattle.lt_objectives.specs.Marked.{NewMark, numbered, within, with_marks}
-use Rattle.lt_objective_places.specs.Stands.{IsAmong, IsWithin, Role, GoOn}
-use Rattle.lt_objective_places.specs.Stands as stands
+use Rattle.lt_objective_places.specs.Stands.{Role}
 use Rattle.lt_objective_places.specs.Pieces.{an_expression, IsIn}
 use Rattle.lt_mark_typing.specs.Beside.{Position, in_use, in_test, use_of}
 use Rattle.lt_mark_typing.specs.Placed.{AreOld, IsNoNull, AddsTo, AddsToParts, as_it_is, in_parts}

@@ -4,7 +4,7 @@ use Rattle.std.proofs.lemmas.Bool.{false≢true}
 use Rattle.std.specs.Prelude.{filter_map}
 use Rattle.lt_tree.specs.Tree as c
 use Rattle.lt_tree.specs.Nodes.{in_declaration, in_external, nodes}
-use Rattle.lt_tree.specs.Typing.Entities.{Known, at_start}
+use Rattle.lt_tree.specs.Typing.Entities.{Known, starting}
 use Rattle.lt_tree.specs.Typing.Programs.{Program}
 use Rattle.lt_tree.specs.Typing.UnitTyping.{external, externals, defined_in}
 use Rattle.lt_tree_laws.specs.Typing.NodeNumbers.{PartsAreNumbered}
@@ -37,7 +37,7 @@ module _ {new : ℕ → Bool} {unit : c.Unit} {program : Program} {criterion : C
   abbrev marks : List NewMark
   marks = marks_of unit program criterion id
 
-  of_external : (used : List ℕ) (known : Known) (x : c.External) (xs : List c.External) (k : ℕ) → IsReached setting.model unit (x ∷ xs) known → known.next ≡ k → IsIn unit k (an_external x) → Lies false 1 known → ComesTo program.facts known (external x known)
+  of_external : (used : List ℕ) (known : Known) (x : c.External) (xs : List c.External) (k : ℕ) → IsReached setting.greatest setting.model unit (x ∷ xs) known → known.next ≡ k → IsIn unit k (an_external x) → Lies false 1 known → ComesTo program.facts known (external x known)
       → AreUnused marks used k (length (in_external x)) → IsAdded marks used k (length (in_external x)) (λ after. AddsToExternal new used after known x (external_with_marks marks k x))
   of_external used known (c.Defines s d body) xs k reached at is lies comes unused =
       subst (λ k. IsIn unit k (an_external (c.Defines s d body)) → AreUnused marks used k (length (in_external (c.Defines s d body)))
@@ -51,7 +51,7 @@ module _ {new : ℕ → Bool} {unit : c.Unit} {program : Program} {criterion : C
       (subst (λ e. AddsToExternal new used used known (c.Declared d) (c.Declared e)) (sym (same_declaration setting numbered added (k + 1) d (a_piece is (inl refl)) are))
       (units.Declared (old_there new (in_external (c.Declared d)) setting.old stands.there).1))
 
-  of_externals : (used : List ℕ) (known : Known) (xs : List c.External) (k : ℕ) → IsReached setting.model unit xs known → known.next ≡ k → IsIn unit k (the_externals xs) → Lies false 1 known → ComesTo program.facts known (externals xs known)
+  of_externals : (used : List ℕ) (known : Known) (xs : List c.External) (k : ℕ) → IsReached setting.greatest setting.model unit xs known → known.next ≡ k → IsIn unit k (the_externals xs) → Lies false 1 known → ComesTo program.facts known (externals xs known)
       → AreUnused marks used k (length (nodes xs)) → IsAdded marks used k (length (nodes xs)) (λ after. AddsToUnit new used after known xs (externals_with_marks marks k xs))
   of_externals used known [] k reached at is lies comes unused = nothing id (objectives unit program criterion) used k 0 units.no_externals
   of_externals used known (x ∷ xs) k reached at is lies comes unused =
@@ -66,9 +66,9 @@ module _ {new : ℕ → Bool} {unit : c.Unit} {program : Program} {criterion : C
       (λ between after p q. units.an_external p (found_only first (λ u next. AddsToUnit new between after next xs (externals_with_marks marks j xs)) q))
 
   -- a whole unit
-  pub of_unit : (after : List ℕ) × AddsToUnit new [] after (at_start setting.model (filter_map defined_in unit)) unit (unit_with_marks marks unit)
+  pub of_unit : (after : List ℕ) × AddsToUnit new [] after (starting setting.greatest setting.model (filter_map defined_in unit)) unit (unit_with_marks marks unit)
   of_unit =
-      let it = of_externals [] (at_start setting.model (filter_map defined_in unit)) unit 0 first_reached refl the_unit (refl, refl) (units_are_come_to setting.model unit program setting.typed) (λ n place is at w. absurd (false≢true is)) in
+      let it = of_externals [] (starting setting.greatest setting.model (filter_map defined_in unit)) unit 0 first_reached refl the_unit (refl, refl) (units_are_come_to setting.greatest setting.model unit program setting.typed) (λ n place is at w. absurd (false≢true is)) in
       (it.after, it.added)
 
 -- ---- the functions of a marked unit are those of the unit

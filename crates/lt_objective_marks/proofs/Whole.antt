@@ -4,8 +4,8 @@ use Rattle.std.specs.Fmt.{decimal}
 use Rattle.lt_tree.specs.Tree as c
 use Rattle.lt_tree.specs.Nodes.{in_expression}
 use Rattle.lt_tree.specs.Typing.Types.{is_scalar, is_integer}
-use Rattle.lt_tree.specs.Typing.MarkRules.{greatest_written_id, number_of_id, is_truth}
-use Rattle.lt_tree.specs.Typing.Entities.{Known, Fact}
+use Rattle.lt_tree.specs.Typing.MarkRules.{number_of_id, is_truth}
+use Rattle.lt_tree.specs.Typing.Entities.{Known, Fact, greatest_label_id}
 use Rattle.lt_tree.specs.Typing.Steps.{Goes}
 use Rattle.lt_tree.specs.Typing.Expressions.{Typed, Use, as_value, as_truth, as_place, as_callee, own_type, has_pointer_to_function}
 use Rattle.lt_tree.specs.Typing.Operations.{counts_as_null}
@@ -128,7 +128,7 @@ module _ (g : Given) {new : ℕ → Bool} {unit : c.Unit} {program : Program} {c
 
   decide_around : (role : Role) (position : Position) (used : List ℕ) (known : Known) (e : c.Expression) → Here role position known e → AreUnused new_marks used known.next (length (in_expression e))
       → (inside : Inside position used known e) → role ≡ stands.in_test → (j : ℕ)
-      → ((x : c.Expression) → decided new_marks known.next x ≡ c.Decide x (decimal j) (decimal (suc j)) (tag_of criterion)) → 1 ≤ j → j + 2 ≤ suc greatest_written_id
+      → ((x : c.Expression) → decided new_marks known.next x ≡ c.Decide x (decimal j) (decimal (suc j)) (tag_of criterion)) → 1 ≤ j → j + 2 ≤ suc greatest_label_id
       → ((n : ℕ) → j ≤ n → n < j + 2 → (new n ≡ true) × IsIdAt new_marks known.next n)
       → (after : List ℕ) × AddsTo new position used after known e (decided new_marks known.next (within new_marks known.next e)) × AddsIdsOf new_marks used after known.next (length (in_expression e))
   decide_around role position used known e h unused inside tested j are first last at =
@@ -272,7 +272,7 @@ module _ (g : Given) {new : ℕ → Bool} {unit : c.Unit} {program : Program} {c
           tt,
           tt,
           good_scalar next.structs (own_type x) (taken x next goes)
-              (subst (λ (y : Typed). has_pointer_to_function (own_type y) ≡ false) (same_found comes.goes goes) (g.tests s.model unit program s.typed as_truth known e comes refl)),
+              (subst (λ (y : Typed). has_pointer_to_function (own_type y) ≡ false) (same_found comes.goes goes) (g.tests s.greatest s.model unit program s.typed as_truth known e comes refl)),
         ),
       )
       by a_truth isin comes taken no_truth other may = absurd (no_truth refl)

@@ -4,7 +4,7 @@ use Rattle.std.specs.List.{flat_map}
 use Rattle.lt_model.specs.declared.scalar.DataModel.{DataModel}
 use Rattle.lt_tree.specs.Tree as c
 use Rattle.lt_tree.specs.Typing.TypedTree.{Mark}
-use Rattle.lt_tree.specs.Typing.Entities.{Known, Object, parameter, an_object, meaning_of, at_start}
+use Rattle.lt_tree.specs.Typing.Entities.{Known, Object, parameter, an_object, meaning_of, starting}
 use Rattle.lt_tree.specs.Typing.Steps.{Goes}
 use Rattle.lt_tree.specs.Typing.Expressions.{has_pointer_to_function}
 use Rattle.lt_tree.specs.Typing.Specifying.{Specified, elsewhere}
@@ -35,16 +35,16 @@ pub data IsBehindMarks : c.Items → Known → Known → Type 0 where
       → mark m (entered known) ≡ Goes typed next → IsBehindMarks rest next behind → IsBehindMarks (c.a_label m rest) known behind
 
 -- typing comes to these externals of a unit, where this is known
-pub data IsReached (model : DataModel) (unit : c.Unit) : List c.External → Known → Type 0 where
-  first_reached : IsReached model unit unit (at_start model (filter_map defined_in unit))
+pub data IsReached (greatest : ℕ) (model : DataModel) (unit : c.Unit) : List c.External → Known → Type 0 where
+  first_reached : IsReached greatest model unit unit (starting greatest model (filter_map defined_in unit))
   next_reached : {x : c.External} {xs : List c.External} {u : Unit {0}} {known behind : Known}
-      → IsReached model unit (x ∷ xs) known → external x known ≡ Goes u behind → IsReached model unit xs behind
+      → IsReached greatest model unit (x ∷ xs) known → external x known ≡ Goes u behind → IsReached greatest model unit xs behind
 
 -- The domains of a function's parameters have predicates at the start of its body.
 abbrev pub DomainsAreThere : Type 0
 DomainsAreThere =
     (new : ℕ → Bool) (unit : c.Unit) (program : Program) (id : ℕ) (setting : Setting new unit program C.InputDomain id)
-    → (s : c.Specifiers) (d : c.Declarator) (body : c.Items) (xs : List c.External) (known : Known) → IsReached setting.model unit (c.Defines s d body ∷ xs) known → IsIn unit known.next (an_external (c.Defines s d body)) → ComesTo program.facts known (external (c.Defines s d body) known)
+    → (s : c.Specifiers) (d : c.Declarator) (body : c.Items) (xs : List c.External) (known : Known) → IsReached setting.greatest setting.model unit (c.Defines s d body ∷ xs) known → IsIn unit known.next (an_external (c.Defines s d body)) → ComesTo program.facts known (external (c.Defines s d body) known)
     → (it : Specified) (next : Known) (declared : Declares) (last : Known)
     → specifiers s elsewhere (entered known) ≡ Goes it next → declarator d it true (definition_faults it.storage) next ≡ Goes declared last
     → (behind : Known) → IsBehindMarks body (in_body declared last) behind → (used : List ℕ) → ArePredicates new used behind (flat_map (domains_of_object program) (parameters_at unit program known.next))

@@ -1,26 +1,23 @@
 -- What is given where the marks of a criterion's objectives are added to a unit, and which ids are used there.
-use Rattle.std.specs.Prelude.{◌≡◌, ◌≤◌, ◌<◌, ◌⊎◌, ℕ, suc, ◌+◌, Bool, true, false, List}
+use Rattle.std.specs.Prelude.{◌≡◌, ◌≤◌, ◌<◌, ◌⊎◌, ℕ, suc, ◌+◌, Bool, true, List}
 use Rattle.lt_model.specs.declared.scalar.DataModel.{DataModel}
 use Rattle.lt_tree.specs.Tree as c
 use Rattle.lt_tree.specs.Nodes.{nodes}
 use Rattle.lt_tree.specs.Typing.Types.{is_scalar, is_function}
-use Rattle.lt_tree.specs.Typing.MarkRules.{greatest_written_id}
-use Rattle.lt_tree.specs.Typing.Entities.{Known}
+use Rattle.lt_tree.specs.Typing.Entities.{Known, greatest_label_id}
 use Rattle.lt_tree.specs.Typing.Steps.{Goes}
 use Rattle.lt_tree.specs.Typing.Expressions.{a_designator, Typed, as_value, as_truth, as_place, as_callee, own_type}
 use Rattle.lt_tree.specs.Typing.ExpressionTyping.{expression}
-use Rattle.lt_tree.specs.Typing.UnitTyping.{IsProgramOf}
+use Rattle.lt_tree.specs.Typing.UnitTyping.{IsProgramTo}
 use Rattle.lt_tree.specs.Typing.Programs.{Program}
 use Rattle.lt_objectives.specs.declared.criteria.Criterion.{Criterion}
-use Rattle.lt_objectives.specs.Objectives.{in_front, Objective, objectives}
+use Rattle.lt_objectives.specs.Objectives.{objectives}
 use Rattle.lt_objectives.specs.Marked.{NewMark, ids_of, numbered, next_id}
 use Rattle.lt_objective_places.specs.Stands.{IsAmong, IsWithin, Role}
 use Rattle.lt_objective_places.specs.Stands as stands
-use Rattle.lt_objective_places.specs.Pieces.{an_expression, IsIn}
 use Rattle.lt_mark_typing.specs.Beside.{is_used, Position, in_use, in_test}
 use Rattle.lt_mark_typing.specs.Placed.{AreOld}
-use Rattle.lt_erased_typing.specs.Simple.{IsSimple}
-use Rattle.lt_typed_nodes.specs.Coming.{ComesToIt}
+use Rattle.lt_erased_typing.specs.CopiedExpressions.{CopiesAreSimple}
 
 -- the new marks of a unit
 abbrev pub marks_of : c.Unit → Program → Criterion → (id : ℕ) → List NewMark
@@ -29,14 +26,15 @@ marks_of unit program criterion id = numbered id (objectives unit program criter
 -- A typed unit, of which no mark has a new id, and a criterion whose objectives are numbered by new ids.
 pub record Setting (new : ℕ → Bool) (unit : c.Unit) (program : Program) (criterion : Criterion) (id : ℕ) : Type 0 where
   pub model : DataModel
-  pub typed : IsProgramOf model unit program
+  -- the greatest id that a label of the unit may have
+  pub greatest : ℕ
+  pub typed : IsProgramTo greatest model unit program
   pub old : AreOld new (nodes unit)
   pub first : 1 ≤ id
-  pub last : next_id id (objectives unit program criterion) ≤ suc greatest_written_id
+  pub last : next_id id (objectives unit program criterion) ≤ suc greatest_label_id
   pub fresh : (n : ℕ) → id ≤ n → n < next_id id (objectives unit program criterion) → new n ≡ true
   -- an expression with an objective in front of it is simple
-  pub copies : (it : Objective) (role : Role) (e : c.Expression) (known : Known) → IsAmong it (objectives unit program criterion) → it.form ≡ in_front → it.place ≡ known.next
-      → IsIn unit known.next (an_expression role e) → ComesToIt program.facts known as_value e → IsSimple known.frames e
+  pub copies : CopiesAreSimple unit program criterion
 
 -- ---- ids
 

@@ -1,19 +1,26 @@
 //! Laws of the marks of objectives; the functions call those on which they rest.
 
 ghost use Rattle.lt_objective_marks.specs.Laws.{ObjectivesAreAddedToExpressions};
+ghost use Rattle.lt_objective_marks.specs.Rounds.{
+  FirstProgramsKnowAsMuch,
+  MarkedUnitsOfSetsRunAsTheyDid,
+  RoundsRunAsTheyDid,
+};
 ghost use Rattle.lt_objective_marks.specs.Units.{MarkedUnitsRunAsTheyDid, ObjectivesAreAdded};
 
 use lt_erased_typing::{
     copies_can_be_erased, operands_keep_their_types, pure_expressions_are_typed_without_marks,
     truths_are_typed_as_values,
 };
+use lt_kept_facts::{marked_units_know_the_same, objectives_are_found_by_either};
 use lt_made_types::no_test_is_a_pointer_to_a_function;
-use lt_mark_typing::marked_units_run_the_same;
+use lt_mark_typing::{marked_units_run_the_same, units_are_typed_again};
 use lt_objective_places::{
     constants_are_closed, marks_are_of_one_node, objectives_stand_where_they_may, pieces_stand,
 };
 use lt_objective_typing::{
-    domains_give_predicates, labels_of_objectives_are_new, objectives_have_predicates,
+    decisions_give_predicates, domains_give_predicates, labels_of_objectives_are_new,
+    mutants_give_predicates, objectives_have_predicates,
 };
 use lt_tree_laws::nodes_are_numbered;
 use lt_typed_nodes::{constants_stay, operands_have_their_types, parts_are_come_to};
@@ -56,4 +63,34 @@ pub fn marked_units_run_as_they_did()
 {
     marked_units_run_the_same();
     objectives_are_added();
+}
+
+/// The program of the first unit gives the objectives of a unit that was made of it in rounds.
+pub fn first_programs_know_as_much()
+    ensures { FirstProgramsKnowAsMuch }
+{
+    nodes_are_numbered();
+    marked_units_know_the_same();
+    objectives_are_found_by_either();
+}
+
+/// A unit with the marks of criteria, one after the other, runs as the unit does, new marks aside.
+pub fn rounds_run_as_they_did()
+    ensures { RoundsRunAsTheyDid }
+{
+    first_programs_know_as_much();
+    labels_of_objectives_are_new();
+    decisions_give_predicates();
+    mutants_give_predicates();
+    domains_give_predicates();
+    objectives_are_added();
+    units_are_typed_again();
+    marked_units_run_the_same();
+}
+
+/// So does a unit with the marks of a set of criteria, whose ids go on from the greatest of the unit.
+pub fn marked_units_of_sets_run_as_they_did()
+    ensures { MarkedUnitsOfSetsRunAsTheyDid }
+{
+    rounds_run_as_they_did();
 }

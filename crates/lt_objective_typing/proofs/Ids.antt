@@ -11,8 +11,8 @@ use Rattle.std.specs.Str.{byte}
 use Rattle.std.specs.Str.Parse.{AllDigits, digits_value, digits_value_after}
 use Rattle.lt_tree.specs.Tree as c
 use Rattle.lt_tree.specs.Constants.{digit, number_from, number_behind_zero, integer_value, with_suffix, value_of, signed_byte, character_byte}
-use Rattle.lt_tree.specs.Typing.MarkRules.{greatest_written_id, id_from, id_of, number_of_id, is_tag}
-use Rattle.lt_tree.specs.Typing.Entities.{Known}
+use Rattle.lt_tree.specs.Typing.MarkRules.{id_from, id_of, number_of_id, is_tag}
+use Rattle.lt_tree.specs.Typing.Entities.{Known, greatest_label_id}
 use Rattle.lt_objectives.specs.declared.criteria.Criterion.{Criterion}
 use Rattle.lt_objectives.specs.declared.criteria.Criterion.TheVariants as C
 use Rattle.lt_objectives.specs.Criteria.{tag_of}
@@ -61,13 +61,13 @@ text_value (b ∷ bytes) some first h =
     value_without : (b : ℕ) (bytes : List ℕ) → (b == 39) ≡ false → value_of (b ∷ bytes) ≡ integer_value (b ∷ bytes)
     value_without b bytes quote = rw quote refl
 
-id_is : (n : ℕ) → 1 ≤ n → n ≤ greatest_written_id → id_of (decimal n) ≡ Some n
+id_is : (n : ℕ) → 1 ≤ n → n ≤ greatest_label_id → id_of (decimal n) ≡ Some n
 id_is n least most =
     let small : n < 2 ^ 64 = omega arith in
     ap id_from (text_value (decimal n) (decimal_nonempty n small) (first_decimal n least small) (digits_decimal own n small) ∙ ap (λ k. Some (pos k)) (digits_value-decimal own n small))
-    ∙ ap (λ (t : Bool). if t then Some n else None) (both_true (nat_le 1 n) (nat_le n greatest_written_id) (le-leb 1 n least) (le-leb n greatest_written_id most))
+    ∙ ap (λ (t : Bool). if t then Some n else None) (both_true (nat_le 1 n) (nat_le n greatest_label_id) (le-leb 1 n least) (le-leb n greatest_label_id most))
 
-number_is_id : (n : ℕ) → 1 ≤ n → n ≤ greatest_written_id → number_of_id (decimal n) ≡ n
+number_is_id : (n : ℕ) → 1 ≤ n → n ≤ greatest_label_id → number_of_id (decimal n) ≡ n
 number_is_id n least most = ap (λ found. unwrap_or found 0) (id_is n least most)
 
 tag_is : (criterion : Criterion) → is_tag (tag_of criterion) ≡ true
@@ -115,13 +115,13 @@ module _ (new : ℕ → Bool) (known : Known) (form : Form) (criterion : Criteri
       (both_true (same_form form form) (place == place) (form_itself form) (eq-eqb place place refl))
       ∙ ap (λ n. c.a_mark (label it) (labels form (numbered (id + n) (all_at place form criterion ps)) place)) one
 
-  are_new : (predicates : List c.Expression) (id : ℕ) (used : List ℕ) → ((used : List ℕ) → ArePredicates new used known predicates) → 1 ≤ id → id + length predicates ≤ suc greatest_written_id
+  are_new : (predicates : List c.Expression) (id : ℕ) (used : List ℕ) → ((used : List ℕ) → ArePredicates new used known predicates) → 1 ≤ id → id + length predicates ≤ suc greatest_label_id
       → ((n : ℕ) → id ≤ n → n < id + length predicates → (new n ≡ true) × (is_used n used ≡ false))
       → (after : List ℕ) × AreNewLabels new used after known (labels form (numbered id (all_at place form criterion predicates)) place) × AddsIds used after id (length predicates)
   are_new [] id used h least most f = (used, refl, λ n g. inl g)
   are_new (p ∷ ps) id used h least most f =
       let here = f id (omega arith) (omega arith) in
-      let within : id ≤ greatest_written_id = omega arith in
+      let within : id ≤ greatest_label_id = omega arith in
       let number : number_of_id (decimal id) ≡ id = number_is_id id least within in
       let rest = are_new ps (id + 1) (id ∷ used) (λ used. (h used).1) (omega arith) (omega arith)
       (λ n low high. let there = f n (omega arith) (omega arith) in (there.0, used_not n id used (omega arith) there.1)) in (

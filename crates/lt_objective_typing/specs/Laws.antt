@@ -8,8 +8,7 @@ use Rattle.lt_tree.specs.Tree as c
 use Rattle.lt_tree.specs.Erasure.{erased}
 use Rattle.lt_tree.specs.Purity.{is_pure}
 use Rattle.lt_tree.specs.Typing.Types.{CType, is_integer, is_pointer, is_scalar}
-use Rattle.lt_tree.specs.Typing.MarkRules.{greatest_written_id}
-use Rattle.lt_tree.specs.Typing.Entities.{Known, Fact}
+use Rattle.lt_tree.specs.Typing.Entities.{Known, Fact, greatest_label_id}
 use Rattle.lt_tree.specs.Typing.Steps.{Goes}
 use Rattle.lt_tree.specs.Typing.Expressions.{Typed, as_value, own_type}
 use Rattle.lt_tree.specs.Typing.ExpressionTyping.{expression}
@@ -98,6 +97,6 @@ AddsIds used after id count = (n : ℕ) → is_used n after ≡ true → (is_use
 abbrev pub LabelsOfObjectivesAreNew : Type 0
 LabelsOfObjectivesAreNew =
     (new : ℕ → Bool) (used : List ℕ) (known : Known) (form : Form) (criterion : Criterion) (place id : ℕ) (predicates : List c.Expression)
-    → ids_of form ≡ 1 → ((used : List ℕ) → ArePredicates new used known predicates) → 1 ≤ id → id + length predicates ≤ suc greatest_written_id
+    → ids_of form ≡ 1 → ((used : List ℕ) → ArePredicates new used known predicates) → 1 ≤ id → id + length predicates ≤ suc greatest_label_id
     → ((n : ℕ) → id ≤ n → n < id + length predicates → (new n ≡ true) × (is_used n used ≡ false))
     → (after : List ℕ) × AreNewLabels new used after known (labels form (numbered id (all_at place form criterion predicates)) place) × AddsIds used after id (length predicates)

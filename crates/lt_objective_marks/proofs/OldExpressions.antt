@@ -10,7 +10,7 @@ use Rattle.lt_tree.specs.Typing.MarkRules.{number_of_id}
 use Rattle.lt_objectives.specs.Objectives.{Form, at_start, in_front, around}
 use Rattle.lt_objectives.specs.Marked.{NewMark, same_form, is_there, labels, decided, joined, preceded_by, within, within_all, with_marks, optional_with_marks, initialiser_with_marks, initialisers_with_marks, start_with_marks, declarators_with_marks, declaration_with_marks, for_start_with_marks}
 use Rattle.lt_mark_typing.specs.Placed.{IsOld, AreOld}
-use Rattle.lt_objective_rounds.specs.Marks.{IsOldAs, IsOldMark}
+use Rattle.lt_objective_marks.specs.Marks.{IsOldAs, IsOldMark}
 
 -- ---- nodes
 

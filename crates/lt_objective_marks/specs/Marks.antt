@@ -1,5 +1,5 @@
 -- New marks that are old for those that come later: their ids and their predicates have none of the ids that are new then.
-use Rattle.std.specs.Prelude.{◌≡◌, ◌⊎◌, ℕ, suc, nat_le, Bool, true, false}
+use Rattle.std.specs.Prelude.{◌≡◌, ◌⊎◌, ℕ, suc, Bool, true, false}
 use Rattle.std.specs.Fmt.{decimal}
 use Rattle.lt_tree.specs.Nodes.{in_expression}
 use Rattle.lt_tree.specs.Purity.{is_pure}
@@ -7,10 +7,6 @@ use Rattle.lt_tree.specs.Typing.MarkRules.{number_of_id}
 use Rattle.lt_objectives.specs.Objectives.{Form, around, Objective}
 use Rattle.lt_objectives.specs.Marked.{NewMark}
 use Rattle.lt_mark_typing.specs.Placed.{AreOld}
-
--- whether an id is this one or comes behind it
-abbrev pub is_from : ℕ → ℕ → Bool
-is_from id n = nat_le id n
 
 -- the ids of a mark of this form, and the marks in its predicate, are no new ones
 abbrev pub IsOldAs : (ℕ → Bool) → Form → NewMark → Type 0

@@ -27,7 +27,7 @@ use Rattle.lt_mark_laws.proofs.TypeLists.{all_both}
 use Rattle.lt_mark_typing.specs.Beside.{AddsLabels, kept, added}
 use Rattle.lt_mark_typing.specs.Placed.{IsThere}
 use Rattle.lt_objective_typing.specs.Laws.{ArePredicates, DecisionsGivePredicates, MutantsGivePredicates, DomainsGivePredicates, differences_from}
-use Rattle.lt_objective_rounds.specs.Marks.{IsPurelyLabelled}
+use Rattle.lt_objective_marks.specs.Marks.{IsPurelyLabelled}
 
 -- ---- A place that has no other beside it, since a label there has a new id. So a pure expression is a predicate there.
 

@@ -2,17 +2,14 @@
 use Rattle.std.proofs.Common.{◌≡◌, ℕ, List, [], ◌∷◌, Bool, true, false, refl, sym, ap, ◌∙◌}
 use Rattle.std.specs.Prelude.{◌++◌, if◌then◌else◌}
 use Rattle.std.specs.List.{flat_map}
-use Rattle.lt_model.specs.declared.scalar.DataModel.{DataModel}
 use Rattle.lt_model.specs.State.{Made}
-use Rattle.lt_tree.specs.Tree as c
 use Rattle.lt_tree.specs.Typing.Types.{CType}
 use Rattle.lt_tree.specs.Typing.Entities.{Object}
-use Rattle.lt_tree.specs.Typing.Programs.{Program, typed, made_of, with_new, types_of_struct}
-use Rattle.lt_tree.specs.Typing.UnitTyping.{IsProgramOf}
+use Rattle.lt_tree.specs.Typing.Programs.{Program, made_of, with_new, types_of_struct}
 use Rattle.lt_ir.specs.Running.{Over}
 use Rattle.lt_mark_laws.specs.Added.{AreSameObjects, AddsProgram}
 use Rattle.lt_mark_laws.specs.Laws.{without_new, AreAlike}
-use Rattle.lt_mark_typing.specs.Laws.{types_of_objects}
+use Rattle.lt_mark_laws.specs.TypeLists.{types_of_objects}
 
 -- ---- more ids are new
 
@@ -42,13 +39,6 @@ alike_on new a b d h g = record { end = h.end ∙ g.end; memory = h.memory ∙ g
 
 -- ---- programs
 
-program_is : {p q : Program} → typed p ≡ typed q → p ≡ q
-program_is e = cc
-
--- a unit has one program
-pub one_program : (model : DataModel) (unit : c.Unit) (p q : Program) → IsProgramOf model unit p → IsProgramOf model unit q → p ≡ q
-one_program model unit p q h g = program_is (sym h ∙ g)
-
 made_same : (xs ys : List Object) → AreSameObjects xs ys → flat_map (λ (object : Object). made_of object.type) ys ≡ flat_map (λ (object : Object). made_of object.type) xs
 made_same [] [] h = refl
 made_same (x ∷ xs) (y ∷ ys) h =
@@ -56,7 +46,7 @@ made_same (x ∷ xs) (y ∷ ys) h =
 made_same [] (y ∷ ys) h = absurd h
 made_same (x ∷ xs) [] h = absurd h
 
--- its objects and those of the program with marks added are made of the same types
+-- the objects of a program and those of one with marks added are made of the same types
 pub types_same : (new : ℕ → Bool) (types : List CType) (p q : Program) → AddsProgram new (record p { types = types }) q → types_of_objects q ≡ types_of_objects p
 types_same new types p q adds =
     ap (λ structs. with_new [] (flat_map types_of_struct structs ++ flat_map (λ (object : Object). made_of object.type) q.objects)) (sym adds.structs)

@@ -7,8 +7,8 @@ use Rattle.lt_tree.specs.Nodes.{in_expression, in_marks, in_mark, in_specifiers,
 use Rattle.lt_objectives.specs.Objectives.{at_start}
 use Rattle.lt_objectives.specs.Marked.{NewMark, labels, statement_with_marks, items_with_marks, cases_with_marks, labels_before, after_leading, external_with_marks, externals_with_marks, unit_with_marks}
 use Rattle.lt_mark_typing.specs.Placed.{AreOld}
-use Rattle.lt_objective_rounds.specs.Marks.{IsOldMark}
-use Rattle.lt_objective_rounds.proofs.OldExpressions.{Keeps, as_they_were, two, node, labels_old, expression, optional, declaration, for_start}
+use Rattle.lt_objective_marks.specs.Marks.{IsOldMark}
+use Rattle.lt_objective_marks.proofs.OldExpressions.{Keeps, as_they_were, two, node, labels_old, expression, optional, declaration, for_start}
 
 before_old : (o : ℕ → Bool) (marks : c.Marks) (is : c.Items) → AreOld o (in_marks marks) → AreOld o (in_items is) → AreOld o (in_items (labels_before marks is))
 before_old o c.no_marks is h g = g

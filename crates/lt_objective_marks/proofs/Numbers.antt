@@ -6,15 +6,17 @@ use Rattle.std.specs.List.{AllByRecursion}
 use Rattle.std.specs.Fmt.{decimal}
 use Rattle.lt_tree.specs.Purity.{is_pure}
 use Rattle.lt_tree.specs.Typing.Types.{is_scalar}
-use Rattle.lt_tree.specs.Typing.MarkRules.{greatest_written_id, number_of_id}
+use Rattle.lt_tree.specs.Typing.Entities.{greatest_label_id}
+use Rattle.lt_tree.specs.Typing.MarkRules.{number_of_id}
 use Rattle.lt_objectives.specs.declared.criteria.Criterion.TheVariants as C
 use Rattle.lt_objectives.specs.Decisions.{one}
 use Rattle.lt_objectives.specs.Objectives.{Form, at_start, in_front, around, Objective}
 use Rattle.lt_objectives.specs.Marked.{NewMark, ids_of, numbered, next_id}
+use Rattle.lt_mark_laws.specs.MarkedRuns.{is_from}
 use Rattle.lt_objective_typing.specs.Laws.{LabelsOfObjectivesAreNew}
-use Rattle.lt_objective_rounds.specs.Marks.{is_from, IsOldAs, IsOldMark, IsPurelyLabelled}
-use Rattle.lt_objective_rounds.proofs.Pure.{no_marks_in}
-use Rattle.lt_objective_rounds.proofs.Predicates.{nowhere, pure_there}
+use Rattle.lt_objective_marks.specs.Marks.{IsOldAs, IsOldMark, IsPurelyLabelled}
+use Rattle.lt_objective_marks.proofs.Pure.{no_marks_in}
+use Rattle.lt_objective_marks.proofs.PurePredicates.{nowhere, pure_there}
 
 pub next_from : (id : ℕ) (them : List Objective) → id ≤ next_id id them
 next_from id [] = omega arith
@@ -33,16 +35,16 @@ later_from id last n less is = not_true (nat_le last n) (λ h. let le : last ≤
 
 module _ (labels_are_new : LabelsOfObjectivesAreNew) where
   -- an id is written as the number that it is
-  number_is_id : (n : ℕ) → 1 ≤ n → n ≤ greatest_written_id → number_of_id (decimal n) ≡ n
+  number_is_id : (n : ℕ) → 1 ≤ n → n ≤ greatest_label_id → number_of_id (decimal n) ≡ n
   number_is_id n least most =
       let it = labels_are_new (λ k. k == n) [] (nowhere n) at_start C.Function 0 n (one ∷ []) refl (λ used. (pure_there (λ k. k == n) used n (eq-eqb n n refl) is_scalar one refl, tt)) least (omega arith)
       (λ k low high. let above : n ≤ k = low in let below : k < n + 1 = high in (eq-eqb k n (omega arith), refl)) in
       eqb-true (number_of_id (decimal n)) n it.1.0.1
 
-  number_old : (last n : ℕ) → 1 ≤ n → n < last → last ≤ suc greatest_written_id → is_from last (number_of_id (decimal n)) ≡ false
+  number_old : (last n : ℕ) → 1 ≤ n → n < last → last ≤ suc greatest_label_id → is_from last (number_of_id (decimal n)) ≡ false
   number_old last n least less most = ap (is_from last) (number_is_id n least (omega arith)) ∙ not_from last n less
 
-  old_as : (last : ℕ) (form : Form) (it : NewMark) → 1 ≤ it.id → it.id + ids_of form ≤ last → last ≤ suc greatest_written_id → (form ≡ around) ⊎ (is_pure it.objective.predicate ≡ true)
+  old_as : (last : ℕ) (form : Form) (it : NewMark) → 1 ≤ it.id → it.id + ids_of form ≤ last → last ≤ suc greatest_label_id → (form ≡ around) ⊎ (is_pure it.objective.predicate ≡ true)
       → IsOldAs (is_from last) form it
   old_as last around it least less most pure = let behind : it.id + 2 ≤ last = less in (number_old last it.id least (omega arith) most, number_old last (suc it.id) (omega arith) (omega arith) most)
   old_as last at_start it least less most (inl is) = absurd cc
@@ -50,7 +52,7 @@ module _ (labels_are_new : LabelsOfObjectivesAreNew) where
   old_as last in_front it least less most (inl is) = absurd cc
   old_as last in_front it least less most (inr pure) = let behind : it.id + 1 ≤ last = less in (number_old last it.id least (omega arith) most, no_marks_in (is_from last) it.objective.predicate pure)
 
-  pub all_old : (last id : ℕ) (them : List Objective) → 1 ≤ id → next_id id them ≤ last → last ≤ suc greatest_written_id → AllByRecursion IsPurelyLabelled them
+  pub all_old : (last id : ℕ) (them : List Objective) → 1 ≤ id → next_id id them ≤ last → last ≤ suc greatest_label_id → AllByRecursion IsPurelyLabelled them
       → AllByRecursion (IsOldMark (is_from last)) (numbered id them)
   all_old last id [] least less most pure = tt
   all_old last id (it ∷ rest) least less most pure =

@@ -8,13 +8,14 @@ use Rattle.lt_tree.specs.Constants.{value_of}
 use Rattle.lt_tree.specs.Tree as c
 use Rattle.lt_tree.specs.Nodes.{Node, if_written, in_expression, in_expressions, in_maybe, in_marks, in_mark, in_bindings, in_specifiers, in_types, in_type, in_members, in_member_declarators, in_enumerators, in_declarator, in_parts, in_parameters, in_parameter_list, in_initialiser, in_initialisers, in_optional_initialiser, in_init_declarator, in_declaration, in_optional, in_start, in_label, in_statement, in_items, in_cases, in_external, nodes}
 use Rattle.lt_tree.specs.Ids.{within, ids_in, ids_in_expressions, ids_in_maybe, ids_in_marks, ids_in_mark, ids_in_bindings, ids_in_specifiers, ids_in_types, ids_in_type, ids_in_members, ids_in_member_declarators, ids_in_enumerators, ids_in_declarator, ids_in_parts, ids_in_parameters, ids_in_parameter_list, ids_in_initialiser, ids_in_initialisers, ids_in_some, ids_in_init_declarator, ids_in_declaration, ids_in_start, ids_in_label, ids_in_statement, ids_in_items, ids_in_cases, ids_in_external, ids_of_unit, greatest_id}
-use Rattle.lt_tree.specs.Typing.MarkRules.{greatest_written_id, id_from, number_of_id}
+use Rattle.lt_tree.specs.Typing.Entities.{greatest_label_id}
+use Rattle.lt_tree.specs.Typing.MarkRules.{id_from, number_of_id}
+use Rattle.lt_mark_laws.specs.MarkedRuns.{is_from}
 use Rattle.lt_mark_laws.proofs.TypeLists.{all_first, all_second}
 use Rattle.lt_mark_typing.specs.Placed.{IsOld, AreOld}
-use Rattle.lt_objective_rounds.specs.Marks.{is_from}
-use Rattle.lt_objective_rounds.proofs.OldExpressions.{both_old}
-use Rattle.lt_objective_rounds.proofs.Pure.{written}
-use Rattle.lt_objective_rounds.proofs.Numbers.{not_from}
+use Rattle.lt_objective_marks.proofs.OldExpressions.{both_old}
+use Rattle.lt_objective_marks.proofs.Pure.{written}
+use Rattle.lt_objective_marks.proofs.Numbers.{not_from}
 
 abbrev pub IsOldId : (ℕ → Bool) → List ℕ → Type 0
 IsOldId o id = o (number_of_id id) ≡ false
@@ -213,15 +214,15 @@ module _ (o : ℕ → Bool) where
 number_within : (found : Option ℤ) → unwrap_or (id_from found) 0 ≤ within found
 number_within None = omega arith
 number_within (Some (negsuc n)) = omega arith
-number_within (Some (pos n)) = by (nat_le 1 n && nat_le n greatest_written_id) refl
+number_within (Some (pos n)) = by (nat_le 1 n && nat_le n greatest_label_id) refl
   where
     small : (b : Bool) → nat_le n 2147483647 ≡ b → n ≤ 2147483647 → n ≤ (if b then n else 0)
     small true is less = omega arith
     small false is less = absurd (false≢true (sym is ∙ le-leb n 2147483647 less))
 
-    by : (b : Bool) → nat_le 1 n && nat_le n greatest_written_id ≡ b → unwrap_or (if b then Some n else None) 0 ≤ (if nat_le n 2147483647 then n else 0)
+    by : (b : Bool) → nat_le 1 n && nat_le n greatest_label_id ≡ b → unwrap_or (if b then Some n else None) 0 ≤ (if nat_le n 2147483647 then n else 0)
     by true is =
-        let less : n ≤ 1000000000 = leb-true n 1000000000 (and_parts (nat_le 1 n) (nat_le n greatest_written_id) is).1 in small (nat_le n 2147483647) refl (omega arith)
+        let less : n ≤ 2147483647 = leb-true n 2147483647 (and_parts (nat_le 1 n) (nat_le n greatest_label_id) is).1 in small (nat_le n 2147483647) refl less
     by false is = omega arith
 
 ids_old : (last : ℕ) (ids : List (List ℕ)) → greatest_id ids < last → AllByRecursion (IsOldId (is_from last)) ids

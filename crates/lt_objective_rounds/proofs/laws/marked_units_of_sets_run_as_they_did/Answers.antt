@@ -1,9 +1,0 @@
-use Rattle.std.proofs.Common.{suc, arith}
-use Rattle.lt_tree.specs.Ids.{ids_of_unit, greatest_id}
-use Rattle.lt_objectives.specs.Criteria.{criteria_in}
-use Rattle.lt_objective_rounds.proofs.OldIds.{behind_greatest}
-use Rattle.lt_objective_rounds.proofs.laws.marked_units_of_sets_run_as_they_did.Goals as goal
-
-pub returns : goal.returns
-returns x = λ as_much model unit program set is last simple.
-    x.rounds_run_as_they_did.ensures as_much model (criteria_in set) unit program (suc (greatest_id (ids_of_unit unit))) is (omega arith) (behind_greatest unit) last simple
