@@ -7,4 +7,4 @@ mod node;
 mod rounds;
 mod truths;
 
-pub use rounds::annotate;
+pub use rounds::{annotate, annotate_further};

@@ -38,7 +38,21 @@ pub fn annotate(
     ensures ids { IfErr result (λ why. why ≡ stop.Ids → IdsPass (chosen criteria (bits_of which)) (unit_of unit.now) (program_of program.now) first) }
 {
     let copy = unmarked(alloc, unit, first)?;
-    let functions = round_if_chosen(alloc, copy, program, which, Criterion::Function)?;
+    annotate_further(alloc, copy, program, which)
+}
+
+/// The same of a unit in which others have put labels before: it is taken, and ids go on behind theirs.
+pub fn annotate_further(
+    alloc: Global,
+    before: Marked,
+    program: &Program<'_>,
+    which: Criteria,
+) -> Result<Marked, MarkStop>
+    requires { before.next ≤ most_id + 1 }
+    ensures marked { IfOk result (IsMarkedBy (chosen criteria (bits_of which)) (unit_of before.unit) (program_of program.now) before.next) }
+    ensures ids { IfErr result (λ why. why ≡ stop.Ids → IdsPass (chosen criteria (bits_of which)) (unit_of before.unit) (program_of program.now) before.next) }
+{
+    let functions = round_if_chosen(alloc, before, program, which, Criterion::Function)?;
     let domains = round_if_chosen(alloc, functions, program, which, Criterion::InputDomain)?;
     let decisions = round_if_chosen(alloc, domains, program, which, Criterion::Decision)?;
     round_if_chosen(alloc, decisions, program, which, Criterion::Condition)

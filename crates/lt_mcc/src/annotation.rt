@@ -28,7 +28,22 @@ pub fn annotate(
     ensures marked { IfOk result (IsMarkedBy (chosen criteria (bits_of which)) (unit_of unit.now) (program_of program.now) first) }
     ensures ids { IfErr result (λ why. why ≡ MarkStop.Ids → IdsPass (chosen criteria (bits_of which)) (unit_of unit.now) (program_of program.now) first) }
 {
-    let mut made = unmarked(alloc, unit, first)?;
+    let copy = unmarked(alloc, unit, first)?;
+    annotate_further(alloc, copy, program, which)
+}
+
+/// The same of a unit in which others have put labels before: it is taken, and ids go on behind theirs.
+pub fn annotate_further(
+    alloc: Global,
+    before: Marked,
+    program: &Program<'_>,
+    which: Criteria,
+) -> Result<Marked, MarkStop>
+    requires { before.next ≤ most_id + 1 }
+    ensures marked { IfOk result (IsMarkedBy (chosen criteria (bits_of which)) (unit_of before.unit) (program_of program.now) before.next) }
+    ensures ids { IfErr result (λ why. why ≡ MarkStop.Ids → IdsPass (chosen criteria (bits_of which)) (unit_of before.unit) (program_of program.now) before.next) }
+{
+    let mut made = before;
     'combinations: for combination in &COMBINATIONS {
         if which.contains(combination.criterion().alone()) {
             made = mark_combinations(alloc, &made.unit, program, *combination, made.next)?;

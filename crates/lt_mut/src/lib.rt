@@ -8,4 +8,4 @@ mod operands;
 mod predicates;
 mod round;
 
-pub use annotation::annotate;
+pub use annotation::{annotate, annotate_further};

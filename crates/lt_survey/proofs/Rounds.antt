@@ -1,6 +1,6 @@
 -- The marks of criteria, node by node, and criterion by criterion.
 use Rattle.std.proofs.Common.{◌≡◌, ℕ, ◌+◌, ◌<◌, ◌≤◌, List, [], ◌∷◌, ◌++◌, length, get_or, map, take, drop, Some, Bool, true, false, cond, inl, inr, sym, ap, subst, ◌∙◌, arith}
-use Rattle.std.specs.Prelude.{◌==◌, slice_get}
+use Rattle.std.specs.Prelude.{◌==◌, slice_get, Result, IfOk, IfErr}
 use Rattle.std.specs.Int.RustNames.{bit_and}
 use Rattle.std.specs.List.{flat_map}
 use Rattle.std.proofs.lemmas.List.{drop_all, drop_more, take-append-drop}
@@ -155,3 +155,16 @@ pub leads_to_end : {A : Type 0} (criterion_of : A → Criterion) (kinds : List A
 leads_to_end criterion_of kinds i set whole unit program id it past leads =
     leads_to_all whole unit program id it
     (subst (λ left. Leads left whole unit program id it) (ap (λ rest. chosen (map criterion_of rest) set) (drop_all i kinds past)) leads)
+
+-- ---- copies
+
+-- What is so of a copy of a unit, with the marks of criteria, is so of the unit.
+pub copied_marked : (criteria : List Criterion) (program : Program) {unit : c.Unit} {id : ℕ} (copy : Marked) → unit_of copy.unit ≡ unit → copy.next ≡ id → (made : Result Marked MarkStop)
+    → IfOk made (IsMarkedBy criteria (unit_of copy.unit) program copy.next) → IfOk made (IsMarkedBy criteria unit program id)
+copied_marked criteria program {unit} copy same next made h =
+    subst (λ n. IfOk made (IsMarkedBy criteria unit program n)) next (subst (λ u. IfOk made (IsMarkedBy criteria u program copy.next)) same h)
+
+pub copied_ids : (criteria : List Criterion) (program : Program) {unit : c.Unit} {id : ℕ} (copy : Marked) → unit_of copy.unit ≡ unit → copy.next ≡ id → (made : Result Marked MarkStop)
+    → IfErr made (λ why. why ≡ stop.Ids → IdsPass criteria (unit_of copy.unit) program copy.next) → IfErr made (λ why. why ≡ stop.Ids → IdsPass criteria unit program id)
+copied_ids criteria program {unit} copy same next made h =
+    subst (λ n. IfErr made (λ why. why ≡ stop.Ids → IdsPass criteria unit program n)) next (subst (λ u. IfErr made (λ why. why ≡ stop.Ids → IdsPass criteria u program copy.next)) same h)

@@ -1,5 +1,5 @@
 -- The stages of an annotation, one after the other.
-use Rattle.std.proofs.Common.{◌≡◌, ◌≤◌, ℕ, ◌+◌, List, length, None, refl, sym, ap, subst, ◌∙◌, arith}
+use Rattle.std.proofs.Common.{◌≡◌, ◌≤◌, ℕ, suc, ◌+◌, List, length, None, refl, sym, ap, subst, ◌∙◌, arith}
 use Rattle.std.specs.Prelude.{◌<◌, ◌^◌, All, Result, Ok, Err}
 use Rattle.std.specs.Global.{Vec}
 use Rattle.lt_model.specs.declared.scalar.DataModel.{DataModel}
@@ -14,6 +14,7 @@ use Rattle.lt_tree.specs.Erasure.{erased_unit}
 use Rattle.lt_tree.specs.Ids.{ids_of_unit}
 use Rattle.lt_tree.specs.Units.{IsWellMade}
 use Rattle.lt_tree.specs.declared.unit.Unit.{Unit}
+use Rattle.lt_tree.specs.Typing.Entities.{greatest_label_id}
 use Rattle.lt_tree.specs.Typing.Programs.{Program}
 use Rattle.lt_answers.specs.Programs.{IsProgram, HasNoProgram, SpellsNone, spells_none}
 use Rattle.lt_print.specs.Laws.{IsOfUnitAlone}
@@ -22,6 +23,9 @@ use Rattle.lt_objectives.specs.Laws.{MarksAreErased}
 use Rattle.lt_numbering.specs.Numbering.{most_id}
 use Rattle.lt_survey.specs.Marking.{IdsPass, next_behind}
 use Rattle.lt_label_counts.specs.Laws.{IdsNeverPass}
+use Rattle.lt_mark_laws.specs.MarkedRuns.{is_from, RunsAs}
+use Rattle.lt_erased_typing.specs.CopiedExpressions.{AllCopiesAreSimple}
+use Rattle.lt_objective_marks.specs.Rounds.{MarkedUnitsOfSetsRunAsTheyDid}
 use Rattle.lt_marked_texts.specs.Laws.{AnnotatedTextsAreOfUnitsAlone}
 use Rattle.lt_answers.specs.Answers.{most_bytes}
 use Rattle.lt_answers.specs.Annotations.{first_id, HasAnnotation, RefusesAnnotation, no_program, grown}
@@ -68,6 +72,26 @@ too_deep model set text unit bytes why has is (deep_text {nest = nest} nests dee
 small_id : (n : ℕ) → n ≤ most_id + 1 → n ≤ 2 ^ 64
 small_id n low = omega arith
 
+-- No id of the new labels passes the greatest.
+low_so : IdsNeverPass → (model : DataModel) (set : ℕ) (text : List ℕ) (unit : SourceUnit) → length text ≤ most_bytes → (has : HasAnnotation model set text unit)
+    → next_behind (criteria_in set) has.is_program.unit has.program (first_id has.is_program.unit) ≤ most_id + 1
+low_so never model set text unit short has =
+    let it = has.is_program in
+    let none = λ (pass : IdsPass (criteria_in set) it.unit has.program (first_id it.unit)).
+    never model text it.spells.tokens it.unit it.spots has.program set short it.spells.lexes.0 it.spells.derives it.typed pass in
+    let greatest = no_greater_id (ids_of_unit it.unit) in
+    let first : first_id it.unit ≤ most_id + 1 = omega arith in
+    behind_low (criteria_in set) it.unit has.program (first_id it.unit) first none
+
+-- Where what predicates copy is simple, the annotated unit runs as the unit of the text.
+pub runs_so : IdsNeverPass → MarkedUnitsOfSetsRunAsTheyDid → (model : DataModel) (set : ℕ) (text : List ℕ) (unit : SourceUnit) → length text ≤ most_bytes → (has : HasAnnotation model set text unit)
+    → AllCopiesAreSimple model (criteria_in set) has.is_program.unit has.program (first_id has.is_program.unit) → RunsAs (is_from (first_id has.is_program.unit)) model has.program unit
+runs_so never law model set text unit short has simple =
+    let it = has.is_program in
+    let low = low_so never model set text unit short has in
+    let last : next_behind (criteria_in set) it.unit has.program (first_id it.unit) ≤ suc greatest_label_id = low in
+    subst (RunsAs (is_from (first_id it.unit)) model has.program) (sym has.is) (law model it.unit has.program set it.typed last simple)
+
 -- The tokens of the annotated unit's text derive no other unit.
 pub alone_so : IdsNeverPass → AnnotatedTextsAreOfUnitsAlone → (model : DataModel) (set : ℕ) (text : List ℕ) (unit : SourceUnit) → length text ≤ most_bytes → All (λ b. b < 256) text
     → HasAnnotation model set text unit → IsOfUnitAlone (canon unit) unit
@@ -75,11 +99,7 @@ alone_so never law model set text unit short bytes has =
     let it = has.is_program in
     let lexes : Lexes text it.spells.tokens None = it.spells.lexes.0 in
     let good : IsWellMade it.unit = record { text = text; bytes = bytes; tokens = it.spells.tokens; lexes = lexes; spots = it.spots; derives = it.spells.derives } in
-    let none = λ (pass : IdsPass (criteria_in set) it.unit has.program (first_id it.unit)).
-    never model text it.spells.tokens it.unit it.spots has.program set short lexes it.spells.derives it.typed pass in
-    let greatest = no_greater_id (ids_of_unit it.unit) in
-    let first : first_id it.unit ≤ most_id + 1 = omega arith in
-    let low = behind_low (criteria_in set) it.unit has.program (first_id it.unit) first none in
+    let low = low_so never model set text unit short has in
     subst (λ u. IsOfUnitAlone (canon u) u) (sym has.is)
     (law model it.unit has.program set (first_id it.unit) good it.typed (small_id (next_behind (criteria_in set) it.unit has.program (first_id it.unit)) low))
 
@@ -89,14 +109,17 @@ same_so law model set text unit has = ap erased_unit has.is ∙ law.1 has.is_pro
 
 -- What is given of the unit's text is the answer.
 pub put_so : (model : DataModel) (set : ℕ) (text : List ℕ) (unit : SourceUnit) (bytes : List ℕ) (given : Result (Vec ℕ) TextStop) (has : HasAnnotation model set text unit)
-    → IsOfUnitAlone (canon unit) unit → erased_unit unit ≡ erased_unit has.is_program.unit → bytes ≡ canon unit → GivesShallow bytes given → IsAnnotationAnswer model set text given
-put_so model set text unit bytes (Ok out) has alone same is it = record {
+    → IsOfUnitAlone (canon unit) unit → erased_unit unit ≡ erased_unit has.is_program.unit
+    → (AllCopiesAreSimple model (criteria_in set) has.is_program.unit has.program (first_id has.is_program.unit) → RunsAs (is_from (first_id has.is_program.unit)) model has.program unit)
+    → bytes ≡ canon unit → GivesShallow bytes given → IsAnnotationAnswer model set text given
+put_so model set text unit bytes (Ok out) has alone same runs is it = record {
   annotated = unit;
   has = has;
   is = it.is ∙ is;
   shallow = subst (λ t. (nest : ℕ) → NestsTo t nest → nest ≤ deepest) (sym it.is) it.shallow;
   alone = subst (λ t. IsOfUnitAlone t unit) (sym (it.is ∙ is)) alone;
   same = same;
+  runs = runs;
 }
-put_so model set text unit bytes (Err (Refused why)) has alone same is it = too_deep model set text unit bytes why has is it
-put_so model set text unit bytes (Err NoMemory) has alone same is it = tt
+put_so model set text unit bytes (Err (Refused why)) has alone same runs is it = too_deep model set text unit bytes why has is it
+put_so model set text unit bytes (Err NoMemory) has alone same runs is it = tt

@@ -10,7 +10,7 @@ ghost use Rattle.ltest.specs.Labels.{HasIds, HasLabels};
 use lt_marks::max_id;
 use lt_numbering::MarkStop;
 use lt_objectives::Criteria;
-use lt_survey::Marked;
+use lt_survey::{Marked, unmarked};
 use lt_tree::Unit;
 use lt_tree::typed::Program;
 use std::alloc::{AllocError, Global};
@@ -27,15 +27,10 @@ pub fn with_labels(
     ensures { IfOk result (HasLabels (unit_of unit.now) (program_of program.now) (bits_of which)) }
 {
     let first = max_id(unit) + 1;
-    let tests = within(lt_crit::annotate(alloc, unit, program, which, first))?;
-    let combinations = within(lt_mcc::annotate(alloc, &tests.unit, program, which, tests.next))?;
-    let mutants = within(lt_mut::annotate(
-        alloc,
-        &combinations.unit,
-        program,
-        which,
-        combinations.next,
-    ))?;
+    let copy = unmarked(alloc, unit, first)?;
+    let tests = within(lt_crit::annotate_further(alloc, copy, program, which))?;
+    let combinations = within(lt_mcc::annotate_further(alloc, tests, program, which))?;
+    let mutants = within(lt_mut::annotate_further(alloc, combinations, program, which))?;
     Ok(mutants.unit)
 }
 

@@ -1,82 +1,14 @@
-use Rattle.std.proofs.Common.{List, [], ◌∷◌}
-use Rattle.std.proofs.lemmas.Result.{IfOk-weaker, err_from_is_err_and}
-use Rattle.lt_tree.specs.UnitView.{unit_of}
 use Rattle.lt_tree.specs.Typing.ProgramView.{program_of}
-use Rattle.lt_objectives.specs.declared.criteria.Criterion.{Criterion}
-use Rattle.lt_objectives.specs.declared.criteria.Criterion.TheVariants as C
-use Rattle.lt_survey.specs.Marking.{IsMarkedBy, chosen}
-use Rattle.lt_survey.specs.Rounds.{Leads}
-use Rattle.lt_survey.proofs.Rounds.{leads_at_first, leads_to_all}
+use Rattle.lt_survey.proofs.Rounds.{copied_marked, copied_ids}
+use Rattle.lt_survey.specs.Marking.{chosen}
 use Rattle.lt_crit.specs.Criteria.{criteria}
 use Rattle.lt_crit.proofs.rounds.annotate.Goals as goal
 
-abbrev behind_functions : List Criterion
-behind_functions = C.InputDomain ∷ C.Decision ∷ C.Condition ∷ []
-
-abbrev behind_domains : List Criterion
-behind_domains = C.Decision ∷ C.Condition ∷ []
-
-abbrev behind_decisions : List Criterion
-behind_decisions = C.Condition ∷ []
-
-pub returns-in_err-functions-clause-ids : goal.returns-in_err-functions-clause-ids
-returns-in_err-functions-clause-ids c =
-    let unit = unit_of c.args.unit.now in
-    let program = program_of c.args.program.now in
-    let whole = chosen criteria c.args.which.0 in
-    let at_first = leads_at_first whole unit program c.args.first c.in_ok-copy.copy c.in_ok-copy.ensures.0 c.in_ok-copy.ensures.1 c.requires in
-    let left = err_from_is_err_and c.from_residual-in_err-functions.result c.from_residual-in_err-functions.ensures.1 in
-    rw (left.1, left.2) (c.in_err-functions.ensures.ids behind_functions whole unit c.args.first at_first)
-
-pub returns-in_err-domains-clause-ids : goal.returns-in_err-domains-clause-ids
-returns-in_err-domains-clause-ids c =
-    let unit = unit_of c.args.unit.now in
-    let program = program_of c.args.program.now in
-    let whole = chosen criteria c.args.which.0 in
-    let at_first = leads_at_first whole unit program c.args.first c.in_ok-copy.copy c.in_ok-copy.ensures.0 c.in_ok-copy.ensures.1 c.requires in
-    let functions : Leads (chosen behind_functions c.args.which.0) whole unit program c.args.first c.in_ok-functions.functions
-    = c.in_ok-functions.ensures.leads behind_functions whole unit c.args.first at_first in
-    let left = err_from_is_err_and c.from_residual-in_err-domains.result c.from_residual-in_err-domains.ensures.1 in
-    rw (left.1, left.2) (c.in_err-domains.ensures.ids behind_domains whole unit c.args.first functions)
-
-pub returns-in_err-decisions-clause-ids : goal.returns-in_err-decisions-clause-ids
-returns-in_err-decisions-clause-ids c =
-    let unit = unit_of c.args.unit.now in
-    let program = program_of c.args.program.now in
-    let whole = chosen criteria c.args.which.0 in
-    let at_first = leads_at_first whole unit program c.args.first c.in_ok-copy.copy c.in_ok-copy.ensures.0 c.in_ok-copy.ensures.1 c.requires in
-    let functions : Leads (chosen behind_functions c.args.which.0) whole unit program c.args.first c.in_ok-functions.functions
-    = c.in_ok-functions.ensures.leads behind_functions whole unit c.args.first at_first in
-    let domains : Leads (chosen behind_domains c.args.which.0) whole unit program c.args.first c.in_ok-domains.domains
-    = c.in_ok-domains.ensures.leads behind_domains whole unit c.args.first functions in
-    let left = err_from_is_err_and c.from_residual-in_err-decisions.result c.from_residual-in_err-decisions.ensures.1 in
-    rw (left.1, left.2) (c.in_err-decisions.ensures.ids behind_decisions whole unit c.args.first domains)
-
-pub returns-clause-ids : goal.returns-clause-ids
-returns-clause-ids c =
-    let unit = unit_of c.args.unit.now in
-    let program = program_of c.args.program.now in
-    let whole = chosen criteria c.args.which.0 in
-    let at_first = leads_at_first whole unit program c.args.first c.in_ok-copy.copy c.in_ok-copy.ensures.0 c.in_ok-copy.ensures.1 c.requires in
-    let functions : Leads (chosen behind_functions c.args.which.0) whole unit program c.args.first c.in_ok-functions.functions
-    = c.in_ok-functions.ensures.leads behind_functions whole unit c.args.first at_first in
-    let domains : Leads (chosen behind_domains c.args.which.0) whole unit program c.args.first c.in_ok-domains.domains
-    = c.in_ok-domains.ensures.leads behind_domains whole unit c.args.first functions in
-    let decisions : Leads (chosen behind_decisions c.args.which.0) whole unit program c.args.first c.in_ok-decisions.decisions
-    = c.in_ok-decisions.ensures.leads behind_decisions whole unit c.args.first domains in
-    c.round_if_chosen-4.ensures.ids [] whole unit c.args.first decisions
+pub annotate_further-requires : goal.annotate_further-requires
+annotate_further-requires c = rw c.in_ok-copy.ensures.1 c.requires
 
 pub returns-clause-marked : goal.returns-clause-marked
-returns-clause-marked c =
-    let unit = unit_of c.args.unit.now in
-    let program = program_of c.args.program.now in
-    let whole = chosen criteria c.args.which.0 in
-    let at_first = leads_at_first whole unit program c.args.first c.in_ok-copy.copy c.in_ok-copy.ensures.0 c.in_ok-copy.ensures.1 c.requires in
-    let functions : Leads (chosen behind_functions c.args.which.0) whole unit program c.args.first c.in_ok-functions.functions
-    = c.in_ok-functions.ensures.leads behind_functions whole unit c.args.first at_first in
-    let domains : Leads (chosen behind_domains c.args.which.0) whole unit program c.args.first c.in_ok-domains.domains
-    = c.in_ok-domains.ensures.leads behind_domains whole unit c.args.first functions in
-    let decisions : Leads (chosen behind_decisions c.args.which.0) whole unit program c.args.first c.in_ok-decisions.decisions
-    = c.in_ok-decisions.ensures.leads behind_decisions whole unit c.args.first domains in
-    IfOk-weaker c.round_if_chosen-4.result (Leads [] whole unit program c.args.first) (IsMarkedBy whole unit program c.args.first) (leads_to_all whole unit program c.args.first)
-    (c.round_if_chosen-4.ensures.leads [] whole unit c.args.first decisions)
+returns-clause-marked c = copied_marked (chosen criteria c.args.which.0) (program_of c.args.program.now) c.in_ok-copy.copy c.in_ok-copy.ensures.0 c.in_ok-copy.ensures.1 c.annotate_further.result c.annotate_further.ensures.marked
+
+pub returns-clause-ids : goal.returns-clause-ids
+returns-clause-ids c = copied_ids (chosen criteria c.args.which.0) (program_of c.args.program.now) c.in_ok-copy.copy c.in_ok-copy.ensures.0 c.in_ok-copy.ensures.1 c.annotate_further.result c.annotate_further.ensures.ids

@@ -1,50 +1,14 @@
-use Rattle.std.proofs.Common.{◌+◌, ◌<◌, ◌≤◌, ◌∙◌, drop, map, length, sym, subst, arith}
-use Rattle.std.proofs.lemmas.Result.{err_from_is_err_and}
-use Rattle.lt_tree.specs.UnitView.{unit_of}
 use Rattle.lt_tree.specs.Typing.ProgramView.{program_of}
+use Rattle.lt_survey.proofs.Rounds.{copied_marked, copied_ids}
 use Rattle.lt_survey.specs.Marking.{chosen}
-use Rattle.lt_survey.specs.Rounds.{Leads}
-use Rattle.lt_survey.proofs.Rounds.{leads_at_first, answered, leads_past, leads_through, leads_out, leads_to_end}
-use Rattle.lt_mcc.specs.declared.combination.TheConstants.{COMBINATIONS}
-use Rattle.lt_mcc.specs.Combinations.{criteria, criterion_of}
+use Rattle.lt_mcc.specs.Combinations.{criteria}
 use Rattle.lt_mcc.proofs.annotation.annotate.Goals as goal
-use Rattle.lt_mcc.proofs.annotation.annotate.Goals.{then-contains+in_ok-made-2, else-contains}
 
-pub combinations-init : goal.combinations-init
-combinations-init c =
-    leads_at_first (chosen criteria c.args.which.0) (unit_of c.args.unit.now) (program_of c.args.program.now) c.args.first c.in_ok-made.made c.in_ok-made.ensures.0 c.in_ok-made.ensures.1 c.requires
-
-pub mark_combinations-requires : goal.mark_combinations-requires
-mark_combinations-requires c = c.combinations.invariant.within
-
-pub returns-in_err-made-2-clause-ids : goal.returns-in_err-made-2-clause-ids
-returns-in_err-made-2-clause-ids c =
-    let p = err_from_is_err_and c.from_residual-in_err-made-2.result c.from_residual-in_err-made-2.ensures.1 in
-    let within : c.combinations.combination-index < length COMBINATIONS = omega (arith, c.combinations-test.true) in
-    rw (p.1, p.2) (λ ids.
-    leads_out criterion_of COMBINATIONS c.combinations.combination-index _ c.args.which.0 (chosen criteria c.args.which.0) (unit_of c.args.unit.now) (program_of c.args.program.now) c.args.first c.combinations.made within
-    (answered c.args.which.0 c.alone.result.0 c.criterion.result _ c.contains.result c.alone.ensures c.criterion.ensures (c.contains.ensures tt) ∙ c.if-contains.true)
-    c.combinations.invariant (c.in_err-made-2.ensures.ids ids))
-
-pub combinations-preserved : goal.combinations-preserved
-combinations-preserved c =
-    let set = c.args.which.0 in
-    let whole = chosen criteria set in
-    let unit = unit_of c.args.unit.now in
-    let program = program_of c.args.program.now in
-    let i = c.combinations.combination-index in
-    let within : i < length COMBINATIONS = omega (arith, c.combinations-test.true) in
-    let answer = answered set c.alone.result.0 c.criterion.result _ c.contains.result c.alone.ensures c.criterion.ensures (c.contains.ensures tt) in
-    elim c.if-contains.branch [
-      | then-contains+in_ok-made-2 w ↦
-          subst (Leads (chosen (map criterion_of (drop (i + 1) COMBINATIONS)) set) whole unit program c.args.first) (sym w.made-is)
-          (leads_through criterion_of COMBINATIONS i _ set whole unit program c.args.first c.combinations.made w.in_ok-made-2.made within (answer ∙ w.if-contains.true) c.combinations.invariant w.in_ok-made-2.ensures.marked w.in_ok-made-2.ensures.within)
-      | else-contains w ↦
-          subst (Leads (chosen (map criterion_of (drop (i + 1) COMBINATIONS)) set) whole unit program c.args.first) (sym w.made-is)
-          (leads_past criterion_of COMBINATIONS i _ set whole unit program c.args.first c.combinations.made within (answer ∙ w.if-contains.false) c.combinations.invariant)
-    ]
+pub annotate_further-requires : goal.annotate_further-requires
+annotate_further-requires c = rw c.in_ok-copy.ensures.1 c.requires
 
 pub returns-clause-marked : goal.returns-clause-marked
-returns-clause-marked c =
-    let past : length COMBINATIONS ≤ c.combinations.combination-index = omega (arith, c.combinations-test.false) in
-    leads_to_end criterion_of COMBINATIONS c.combinations.combination-index c.args.which.0 (chosen criteria c.args.which.0) (unit_of c.args.unit.now) (program_of c.args.program.now) c.args.first c.combinations.made past c.combinations.invariant
+returns-clause-marked c = copied_marked (chosen criteria c.args.which.0) (program_of c.args.program.now) c.in_ok-copy.copy c.in_ok-copy.ensures.0 c.in_ok-copy.ensures.1 c.annotate_further.result c.annotate_further.ensures.marked
+
+pub returns-clause-ids : goal.returns-clause-ids
+returns-clause-ids c = copied_ids (chosen criteria c.args.which.0) (program_of c.args.program.now) c.in_ok-copy.copy c.in_ok-copy.ensures.0 c.in_ok-copy.ensures.1 c.annotate_further.result c.annotate_further.ensures.ids

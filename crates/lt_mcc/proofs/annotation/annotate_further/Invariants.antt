@@ -5,7 +5,7 @@ use Rattle.lt_survey.specs.Marking.{chosen}
 use Rattle.lt_survey.specs.Rounds.{Leads}
 use Rattle.lt_mcc.specs.declared.combination.TheConstants.{COMBINATIONS}
 use Rattle.lt_mcc.specs.Combinations.{criteria, criterion_of}
-use Rattle.lt_mcc.proofs.annotation.annotate.Given as goal
+use Rattle.lt_mcc.proofs.annotation.annotate_further.Given as goal
 
 abbrev pub invariant-combinations : goal.invariant-combinations
-invariant-combinations l = Leads (chosen (map criterion_of (drop l.combination-index COMBINATIONS)) l.which.0) (chosen criteria l.which.0) (unit_of l.unit) (program_of l.program) l.first l.made
+invariant-combinations l = Leads (chosen (map criterion_of (drop l.combination-index COMBINATIONS)) l.which.0) (chosen criteria l.which.0) (unit_of l.initial.made.unit) (program_of l.program) l.initial.made.next l.made
