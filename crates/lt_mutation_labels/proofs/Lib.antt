@@ -1,0 +1,14 @@
+mod Steps
+mod Pure
+mod Again
+mod Conversions
+mod Numbers
+mod Still
+mod Needs
+mod Inequalities
+mod Growing
+mod Others
+mod Fitting
+mod AbsoluteNumbers
+mod Absolutes
+mod Predicates
