@@ -1,0 +1,4 @@
+pub use Rattle.lt_meaning.specs.Runs
+pub mod Renumbered
+pub mod TypeLists
+pub mod Laws

@@ -1,0 +1,98 @@
+-- Programs that are the same but for their lists of types: the number of a pointer's type is its place in the list, and memory has it in its cells. What isn't
+-- in the list has its length as the number, which no cell has.
+use Rattle.std.specs.Prelude.{◌≡◌, ◌<◌, ℕ, Bool, true, false, ◌&&◌, nat_lt, List, [], ◌++◌, map, length, slice_index_or}
+use Rattle.std.specs.List.{AllByRecursion, flat_map, list_any}
+use Rattle.lt_model.specs.declared.cell.CellType.{CellType}
+use Rattle.lt_model.specs.declared.cell.CellType.TheVariants.{Num, Pointer}
+use Rattle.lt_model.specs.declared.cell.ShapeCell.{ShapeCell}
+use Rattle.lt_model.specs.declared.input.BlockIn.{BlockIn}
+use Rattle.lt_tree.specs.Typing.Types.{CType, Void, bare, same}
+use Rattle.lt_tree.specs.Typing.Extents.{StructType}
+use Rattle.lt_tree.specs.Typing.Entities.{Object, Declared, Fact}
+use Rattle.lt_tree.specs.Typing.Shapes.{place_among}
+use Rattle.lt_tree.specs.Typing.Programs.{Program, made_of, with_new, types_of_struct}
+
+-- whether a cell's type is an integer type, or a pointer's whose number passes a test
+abbrev pub is_of : (ℕ → Bool) → CellType → Bool
+is_of test (Num s) = true
+is_of test (Pointer k) = test k
+
+-- the cells of these blocks have such types
+abbrev pub AreOf : (ℕ → Bool) → List BlockIn → Type 0
+AreOf test blocks = AllByRecursion (λ (it : BlockIn). AllByRecursion (λ (cell : ShapeCell). is_of test cell.ty ≡ true) it.shape.cells) blocks
+
+-- ---- lists of which the second has each type of the first
+
+-- all of these types are among those
+abbrev pub AreAmong : List CType → List CType → Type 0
+AreAmong those types = AllByRecursion (λ t. list_any (same t) those ≡ true) types
+
+-- A type of the first list has in the second the number that r gives of its number, and no other type has one of these numbers.
+pub record HaveNumbers (r : ℕ → ℕ) (types others : List CType) : Type 0 where
+  pub apart : (m n : ℕ) → m < length types → n < length types → r m ≡ r n → m ≡ n
+  pub listed : (t : CType) → list_any (same (bare t)) types ≡ true → place_among 0 (bare t) others ≡ r (place_among 0 (bare t) types)
+  pub unlisted : (t : CType) → list_any (same (bare t)) types ≡ false → (n : ℕ) → n < length types → place_among 0 (bare t) others ≡ r n → ⊥
+
+-- The second program is the first with another list of types, in which these have the numbers that r gives. Objects and members of structs are made of types of
+-- the first list.
+pub record HasOtherTypes (r : ℕ → ℕ) (p q : Program) : Type 0 where
+  pub but_for_types : q ≡ record p { types = q.types }
+  pub numbers : HaveNumbers r p.types q.types
+  pub objects : AllByRecursion (λ (object : Object). AreAmong p.types (made_of object.type)) p.objects
+  pub members : AllByRecursion (λ (it : StructType). AreAmong p.types (types_of_struct it)) p.structs
+
+-- the cells of these blocks have integer types, or types with numbers below this one
+abbrev pub AreBelow : ℕ → List BlockIn → Type 0
+AreBelow n blocks = AreOf (λ k. nat_lt k n) blocks
+
+-- ---- lists that share some types
+
+-- A type has a shared number in the first list exactly where it has in the second the number that r gives of that. No two of these are the same.
+pub record ShareNumbers (shared : ℕ → Bool) (r : ℕ → ℕ) (types others : List CType) : Type 0 where
+  pub apart : (m n : ℕ) → shared m ≡ true → shared n ≡ true → r m ≡ r n → m ≡ n
+  pub there : (t : CType) (n : ℕ) → shared n ≡ true → place_among 0 (bare t) types ≡ n → place_among 0 (bare t) others ≡ r n
+  pub back : (t : CType) (n : ℕ) → shared n ≡ true → place_among 0 (bare t) others ≡ r n → place_among 0 (bare t) types ≡ n
+
+-- these types have shared numbers in a list
+abbrev pub AreShared : (ℕ → Bool) → List CType → List CType → Type 0
+AreShared shared types them = AllByRecursion (λ t. shared (place_among 0 t types) ≡ true) them
+
+-- The second program is the first with another list of types. The lists share some types, among them those of which objects and members of structs are made.
+pub record SharesTypes (shared : ℕ → Bool) (r : ℕ → ℕ) (p q : Program) : Type 0 where
+  pub but_for_types : q ≡ record p { types = q.types }
+  pub numbers : ShareNumbers shared r p.types q.types
+  pub objects : AllByRecursion (λ (object : Object). AreShared shared p.types (made_of object.type)) p.objects
+  pub members : AllByRecursion (λ (it : StructType). AreShared shared p.types (types_of_struct it)) p.structs
+
+-- ---- lists of types of typed units
+
+-- the numbers that the types of one list have in another, by their numbers in the first
+abbrev pub numbers_in : List CType → List CType → ℕ → ℕ
+numbers_in types others n = place_among 0 (slice_index_or types n Void) others
+
+-- whether the type of a number in the first list is in the second too
+abbrev pub is_shared : List CType → List CType → ℕ → Bool
+is_shared types others n = nat_lt n (length types) && list_any (same (slice_index_or types n Void)) others
+
+-- the types of members, of objects, of functions and of expressions, each behind the types of which it is made
+abbrev pub types_of : Program → List CType
+types_of p =
+    flat_map types_of_struct p.structs
+    ++ flat_map (λ (object : Object). made_of object.type) p.objects
+    ++ flat_map (λ (f : Declared). made_of f.type) p.declared
+    ++ flat_map (λ (fact : Fact). made_of fact.type) p.facts
+
+-- the list of types has these, each once, as the typing of a unit makes it
+abbrev pub HasItsTypes : Program → Type 0
+HasItsTypes p = p.types ≡ with_new [] (types_of p)
+
+-- both programs have the same structs, and objects of the same types
+pub record HaveSameObjects (p q : Program) : Type 0 where
+  pub structs : q.structs ≡ p.structs
+  pub objects : map (λ (object : Object). object.type) q.objects ≡ map (λ (object : Object). object.type) p.objects
+
+-- They also have the same declared functions, and the list of the second has each type that the first knows of an expression.
+pub record KnowsTypesOf (p q : Program) : Type 0 where
+  pub same_objects : HaveSameObjects p q
+  pub declared : q.declared ≡ p.declared
+  pub facts : AllByRecursion (λ (fact : Fact). list_any (same (bare fact.type)) q.types ≡ true) p.facts

@@ -1,0 +1,10 @@
+// Numbers of types change nothing: `specs/TypeLists.antt` says what a typed program with another list of types is, `specs/Laws.antt` how it runs.
+#![tactic(auto)]
+
+mod laws;
+
+pub use laws::{
+    known_types_are_listed, other_types_change_nothing, programs_are_renumbered,
+    programs_share_types, shared_types_change_nothing, types_are_renumbered,
+    units_have_their_types,
+};
