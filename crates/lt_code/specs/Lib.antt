@@ -6,5 +6,6 @@ pub mod Code
 pub mod Bodies
 pub mod Sizes
 pub mod Bounds
+pub mod Costs
 pub mod Samples
 pub mod Laws

@@ -4,18 +4,14 @@ use Rattle.std.proofs.lemmas.Option.{slice_get-get_or, slice_get_within}
 use Rattle.lt_model.specs.declared.cell.Shape.{Shape}
 use Rattle.lt_model.specs.declared.cell.CellType.{CellType}
 use Rattle.lt_tree.specs.Typing.Types.{CType, is_struct}
-use Rattle.lt_tree.specs.Typing.TypedTree as e
-use Rattle.lt_tree.specs.Typing.ValueView.{value_of}
-use Rattle.lt_tree.specs.declared.typed.tree.Value.{Value}
 use Rattle.lt_ir.specs.declared.node.Access.{Access}
 use Rattle.lt_ir.specs.declared.node.Access.TheVariants as access
 use Rattle.lt_ir.specs.declared.node.Parts.{Parts}
 use Rattle.lt_ir.specs.declared.node.Parts.TheVariants.{Read, Target}
 use Rattle.lt_ir.specs.declared.node.Node.TheVariants as node
-use Rattle.lt_meaning.specs.Expressions.{cell_type}
-use Rattle.lt_code.specs.Pieces.{when, either, nothing, one}
-use Rattle.lt_code.specs.Code.{Site, program_in, clash, with_access, target, reads, assigned, struct_copied, scalar_stored}
-use Rattle.lt_code.specs.Code.{IsAccessTo, IsShapeOf}
+use Rattle.lt_code.specs.Pieces.{when, either, one}
+use Rattle.lt_code.specs.Code.{Site, clash, with_access, target, reads, assigned, struct_copied, scalar_stored}
+use Rattle.lt_code.specs.Code.{IsAccessTo}
 use Rattle.lt_emit.specs.declared.builder.Builder.{Builder}
 use Rattle.lt_emit.specs.Emission.{Grows, counts_at}
 use Rattle.lt_emit.specs.Accesses.{IsThere}

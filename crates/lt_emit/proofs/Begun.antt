@@ -1,5 +1,5 @@
 -- Objects that a function's statements begin.
-use Rattle.std.proofs.Common.{◌≡◌, ℕ, false, Option, Some, None, List, map, slice_get, refl, sym, ap, ◌∙◌}
+use Rattle.std.proofs.Common.{◌≡◌, ℕ, false, Some, None, List, map, slice_get, refl, ap, ◌∙◌}
 use Rattle.std.specs.Prelude.{option_map}
 use Rattle.std.proofs.lemmas.Option.{slice_get-map}
 use Rattle.lt_model.specs.declared.cell.Shape.{Shape}

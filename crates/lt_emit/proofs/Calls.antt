@@ -1,5 +1,6 @@
 -- Calls, by what is known of the function that is called.
-use Rattle.std.proofs.Common.{◌≡◌, ℕ, Bool, true, List, Option, Some, None, slice_get, refl, sym, ap, subst, ◌∙◌}
+use Rattle.std.specs.Option.{option_to_list}
+use Rattle.std.proofs.Common.{◌≡◌, ℕ, ◌+◌, ◌≤◌, max, Bool, true, false, arith, List, Option, Some, None, slice_get, sym, ap, subst, ◌∙◌}
 use Rattle.lt_model.specs.declared.cell.Content.TheVariants as content
 use Rattle.lt_tree.specs.Typing.Types.{CType, is_void}
 use Rattle.lt_ir.specs.declared.node.Node.TheVariants as node
@@ -7,7 +8,9 @@ use Rattle.lt_meaning.specs.Runs.{stops}
 use Rattle.lt_code.specs.Pieces.{Stands, one, when, either}
 use Rattle.lt_code.specs.Code.{call, call_by_number, taken_into, stub, next_for}
 use Rattle.lt_tables.specs.Lookups.{function_number}
+use Rattle.lt_emit.specs.Spending.{IsWithin, of_node, call_needs, called}
 use Rattle.lt_emit.specs.Emission.{Here, Finished, site_in}
+use Rattle.lt_emit.specs.Calling.{call_cost}
 use Rattle.lt_emit.proofs.Found.{function_is}
 
 -- a function with a body
@@ -21,6 +24,21 @@ called_inside here it is_taken name t r n k from to target is aimed code =
     λ number. call_by_number (site_in here it).stands here.stubs is_taken name t r n number (it.point from) (it.point to) in
     let Aims : Option ℕ → Type 0 = λ x. slice_get it.nodes (it.point from) ≡ Some (node.Call k x r n (it.point to)) in
     subst Is (is ∙ sym (function_is 0 name here.program.functions)) (subst Aims aimed code)
+
+-- and what its call costs
+pub call_fits :
+    (here : Here) (is_taken : Bool) (name : List ℕ) (r n k to : ℕ) (target : Option ℕ) → Some k ≡ function_number here.program name
+    → target ≡ taken_into is_taken r → IsWithin (of_node (node.Call k target r n to)) (call_cost name r n here)
+call_fits here is_taken name r n k to target is aimed = record {
+  nodes = omega arith;
+  registers = omega (arith, ap (λ t. call_needs t r n) aimed, needed is_taken);
+  loops = omega arith;
+  calls = λ f. omega (arith, ap (λ number. called f (option_to_list number)) (is ∙ sym (function_is 0 name here.program.functions)));
+}
+  where
+    needed : (b : Bool) → call_needs (taken_into b r) r n ≤ max (r + 1) (r + n)
+    needed true = omega arith
+    needed false = omega arith
 
 -- a function without one
 pub called_outside :

@@ -5,7 +5,7 @@ use Rattle.lt_tree.specs.declared.typed.tree.Value.{Value}
 use Rattle.lt_tree.specs.Typing.Types.{CType}
 use Rattle.lt_tree.specs.Typing.TypedTree as e
 use Rattle.lt_tree.specs.Typing.ValueView.{values_in}
-use Rattle.lt_meaning.specs.Expressions.{Fate, fate_of_part, of_last}
+use Rattle.lt_meaning.specs.Expressions.{Fate, of_last}
 use Rattle.lt_model.specs.declared.cell.Content.TheVariants as content
 use Rattle.lt_code.specs.Pieces.{Piece, ◌▸◌}
 use Rattle.lt_code.specs.Code.{Site, value_code, parts_of, up_to, constant}

@@ -1,5 +1,7 @@
 -- A node that is emitted, or that is set at last: what was there stays as it is, and all nodes are sound.
 use Rattle.std.proofs.Common.{◌≡◌, ℕ, zero, suc, ◌+◌, ◌≤◌, ◌<◌, List, [], ◌∷◌, ◌++◌, length, max, Some, slice_get, refl, sym, ap, subst, ◌∙◌, ◌⊎◌, inl, inr, arith, set}
+use Rattle.std.proofs.Common.{Bool, true, false, nat_lt, ◌&&◌}
+use Rattle.std.proofs.lemmas.Bool.{ltb-true, lt-ltb}
 use Rattle.std.proofs.lemmas.Grind.{common_steps}
 use Rattle.std.proofs.lemmas.List.{get_or_append_left}
 use Rattle.std.proofs.Math.Seq.{get_or-append_seam}
@@ -9,8 +11,9 @@ use Rattle.lt_model.specs.declared.cell.Shape.{Shape}
 use Rattle.lt_ir.specs.declared.node.Node.{Node}
 use Rattle.lt_ir.specs.declared.node.Node.TheVariants as node
 use Rattle.lt_emit.specs.declared.builder.Builder.{Builder}
-use Rattle.lt_emit.specs.Turning.{UsesBelow, NamesIn, LeadsBelow, IsTickWithin, IsSoundNode}
-use Rattle.lt_emit.specs.Emission.{Here, here_of, counts_of, counts_at, IsSound, Grows, Emits, IsPlaced}
+use Rattle.lt_ir.specs.Edges.{successors}
+use Rattle.lt_emit.specs.Turning.{are_below, UsesBelow, NamesIn, LeadsBelow, IsTickWithin, IsSoundNode}
+use Rattle.lt_emit.specs.Emission.{Here, here_of, counts_of, counts_at, IsSound, IsEntrance, Grows, Emits, IsPlaced}
 use Rattle.lt_emit.proofs.Sound.{AreMore, sound_more, uses_more, names_more}
 
 -- ---- lists that grow
@@ -114,6 +117,43 @@ emitted a b it used same nodes structs registers leads uses names =
       };
       within = slice_get_within b.nodes.items (length a.nodes.items) it at;
     }
+
+-- ---- a node to which no edge leads
+
+pub still_below : (n more : ℕ) (points : List ℕ) → n ≤ more → are_below n points ≡ true → are_below more points ≡ true
+still_below n more [] le below = refl
+still_below n more (p ∷ points) le below =
+    let both_hold = and_both (nat_lt p n) (are_below n points) below in
+    let there : p < more = omega (arith, le, ltb-true p n both_hold.0) in
+    ap (λ b. b && are_below more points) (lt-ltb p more there) ∙ still_below n more points le both_hold.1
+  where
+    and_both : (a b : Bool) → (a && b) ≡ true → (a ≡ true) × (b ≡ true)
+    and_both true b is = (refl, is)
+    and_both false b is = absurd (cc)
+
+pub emitted_enters :
+    (a b : Builder) (it : Node) → b.nodes.items ≡ a.nodes.items ++ it ∷ [] → LeadsBelow (length a.nodes.items) it → IsSound a
+    → IsEntrance b (length a.nodes.items)
+emitted_enters a b it nodes leads sound = record {
+  last = ap length nodes ∙ longer a.nodes.items it;
+  free = λ k n at. free k n (sym (ap (λ row. slice_get row k) nodes) ∙ at);
+}
+  where
+    old : (k : ℕ) (n : Node) → k < length a.nodes.items → LeadsBelow k n ⊎ IsTickWithin (length a.nodes.items) n
+        → LeadsBelow (length a.nodes.items) n
+    old k n lt (inl below) = still_below k (length a.nodes.items) (successors n) (omega (arith, lt)) below
+    old k n lt (inr tick) =
+        subst (λ n. LeadsBelow (length a.nodes.items) n) (sym tick.1) (ap (λ b. b && true) (lt-ltb tick.0 (length a.nodes.items) tick.2))
+
+    free : (k : ℕ) (n : Node) → slice_get (a.nodes.items ++ it ∷ []) k ≡ Some n → LeadsBelow (length a.nodes.items) n
+    free k n is = elim (below_or_not k (length a.nodes.items)) [
+      | inl lt ↦ old k n lt (sound k n (sym (front_of a.nodes.items it k lt) ∙ is)).leads
+      | inr le ↦
+          let fits = slice_get_within (a.nodes.items ++ it ∷ []) k n is in
+          let end : k ≡ length a.nodes.items = omega (arith, fits, longer a.nodes.items it) in
+          let this : it ≡ n = one_value (sym (last_of a.nodes.items it) ∙ ap (slice_get (a.nodes.items ++ it ∷ [])) (sym end) ∙ is) in
+          subst (λ n. LeadsBelow (length a.nodes.items) n) this leads
+    ]
 
 -- ---- a tick whose successor is known
 

@@ -6,7 +6,10 @@ use Rattle.lt_meaning.specs.Expressions.{Fate}
 use Rattle.lt_meaning.specs.Clashes.{cannot_clash, is_of}
 use Rattle.lt_code.specs.Code.{Site, value_code, test_code, full_value, full_test, tracking_at}
 use Rattle.lt_emit.specs.declared.builder.Builder.{Builder}
-use Rattle.lt_emit.specs.Emission.{Here, Finished, Gives}
+use Rattle.lt_code.specs.Costs.{Cost}
+use Rattle.lt_emit.specs.Spending.{IsWithin}
+use Rattle.lt_emit.specs.Emission.{Here, here_of, Finished, Gives, GivesWithin}
+use Rattle.lt_emit.proofs.Spent.{spends_within}
 
 pub inside :
     {a c : Builder} {result : Result ℕ AllocError} {Q R : ℕ → Here → Finished → Type 0} (tracks : Bool)
@@ -31,6 +34,19 @@ inside {a} {c} {result = Ok from} tracks p make = record {
   };
 }
 inside {result = Err e} tracks p make = record { code = tt }
+
+pub inside_within :
+    {a c : Builder} {result : Result ℕ AllocError} {p q : Here → Cost} {Q R : ℕ → Here → Finished → Type 0} (tracks : Bool)
+    → GivesWithin (record a { tracks = tracks }) c result p Q
+    → ((from : ℕ) (here : Here) (it : Finished) → Q from (record here { tracks = tracks }) it → R from here it)
+    → ((here : Here) → IsWithin (p (record here { tracks = tracks })) (q here))
+    → GivesWithin a (record c { tracks = a.tracks }) result q R
+inside_within {a} {c} {result = Ok from} {p} {q} tracks code make fits = record {
+  gives = inside tracks code.gives make;
+  spends = let it = spends_within code.spends (fits (here_of a)) in
+      record { nodes = it.nodes; registers = it.registers; loops = it.loops; calls = it.calls };
+}
+inside_within {result = Err e} tracks code make fits = record { gives = inside tracks code.gives make; spends = tt }
 
 pub value_is_full :
     (s : Site) (fate : Fate) (v : e.Value) (r from to : ℕ) (calm : Bool) → calm ≡ is_of cannot_clash v

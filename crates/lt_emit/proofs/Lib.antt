@@ -5,6 +5,7 @@ pub mod Footprints
 pub mod Sound
 pub mod Turned
 pub mod Emitted
+pub mod Counted
 pub mod Variables
 pub mod Lookable
 pub mod AccessPieces
@@ -13,6 +14,7 @@ pub mod Changing
 pub mod Accessing
 pub mod Further
 pub mod Backwards
+pub mod Spent
 pub mod UsedRegisters
 pub mod MarkRows
 pub mod Found

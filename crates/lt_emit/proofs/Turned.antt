@@ -139,17 +139,17 @@ all_of : {A : Type 0} (p : A → Bool) (xs : List A) → ((i : ℕ) (x : A) → 
 all_of p [] each = refl
 all_of p (x ∷ xs) each = and (each 0 x refl) (all_of p xs (λ i y at. each (suc i) y at))
 
-one_of : {A : Type 0} (p : A → Bool) (xs : List A) (i : ℕ) (x : A) → list_all p xs ≡ true → slice_get xs i ≡ Some x → p x ≡ true
+pub one_of : {A : Type 0} (p : A → Bool) (xs : List A) (i : ℕ) (x : A) → list_all p xs ≡ true → slice_get xs i ≡ Some x → p x ≡ true
 one_of p [] i x all at = absurd (cc)
 one_of p (y ∷ xs) zero x all at = let same : y ≡ x = cc in ap p (sym same) ∙ first_of (p y) (list_all p xs) all
 one_of p (y ∷ xs) (suc i) x all at = one_of p xs i x (second_of (p y) (list_all p xs) all) at
 
-record CameFrom {A B : Type 0} (f : A → B) (xs : List A) (i : ℕ) (y : B) : Type 0 where
-  x : A
-  at : slice_get xs i ≡ Some x
-  is : y ≡ f x
+pub record CameFrom {A B : Type 0} (f : A → B) (xs : List A) (i : ℕ) (y : B) : Type 0 where
+  pub x : A
+  pub at : slice_get xs i ≡ Some x
+  pub is : y ≡ f x
 
-came_from : {A B : Type 0} (f : A → B) (xs : List A) (i : ℕ) (y : B) → slice_get (map f xs) i ≡ Some y → CameFrom f xs i y
+pub came_from : {A B : Type 0} (f : A → B) (xs : List A) (i : ℕ) (y : B) → slice_get (map f xs) i ≡ Some y → CameFrom f xs i y
 came_from f [] i y at = absurd (cc)
 came_from f (x ∷ xs) zero y at = let same : y ≡ f x = cc in record { x = x; at = refl; is = same }
 came_from f (x ∷ xs) (suc i) y at = let it = came_from f xs i y at in record { x = it.x; at = it.at; is = it.is }
@@ -231,7 +231,7 @@ nodes_in n last before after count long sound turns =
 
 -- ---- turns of loops
 
-successors_turned : (point : ℕ → ℕ) (it : Node) → successors (turned point it) ≡ map point (successors it)
+pub successors_turned : (point : ℕ → ℕ) (it : Node) → successors (turned point it) ≡ map point (successors it)
 successors_turned point (node.Constant to c is_kept next) = refl
 successors_turned point (node.Address to v next) = refl
 successors_turned point (node.Load to from ty tracks next) = refl

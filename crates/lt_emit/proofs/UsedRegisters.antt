@@ -1,5 +1,5 @@
 -- The code of an expression, whose value goes to a register, has that register.
-use Rattle.std.proofs.Common.{ℕ, ◌+◌, ◌<◌, arith}
+use Rattle.std.proofs.Common.{ℕ, ◌<◌, arith}
 use Rattle.lt_tree.specs.declared.expression.LogicalOp.TheVariants as logical
 use Rattle.lt_tree.specs.Typing.TypedTree as e
 use Rattle.lt_meaning.specs.Expressions.{Fate, of_last, wanted}

@@ -9,8 +9,10 @@ use Rattle.lt_ir.specs.declared.node.Access.{Access}
 use Rattle.lt_ir.specs.Ranges.{is_access}
 use Rattle.lt_code.specs.Pieces.{Piece}
 use Rattle.lt_code.specs.Code.{Site, IsShapeOf, IsAccessTo, late}
+use Rattle.lt_code.specs.Costs.{alone}
 use Rattle.lt_emit.specs.declared.builder.Builder.{Builder}
 use Rattle.lt_emit.specs.Emission.{Here, Finished, site_in, counts_at, Adds, TypedStands}
+use Rattle.lt_emit.specs.Spending.{Spends}
 use Rattle.lt_emit.specs.Operators.{assignment}
 
 -- the shape of a struct stands in the function's table
@@ -30,10 +32,12 @@ IsThere b it = is_access (counts_at b) it ≡ true
 pub record PutsShape (before after : Builder) (ty : TypeId) (place : ℕ) : Type 0 where
   pub adds : Adds before after (HasShape ty place)
   pub there : place < length after.structs.items
+  pub spends : Spends (alone 0) before after
 
 pub record PutsAccess (before after : Builder) (ty : TypeId) (it : Access) : Type 0 where
   pub adds : Adds before after (IsAccess ty it)
   pub there : IsThere after it
+  pub spends : Spends (alone 0) before after
 
 -- a piece of code that is about a type, where an access is to it
 abbrev pub AccessStands : (Site → CType → Piece) → TypeId → Access → (to from : ℕ) → Here → Finished → Type 0

@@ -7,12 +7,18 @@ use Rattle.lt_ir.specs.declared.node.Parts.TheVariants.{Sequenced, Settled}
 use Rattle.lt_meaning.specs.Expressions.{Fate, fate_of_part}
 use Rattle.lt_code.specs.Pieces.{Piece, nothing, ◌▸◌}
 use Rattle.lt_code.specs.Code.{Site, codes_of, value_code, test_code, clash, up_to, content_moved, second, branch, parts_of}
+use Rattle.lt_code.specs.Costs.{Cost, ◌⊕◌, nodes_of_parts, behind_parts, calls_in_all}
+use Rattle.lt_emit.specs.Spending.{piece}
 use Rattle.lt_emit.specs.Emission.{Here, Finished, site_in}
+use Rattle.lt_emit.specs.Stands.{value_cost, test_cost}
 use Rattle.lt_emit.specs.Known.{IsKnown, AreKnown}
 use Rattle.lt_emit.specs.declared.fate.Fate.{Fate as HeldFate}
 use Rattle.lt_emit.specs.Fate.{fate_of, part_fate}
 
--- the right operand of `&&` and `||`
+-- the right operand of `&&` and `||`, and what it costs
+abbrev pub second_cost : Value → (r : ℕ) → Here → Cost
+second_cost right r here = piece 3 (r + 2) ⊕ test_cost (λ types. value_of types right) (r + 1) here
+
 abbrev pub SecondStands : Value → (r on off from : ℕ) → Here → Finished → Type 0
 SecondStands right r on off from here it =
     IsKnown here (value_of here.types right)
@@ -20,6 +26,9 @@ SecondStands right r on off from here it =
     (it.point off)
 
 -- a branch of `?:`
+abbrev pub branch_cost : Value → (r : ℕ) → Here → Cost
+branch_cost v r here = piece 1 (r + 1) ⊕ value_cost (λ types. value_of types v) (r + 1) here
+
 abbrev pub BranchStands : HeldFate → Value → (r to from : ℕ) → Here → Finished → Type 0
 BranchStands fate v r to from here it =
     IsKnown here (value_of here.types v)
@@ -39,6 +48,9 @@ abbrev pub behind_part : Site → (is_last : Bool) → (r : ℕ) → Piece
 behind_part s true r = joined_in s r
 behind_part s false r = settled_in s r
 
+abbrev pub part_cost : Value → (r : ℕ) → Here → Cost
+part_cost v r here = piece 2 (r + 2) ⊕ value_cost (λ types. value_of types v) (r + 1) here
+
 abbrev pub PartStands : HeldFate → (is_last : Bool) → Value → (r to from : ℕ) → Here → Finished → Type 0
 PartStands fate is_last v r to from here it =
     IsKnown here (value_of here.types v)
@@ -49,6 +61,14 @@ PartStands fate is_last v r to from here it =
 abbrev pub parts_from : Site → Fate → e.Values → (r : ℕ) → Piece
 parts_from s fate e.no_values r = nothing
 parts_from s fate (e.a_value v vs) r = parts_of s fate (value_code s (fate_of_part fate vs) v) vs r
+
+abbrev pub parts_cost : List Value → (r : ℕ) → Here → Cost
+parts_cost parts r here = record {
+  nodes = nodes_of_parts (values_in here.types parts);
+  registers = behind_parts (values_in here.types parts) + 1 + r;
+  loops = 0;
+  calls = calls_in_all here.program.functions (values_in here.types parts);
+}
 
 abbrev pub PartsStand : HeldFate → List Value → (r to from : ℕ) → Here → Finished → Type 0
 PartsStand fate parts r to from here it =

@@ -20,7 +20,9 @@ use Rattle.lt_tree.specs.Typing.TypeRows.{type_in}
 use Rattle.lt_code.specs.Pieces.{Piece}
 use Rattle.lt_code.specs.Code.{Site as CodeSite}
 use Rattle.lt_code.specs.Bodies.{stands_in, label_of}
-use Rattle.lt_emit.specs.Turning.{turned, UsesBelow, IsSoundNode}
+use Rattle.lt_code.specs.Costs.{Cost, alone, turn}
+use Rattle.lt_emit.specs.Turning.{turned, LeadsBelow, UsesBelow, IsSoundNode}
+use Rattle.lt_emit.specs.Spending.{Spends, of_node, piece}
 use Rattle.lt_emit.specs.declared.builder.Builder.{Builder}
 
 -- ---- what is known of the function whose code is emitted
@@ -132,6 +134,35 @@ pub record Gives (before after : Builder) (result : Result ℕ AllocError) (Piec
     : Type 0 where
   pub code : IfOk result (λ from. Emits before after from (Piece from))
 
+-- The code costs no more than this, too.
+pub record EmitsWithin (before after : Builder) (from : ℕ) (cost : Here → Cost) (Piece : Here → Finished → Type 0) : Type 0
+  where
+    pub emits : Emits before after from Piece
+    pub spends : Spends (cost (here_of before)) before after
+
+pub record GivesWithin (before after : Builder) (result : Result ℕ AllocError) (cost : Here → Cost)
+    (Piece : (from : ℕ) → Here → Finished → Type 0) : Type 0 where
+  pub gives : Gives before after result Piece
+  pub spends : IfOk result (λ from. Spends (cost (here_of before)) before after)
+
+-- what a node costs, and what a piece of so many nodes and registers does
+abbrev pub node_cost : Node → Here → Cost
+node_cost it here = of_node it
+
+abbrev pub costs : (nodes registers : ℕ) → Here → Cost
+costs nodes registers here = piece nodes registers
+
+-- ---- entrances
+
+-- a node is the last, and no edge leads to it
+pub record IsEntrance (b : Builder) (e : ℕ) : Type 0 where
+  pub last : length b.nodes.items ≡ e + 1
+  pub free : (k : ℕ) (n : Node) → slice_get b.nodes.items k ≡ Some n → LeadsBelow e n
+
+-- what is answered is such, where all nodes were sound
+abbrev pub Enters : (before after : Builder) → Result ℕ AllocError → Type 0
+Enters before after result = IsSound before → IfOk result (IsEntrance after)
+
 -- a node stands, turned, and its registers are there
 abbrev pub IsPlaced : Node → (e : ℕ) → Here → Finished → Type 0
 IsPlaced n e here it = (slice_get it.nodes (it.point e) ≡ Some (turned it.point n)) × UsesBelow it.registers n
@@ -162,6 +193,7 @@ pub record IsReserved (before after : Builder) (hole : ℕ) : Type 0 where
   pub grows : Grows before after
   pub longer : length after.nodes.items ≡ length before.nodes.items + 1
   pub tick : slice_get after.nodes.items hole ≡ Some (node.Tick hole)
+  pub spends : Spends turn before after
 
 -- and now it is; nothing else is changed
 pub record IsPatched (before after : Builder) (hole to : ℕ) : Type 0 where
@@ -173,3 +205,5 @@ pub record IsPatched (before after : Builder) (hole to : ℕ) : Type 0 where
   pub structs : after.structs ≡ before.structs
   pub registers : after.registers ≡ before.registers
   pub sound : IsSound before → IsSound after
+  -- where it was as it was reserved, it leads back no more often than it did
+  pub spends : slice_get before.nodes.items hole ≡ Some (node.Tick hole) → Spends (alone 0) before after

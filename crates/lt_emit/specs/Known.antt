@@ -1,5 +1,5 @@
 -- That what an expression names is known: its labels and the functions that it calls.
-use Rattle.std.specs.Prelude.{◌≡◌, ℕ, List, [], map, Bool, false, Option, Some, None, slice_get}
+use Rattle.std.specs.Prelude.{◌≡◌, ℕ, List, [], false, Some, None, slice_get}
 use Rattle.lt_tree.specs.Typing.Types.{CType, is_void}
 use Rattle.lt_tree.specs.Typing.Entities.{Label}
 use Rattle.lt_tree.specs.Typing.Programs.{Program}

@@ -1,8 +1,10 @@
 pub mod Fate
 pub mod Turning
 pub mod Turned
+pub mod Spending
 pub mod Emission
 pub mod Known
+pub mod Entering
 pub mod Stands
 pub mod Accesses
 pub mod Calm

@@ -9,7 +9,9 @@ use Rattle.lt_ir.specs.PureView.{pure_of}
 use Rattle.lt_ir.specs.Ranges.{is_lookable}
 use Rattle.lt_code.specs.Pieces.{◌▸◌}
 use Rattle.lt_code.specs.Code.{IsLabel, fixed_mark, marks}
+use Rattle.lt_code.specs.Costs.{Cost, marks_of}
 use Rattle.lt_emit.specs.declared.builder.Builder.{Builder}
+use Rattle.lt_emit.specs.Spending.{piece}
 use Rattle.lt_emit.specs.Emission.{Here, Finished, site_in, counts_at}
 use Rattle.lt_emit.specs.Known.{IsLabelled, AreMarked}
 
@@ -36,7 +38,10 @@ BothMarksStand when_true when_false b to from here it =
     IsLabelled here when_true [] → IsLabelled here when_false []
     → (fixed_mark (site_in here it) when_true b ▸ fixed_mark (site_in here it) when_false (not b)) (it.point from) (it.point to)
 
--- marks, one behind the other
+-- marks, one behind the other, and what they cost
+abbrev pub marks_cost : List Mark → Here → Cost
+marks_cost all here = piece (marks_of (marks_in here.types all)) 0
+
 abbrev pub MarksStand : List Mark → (to from : ℕ) → Here → Finished → Type 0
 MarksStand all to from here it =
     AreMarked here (marks_in here.types all)

@@ -1,5 +1,5 @@
 -- What names stand for in a function whose code is made.
-use Rattle.std.specs.Prelude.{List, map}
+use Rattle.std.specs.Prelude.{List}
 use Rattle.lt_ir.specs.declared.pure.Pure.{Pure as HeldPure}
 use Rattle.lt_ir.specs.Pure.{Pures, no_pures, a_pure}
 use Rattle.lt_ir.specs.PureView.{pure_of}

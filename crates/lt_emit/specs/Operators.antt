@@ -45,6 +45,11 @@ abbrev pub modified : Change → Site → CType → (r : ℕ) → Piece
 modified (change.Computed op k) s t r = computed s t op k r
 modified (change.Moved op size) s t r = stepped s op size r
 
+-- in so many nodes
+abbrev pub change_nodes : Change → ℕ
+change_nodes (change.Computed op k) = 3
+change_nodes (change.Moved op size) = 1
+
 -- and it is stored
 abbrev pub changed : Change → Site → CType → (r gives : ℕ) → Piece
 changed it s t r gives =

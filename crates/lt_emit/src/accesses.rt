@@ -1,8 +1,8 @@
 // Pieces of code at accesses of scalars and structs.
 
-ghost use Rattle.std.specs.Prelude.{◌≡◌, ◌+◌, ◌<◌, ◌^◌, IfOk};
+ghost use Rattle.std.specs.Prelude.{◌≡◌, ◌+◌, ◌<◌, ◌^◌, IfOk, max};
 ghost use Rattle.lt_code.specs.Code as code;
-ghost use Rattle.lt_emit.specs.Emission.{Gives, HasPoint, TypedStands};
+ghost use Rattle.lt_emit.specs.Emission.{GivesWithin, costs, HasPoint, TypedStands};
 ghost use Rattle.lt_emit.specs.Accesses.{PutsShape, PutsAccess, IsThere, AccessStands, LateStands, AssignmentStands};
 
 use crate::builder::Builder;
@@ -44,7 +44,7 @@ impl<'t> Builder<'t> {
     ) -> Result<u32, AllocError>
         requires point { HasPoint self.old to }
         requires there { IsThere self.old access }
-        ensures { Gives self.old self.new result (AccessStands (λ s t. code.target s t register) ty access to) }
+        ensures { GivesWithin self.old self.new result (costs 1 (register + 1)) (AccessStands (λ s t. code.target s t register) ty access to) }
     {
         self.clash(Parts::Target { register, access }, to)
     }
@@ -59,7 +59,7 @@ impl<'t> Builder<'t> {
     ) -> Result<u32, AllocError>
         requires point { HasPoint self.old to }
         requires there { IsThere self.old access }
-        ensures { Gives self.old self.new result (AccessStands (λ s t. code.reads s t register) ty access to) }
+        ensures { GivesWithin self.old self.new result (costs 1 (register + 1)) (AccessStands (λ s t. code.reads s t register) ty access to) }
     {
         match access {
             Access::Struct(_) => self.clash(Parts::Read { register, access }, to),
@@ -70,7 +70,7 @@ impl<'t> Builder<'t> {
     /// The cells of a struct are read where it is copied or passed on.
     pub fn reads(&mut self, ty: TypeId, register: u32, to: u32) -> Result<u32, AllocError>
         requires { HasPoint self.old to }
-        ensures { Gives self.old self.new result (TypedStands (λ s t. code.reads s t register) ty to) }
+        ensures { GivesWithin self.old self.new result (costs 1 (register + 1)) (TypedStands (λ s t. code.reads s t register) ty to) }
     {
         let access = self.access(ty)?;
         self.reads_by(ty, access, register, to)
@@ -87,7 +87,7 @@ impl<'t> Builder<'t> {
     ) -> Result<u32, AllocError>
         requires point { HasPoint self.old to }
         requires there { IsThere self.old access }
-        ensures { Gives self.old self.new result (AccessStands (λ s t. code.up_to s value (code.assigned s t place value)) ty access to) }
+        ensures { GivesWithin self.old self.new result (costs 1 (max place value + 1)) (AccessStands (λ s t. code.up_to s value (code.assigned s t place value)) ty access to) }
     {
         match access {
             Access::Struct(shape) => self.emit(Node::Copy {
@@ -111,7 +111,7 @@ impl<'t> Builder<'t> {
     /// The outermost conversion of an expression, where it was left.
     pub fn late(&mut self, v: &Value, register: u32, to: u32) -> Result<u32, AllocError>
         requires { HasPoint self.old to }
-        ensures { Gives self.old self.new result (LateStands v.now register to) }
+        ensures { GivesWithin self.old self.new result (costs 1 (register + 1)) (LateStands v.now register to) }
     {
         match v {
             Value::Convert(ty, how, _) => self.conversion(*how, *ty, register, to),
@@ -129,7 +129,7 @@ impl<'t> Builder<'t> {
     ) -> Result<u32, AllocError>
         requires point { HasPoint self.old to }
         requires room { register + 4 < 2 ^ 32 }
-        ensures { Gives self.old self.new result (AssignmentStands ty v.now register to) }
+        ensures { GivesWithin self.old self.new result (costs 5 (register + 2)) (AssignmentStands ty v.now register to) }
     {
         let access = self.access(ty)?;
         let stored = self.assigned(ty, access, register, register + 1, to)?;

@@ -1,9 +1,9 @@
 //! What compound assignments, `++` and `--` make of the value that lies there, C11 6.5.2.4, 6.5.3.1 and 6.5.16.2.
 
-ghost use Rattle.std.specs.Prelude.{◌≡◌, ◌+◌, ◌<◌, ◌≤◌, ◌^◌};
+ghost use Rattle.std.specs.Prelude.{◌≡◌, ◌+◌, ◌<◌, ◌≤◌, ◌^◌, max};
 ghost use Rattle.lt_code.specs.Code as code;
-ghost use Rattle.lt_emit.specs.Emission.{Gives, HasPoint, TypedStands};
-ghost use Rattle.lt_emit.specs.Operators.{modified, changed};
+ghost use Rattle.lt_emit.specs.Emission.{GivesWithin, costs, HasPoint, TypedStands};
+ghost use Rattle.lt_emit.specs.Operators.{change_nodes, modified, changed};
 
 use crate::builder::Builder;
 use lt_ir::{Access, How, Movement, Node, Parts};
@@ -31,7 +31,7 @@ impl<'t> Builder<'t> {
     ) -> Result<u32, AllocError>
         requires point { HasPoint self.old to }
         requires room { register + 4 < 2 ^ 32 }
-        ensures { Gives self.old self.new result (TypedStands (λ s t. modified change s t register) ty to) }
+        ensures { GivesWithin self.old self.new result (costs (change_nodes change) (register + 4)) (TypedStands (λ s t. modified change s t register) ty to) }
     {
         match change {
             Change::Computed(op, operands) => self.computed(op, operands, ty, register, to),
@@ -59,7 +59,7 @@ impl<'t> Builder<'t> {
     ) -> Result<u32, AllocError>
         requires point { HasPoint self.old to }
         requires room { register + 4 < 2 ^ 32 }
-        ensures { Gives self.old self.new result (TypedStands (λ s t. code.computed s t op operands register) ty to) }
+        ensures { GivesWithin self.old self.new result (costs 3 (register + 4)) (TypedStands (λ s t. code.computed s t op operands register) ty to) }
     {
         let back = self.conversion(Conversion::ToInteger, ty, register + 3, to)?;
         let applied = self.emit(Node::Apply {
@@ -82,7 +82,7 @@ impl<'t> Builder<'t> {
     fn stored(&mut self, ty: TypeId, register: u32, gives: u32, to: u32) -> Result<u32, AllocError>
         requires point { HasPoint self.old to }
         requires room { register + 4 < 2 ^ 32 }
-        ensures { Gives self.old self.new result (TypedStands (λ s t. code.up_to s (register + 3) (code.scalar_stored s t register (register + 3) gives)) ty to) }
+        ensures { GivesWithin self.old self.new result (costs 1 (max (max register (register + 3)) gives + 1)) (TypedStands (λ s t. code.up_to s (register + 3) (code.scalar_stored s t register (register + 3) gives)) ty to) }
     {
         self.emit(Node::Store {
             place: register,
@@ -97,7 +97,7 @@ impl<'t> Builder<'t> {
     // A scalar is to be written at the address in a register.
     fn aimed(&mut self, ty: TypeId, register: u32, to: u32) -> Result<u32, AllocError>
         requires { HasPoint self.old to }
-        ensures { Gives self.old self.new result (TypedStands (λ s t. code.scalar_target s t register) ty to) }
+        ensures { GivesWithin self.old self.new result (costs 1 (register + 1)) (TypedStands (λ s t. code.scalar_target s t register) ty to) }
     {
         let access = Access::Scalar(self.site.tables.cell_type(ty));
         self.clash(Parts::Target { register, access }, to)
@@ -114,7 +114,7 @@ impl<'t> Builder<'t> {
     ) -> Result<u32, AllocError>
         requires point { HasPoint self.old to }
         requires room { register + 4 < 2 ^ 32 }
-        ensures { Gives self.old self.new result (TypedStands (λ s t. changed change s t register gives) ty to) }
+        ensures { GivesWithin self.old self.new result (costs (change_nodes change + 2) (max (register + 4) (gives + 1))) (TypedStands (λ s t. changed change s t register gives) ty to) }
     {
         let stored = self.stored(ty, register, gives, to)?;
         let modified = self.modified(change, ty, register, stored)?;

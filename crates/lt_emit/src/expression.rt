@@ -10,8 +10,8 @@ ghost use Rattle.lt_tree.specs.Typing.Types.{CType, Void};
 ghost use Rattle.lt_tree.specs.Typing.TypeRows.{type_in};
 ghost use Rattle.lt_tree.specs.Typing.ValueView.{value_of, place_of};
 ghost use Rattle.lt_tree.specs.Typing.TypedTree as e;
-ghost use Rattle.lt_emit.specs.Emission.{Gives, HasPoint};
-ghost use Rattle.lt_emit.specs.Stands.{ValueStands, TestStands, PlaceStands, HasPlain, HasPlace, HasTest, HasOperands, is_plain};
+ghost use Rattle.lt_emit.specs.Emission.{GivesWithin, HasPoint};
+ghost use Rattle.lt_emit.specs.Stands.{GivesValue, GivesPlain, GivesPlace, GivesTest, HasOperands, operands_cost, is_plain};
 
 use crate::builder::Builder;
 use crate::changes::Change;
@@ -38,7 +38,7 @@ pub fn value(
     to: u32,
 ) -> Result<u32, AllocError>
     requires { HasPoint b.old to }
-    ensures { Gives b.old b.new result (ValueStands fate v.now register to) }
+    ensures { GivesValue b.old b.new result fate (λ types. value_of types v.now) register to }
 {
     match v {
         Value::Constant(_, number) => b.constant(register, Content::Number(*number), to),
@@ -156,7 +156,7 @@ pub fn value(
 #[cycle(expression)]
 fn negation(b: &mut Builder, operand: &Value, register: u32, to: u32) -> Result<u32, AllocError>
     requires { HasPoint b.old to }
-    ensures { Gives b.old b.new result (HasPlain (λ types. e.Not Void (value_of types operand.now)) register to) }
+    ensures { GivesPlain b.old b.new result (λ types. e.Not Void (value_of types operand.now)) register to }
 {
     let on = b.truth(register, false, to)?;
     let off = b.truth(register, true, to)?;
@@ -167,7 +167,7 @@ fn negation(b: &mut Builder, operand: &Value, register: u32, to: u32) -> Result<
 #[cycle(expression)]
 fn load(b: &mut Builder, ty: TypeId, p: &Place, register: u32, to: u32) -> Result<u32, AllocError>
     requires { HasPoint b.old to }
-    ensures { Gives b.old b.new result (HasPlain (λ types. e.Load (type_in types ty) (place_of types p.now)) register to) }
+    ensures { GivesPlain b.old b.new result (λ types. e.Load (type_in types ty) (place_of types p.now)) register to }
 {
     let read = b.load(register, register, ty, to)?;
     place(b, p, register, read)
@@ -184,7 +184,7 @@ pub fn operands(
 ) -> Result<u32, AllocError>
     requires point { HasPoint b.old to }
     requires room { register + 4 < 2 ^ 32 }
-    ensures { Gives b.old b.new result (HasOperands left.now right.now register to) }
+    ensures { GivesWithin b.old b.new result (operands_cost left.now right.now register) (HasOperands left.now right.now register to) }
 {
     let joined = b.clash(
         Parts::Unsequenced {
@@ -209,7 +209,7 @@ fn arithmetic(
     to: u32,
 ) -> Result<u32, AllocError>
     requires { HasPoint b.old to }
-    ensures { Gives b.old b.new result (HasPlain (λ types. e.Arithmetic Void op ty (value_of types left.now) (value_of types right.now)) register to) }
+    ensures { GivesPlain b.old b.new result (λ types. e.Arithmetic Void op ty (value_of types left.now) (value_of types right.now)) register to }
 {
     room(register)?;
     let applied = b.emit(Node::Apply {
@@ -228,7 +228,7 @@ fn arithmetic(
 pub fn test(b: &mut Builder, v: &Value, register: u32, on: u32, off: u32) -> Result<u32, AllocError>
     requires on { HasPoint b.old on }
     requires off { HasPoint b.old off }
-    ensures { Gives b.old b.new result (TestStands v.now register on off) }
+    ensures { GivesTest b.old b.new result (λ types. value_of types v.now) register on off }
 {
     match v {
         Value::Not(_, operand) => negated_test(b, operand, register, on, off),
@@ -258,7 +258,7 @@ fn plain_test(
     requires on { HasPoint b.old on }
     requires off { HasPoint b.old off }
     requires plain { (types : List CType) → is_plain (value_of types v.now) ≡ true }
-    ensures { Gives b.old b.new result (TestStands v.now register on off) }
+    ensures { GivesTest b.old b.new result (λ types. value_of types v.now) register on off }
 {
     let tested = b.branch(register, on, off)?;
     value(b, Fate::Wanted, v, register, tested)
@@ -275,7 +275,7 @@ fn negated_test(
 ) -> Result<u32, AllocError>
     requires on { HasPoint b.old on }
     requires off { HasPoint b.old off }
-    ensures { Gives b.old b.new result (HasTest (λ types. e.Not Void (value_of types operand.now)) register on off) }
+    ensures { GivesTest b.old b.new result (λ types. e.Not Void (value_of types operand.now)) register on off }
 {
     test(b, operand, register, off, on)
 }
@@ -284,7 +284,7 @@ fn negated_test(
 #[cycle(expression)]
 pub fn place(b: &mut Builder, p: &Place, register: u32, to: u32) -> Result<u32, AllocError>
     requires { HasPoint b.old to }
-    ensures { Gives b.old b.new result (PlaceStands p.now register to) }
+    ensures { GivesPlace b.old b.new result (λ types. place_of types p.now) register to }
 {
     match p {
         Place::Object(_, number) => b.address(register, *number, to),
@@ -305,7 +305,7 @@ pub fn place(b: &mut Builder, p: &Place, register: u32, to: u32) -> Result<u32, 
 #[cycle(expression)]
 fn pointed(b: &mut Builder, pointer: &Value, register: u32, to: u32) -> Result<u32, AllocError>
     requires { HasPoint b.old to }
-    ensures { Gives b.old b.new result (HasPlace (λ types. e.Pointed Void (value_of types pointer.now)) register to) }
+    ensures { GivesPlace b.old b.new result (λ types. e.Pointed Void (value_of types pointer.now)) register to }
 {
     let converted = b.converted(register, register, How::ToPointer, to)?;
     value(b, Fate::Wanted, pointer, register, converted)

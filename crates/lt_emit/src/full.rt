@@ -1,8 +1,9 @@
 //! Code of full expressions, C11 6.8.
 
 ghost use Rattle.std.specs.Prelude.{◌≡◌, false};
-ghost use Rattle.lt_emit.specs.Emission.{Gives, HasPoint};
-ghost use Rattle.lt_emit.specs.Stands.{FullValueStands, FullTestStands};
+ghost use Rattle.lt_tree.specs.Typing.ValueView.{value_of};
+ghost use Rattle.lt_emit.specs.Emission.{GivesWithin, HasPoint};
+ghost use Rattle.lt_emit.specs.Stands.{value_cost, test_cost, FullValueStands, FullTestStands};
 
 use crate::builder::Builder;
 use crate::calm::{Grade, is_of};
@@ -20,7 +21,7 @@ pub fn full_value(
     to: u32,
 ) -> Result<u32, AllocError>
     requires { HasPoint b.old to }
-    ensures { Gives b.old b.new result (FullValueStands fate v.now register to) }
+    ensures { GivesWithin b.old b.new result (value_cost (λ types. value_of types v.now) register) (FullValueStands fate v.now register to) }
 {
     let outside = b.tracks;
     b.tracks = !is_of(Grade::CannotClash, v);
@@ -39,7 +40,7 @@ pub fn full_test(
 ) -> Result<u32, AllocError>
     requires on { HasPoint b.old on }
     requires off { HasPoint b.old off }
-    ensures { Gives b.old b.new result (FullTestStands v.now register on off) }
+    ensures { GivesWithin b.old b.new result (test_cost (λ types. value_of types v.now) register) (FullTestStands v.now register on off) }
 {
     let outside = b.tracks;
     b.tracks = !is_of(Grade::CannotClash, v);

@@ -6,7 +6,7 @@ ghost use Rattle.lt_ir.specs.declared.node.Movement.TheVariants.{Member};
 ghost use Rattle.lt_tree.specs.Typing.ValueView.{side_of};
 ghost use Rattle.lt_code.specs.Pieces.{one};
 ghost use Rattle.lt_code.specs.Code as code;
-ghost use Rattle.lt_emit.specs.Emission.{Gives, HasPoint, PieceStands, TypedStands};
+ghost use Rattle.lt_emit.specs.Emission.{GivesWithin, costs, HasPoint, PieceStands, TypedStands};
 ghost use Rattle.lt_emit.specs.Operators.{negated, complemented};
 
 use crate::builder::Builder;
@@ -21,7 +21,7 @@ impl<'t> Builder<'t> {
     pub fn negated(&mut self, ty: TypeId, register: u32, to: u32) -> Result<u32, AllocError>
         requires point { HasPoint self.old to }
         requires room { register + 4 < 2 ^ 32 }
-        ensures { Gives self.old self.new result (TypedStands (λ s t. negated s t register) ty to) }
+        ensures { GivesWithin self.old self.new result (costs 2 (register + 2)) (TypedStands (λ s t. negated s t register) ty to) }
     {
         let applied = self.emit(Node::Apply {
             to: register,
@@ -38,7 +38,7 @@ impl<'t> Builder<'t> {
     pub fn complemented(&mut self, ty: TypeId, register: u32, to: u32) -> Result<u32, AllocError>
         requires point { HasPoint self.old to }
         requires room { register + 4 < 2 ^ 32 }
-        ensures { Gives self.old self.new result (TypedStands (λ s t. complemented s t register) ty to) }
+        ensures { GivesWithin self.old self.new result (costs 2 (register + 2)) (TypedStands (λ s t. complemented s t register) ty to) }
     {
         let ones = all_ones(self.site.tables, ty);
         let applied = self.emit(Node::Apply {
@@ -63,7 +63,7 @@ impl<'t> Builder<'t> {
     ) -> Result<u32, AllocError>
         requires point { HasPoint self.old to }
         requires room { register + 4 < 2 ^ 32 }
-        ensures { Gives self.old self.new result (PieceStands (λ s. code.up_to s (register + 1) (code.moved_by s register op size (side_of side))) to) }
+        ensures { GivesWithin self.old self.new result (costs 1 (register + 2)) (PieceStands (λ s. code.up_to s (register + 1) (code.moved_by s register op size (side_of side))) to) }
     {
         let (pointer, count) = match side {
             Side::OnLeft => (register, register + 1),
@@ -80,7 +80,7 @@ impl<'t> Builder<'t> {
     /// An address moves to a member.
     pub fn member(&mut self, register: u32, offset: u64, to: u32) -> Result<u32, AllocError>
         requires { HasPoint self.old to }
-        ensures { Gives self.old self.new result (PieceStands (λ s. code.up_to s register (one s.stands (node.Move register register (Member offset)))) to) }
+        ensures { GivesWithin self.old self.new result (costs 1 (register + 1)) (PieceStands (λ s. code.up_to s register (one s.stands (node.Move register register (Member offset)))) to) }
     {
         self.emit(Node::Move {
             to: register,

@@ -1,6 +1,6 @@
 // Short pieces of code.
 
-ghost use Rattle.std.specs.Prelude.{◌≡◌, ◌+◌, ◌<◌, ◌^◌, IfOk, length};
+ghost use Rattle.std.specs.Prelude.{◌≡◌, ◌+◌, ◌<◌, ◌^◌, IfOk, length, max};
 ghost use Rattle.lt_tree.specs.Typing.TypeRows.{type_in};
 ghost use Rattle.lt_tree.specs.Typing.Types.{is_struct};
 ghost use Rattle.lt_tree.specs.Typing.ValueView.{conversion_of, value_of};
@@ -9,7 +9,10 @@ ghost use Rattle.lt_meaning.specs.Expressions.{cell_type};
 ghost use Rattle.lt_code.specs.Pieces.{one};
 ghost use Rattle.lt_code.specs.Code as code;
 ghost use Rattle.lt_emit.specs.Turning.{parts_name};
-ghost use Rattle.lt_emit.specs.Emission.{counts_at, Gives, HasPoint, PieceStands, TypedStands, Branches};
+ghost use Rattle.lt_emit.specs.Spending.{parts_need};
+ghost use Rattle.lt_emit.specs.Emission.{counts_at, GivesWithin, costs, HasPoint, PieceStands, TypedStands, Branches};
+ghost use Rattle.lt_emit.specs.Known.{IsOwn};
+ghost use Rattle.lt_emit.specs.Entering.{EntersIf};
 ghost use Rattle.lt_emit.specs.Stands.{CreateStands};
 
 use crate::builder::Builder;
@@ -47,7 +50,7 @@ impl<'t> Builder<'t> {
     pub fn clash(&mut self, parts: Parts, to: u32) -> Result<u32, AllocError>
         requires point { HasPoint self.old to }
         requires names { parts_name (counts_at self.old) parts }
-        ensures { Gives self.old self.new result (PieceStands (λ s. code.clash s parts) to) }
+        ensures { GivesWithin self.old self.new result (costs 1 (parts_need parts)) (PieceStands (λ s. code.clash s parts) to) }
     {
         if self.tracks {
             self.emit(Node::Clash { parts, next: to })
@@ -65,7 +68,7 @@ impl<'t> Builder<'t> {
         to: u32,
     ) -> Result<u32, AllocError>
         requires { HasPoint self.old to }
-        ensures { Gives self.old self.new result (TypedStands (λ s t. code.conversion s (conversion_of how) t register) ty to) }
+        ensures { GivesWithin self.old self.new result (costs 1 (register + 1)) (TypedStands (λ s t. code.conversion s (conversion_of how) t register) ty to) }
     {
         let how = match how {
             Conversion::ToInteger => How::ToInteger(self.site.tables.scalar(ty)),
@@ -85,7 +88,7 @@ impl<'t> Builder<'t> {
     /// Another content, with the footprint that was there.
     pub fn replaced(&mut self, register: u32, content: Content, to: u32) -> Result<u32, AllocError>
         requires { HasPoint self.old to }
-        ensures { Gives self.old self.new result (PieceStands (λ s. code.up_to s register (code.replaced s register content)) to) }
+        ensures { GivesWithin self.old self.new result (costs 1 (register + 1)) (PieceStands (λ s. code.up_to s register (code.replaced s register content)) to) }
     {
         self.emit(Node::Constant {
             to: register,
@@ -98,7 +101,7 @@ impl<'t> Builder<'t> {
     /// A content, with no footprint.
     pub fn constant(&mut self, register: u32, content: Content, to: u32) -> Result<u32, AllocError>
         requires { HasPoint self.old to }
-        ensures { Gives self.old self.new result (PieceStands (λ s. code.up_to s register (code.constant s register content)) to) }
+        ensures { GivesWithin self.old self.new result (costs 1 (register + 1)) (PieceStands (λ s. code.up_to s register (code.constant s register content)) to) }
     {
         self.emit(Node::Constant {
             to: register,
@@ -117,7 +120,7 @@ impl<'t> Builder<'t> {
         to: u32,
     ) -> Result<u32, AllocError>
         requires { HasPoint self.old to }
-        ensures { Gives self.old self.new result (PieceStands (λ s. code.up_to s register (one s.stands (node.Convert register from how))) to) }
+        ensures { GivesWithin self.old self.new result (costs 1 (max register from + 1)) (PieceStands (λ s. code.up_to s register (one s.stands (node.Convert register from how))) to) }
     {
         self.emit(Node::Convert {
             to: register,
@@ -130,7 +133,7 @@ impl<'t> Builder<'t> {
     /// The address of an object.
     pub fn address(&mut self, register: u32, number: u32, to: u32) -> Result<u32, AllocError>
         requires { HasPoint self.old to }
-        ensures { Gives self.old self.new result (PieceStands (λ s. code.up_to s register (one s.stands (node.Address register (s.names.variable number)))) to) }
+        ensures { GivesWithin self.old self.new result (costs 1 (register + 1)) (PieceStands (λ s. code.up_to s register (one s.stands (node.Address register (s.names.variable number)))) to) }
     {
         self.emit(Node::Address {
             to: register,
@@ -142,7 +145,7 @@ impl<'t> Builder<'t> {
     /// The scalar that lies at the address in a register goes to another.
     pub fn load(&mut self, register: u32, from: u32, ty: TypeId, to: u32) -> Result<u32, AllocError>
         requires { HasPoint self.old to }
-        ensures { Gives self.old self.new result (TypedStands (λ s t. code.up_to s register (one s.stands (node.Load register from (cell_type (code.program_in s) t) s.tracks))) ty to) }
+        ensures { GivesWithin self.old self.new result (costs 1 (max register from + 1)) (TypedStands (λ s t. code.up_to s register (one s.stands (node.Load register from (cell_type (code.program_in s) t) s.tracks))) ty to) }
     {
         self.emit(Node::Load {
             to: register,
@@ -156,7 +159,7 @@ impl<'t> Builder<'t> {
     /// 1 or 0, with the footprint that was there.
     pub fn truth(&mut self, register: u32, holds: bool, to: u32) -> Result<u32, AllocError>
         requires { HasPoint self.old to }
-        ensures { Gives self.old self.new result (PieceStands (λ s. code.up_to s register (code.truth s register holds)) to) }
+        ensures { GivesWithin self.old self.new result (costs 1 (register + 1)) (PieceStands (λ s. code.up_to s register (code.truth s register holds)) to) }
     {
         let number = if holds { 1 } else { 0 };
         self.replaced(register, Content::Number(number), to)
@@ -166,7 +169,7 @@ impl<'t> Builder<'t> {
     pub fn branch(&mut self, register: u32, on: u32, off: u32) -> Result<u32, AllocError>
         requires on { HasPoint self.old on }
         requires off { HasPoint self.old off }
-        ensures { Gives self.old self.new result (Branches register on off) }
+        ensures { GivesWithin self.old self.new result (costs 1 (register + 1)) (Branches register on off) }
     {
         self.emit(Node::Branch {
             test: register,
@@ -178,7 +181,7 @@ impl<'t> Builder<'t> {
     /// The lifetime of an object ends.
     pub fn end(&mut self, number: u32, to: u32) -> Result<u32, AllocError>
         requires { HasPoint self.old to }
-        ensures { Gives self.old self.new result (PieceStands (λ s. one s.stands (node.End (s.names.variable number))) to) }
+        ensures { GivesWithin self.old self.new result (costs 1 0) (PieceStands (λ s. one s.stands (node.End (s.names.variable number))) to) }
     {
         self.emit(Node::End {
             variable: self.site.variable(number),
@@ -189,7 +192,7 @@ impl<'t> Builder<'t> {
     /// An object has its only value from here on.
     pub fn seal(&mut self, number: u32, to: u32) -> Result<u32, AllocError>
         requires { HasPoint self.old to }
-        ensures { Gives self.old self.new result (PieceStands (λ s. one s.stands (node.Seal (s.names.variable number))) to) }
+        ensures { GivesWithin self.old self.new result (costs 1 0) (PieceStands (λ s. one s.stands (node.Seal (s.names.variable number))) to) }
     {
         self.emit(Node::Seal {
             variable: self.site.variable(number),
@@ -200,7 +203,8 @@ impl<'t> Builder<'t> {
     /// The lifetime of an object begins that the function's statements begin.
     pub fn create(&mut self, number: u32, is_zeroed: bool, to: u32) -> Result<u32, AllocError>
         requires { HasPoint self.old to }
-        ensures { Gives self.old self.new result (CreateStands number is_zeroed to) }
+        ensures code { GivesWithin self.old self.new result (costs 1 0) (CreateStands number is_zeroed to) }
+        ensures enters { EntersIf (λ here. IsOwn here number) self.old self.new result }
     {
         match self.site.variable(number) {
             Variable::Local(local) => self.emit(Node::Create {

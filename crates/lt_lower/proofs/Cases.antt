@@ -1,23 +1,25 @@
 -- The statements of a `switch`, and where their labels lead.
 use Rattle.std.proofs.Common.{◌≡◌, ℕ, ◌-◌, ◌<◌, ◌≤◌, List, [], ◌∷◌, ◌++◌, map, reverse, length, drop, get_or, true, ◌&&◌, Some, None, Option, slice_get, refl, sym, subst, ap, ◌∙◌, arith}
 use Rattle.std.specs.Prelude.{IfSome, unwrap_or}
-use Rattle.std.proofs.Common.{Bool, false, nat_lt}
-use Rattle.std.proofs.lemmas.Bool.{lt-ltb, ltb-true}
+use Rattle.std.proofs.lemmas.Bool.{lt-ltb}
 use Rattle.std.proofs.lemmas.List.{drop_all, reverse-append}
 use Rattle.lt_tree.specs.declared.typed.statement.Case.{Case}
 use Rattle.lt_tree.specs.declared.typed.statement.Label.{Label}
 use Rattle.lt_tree.specs.declared.typed.statement.Label.TheVariants as label
-use Rattle.lt_tree.specs.Typing.StatementView.{label_of}
+use Rattle.lt_tree.specs.Typing.StatementView.{label_of, statement_of}
 use Rattle.lt_ir.specs.declared.node.Arm.{Arm}
 use Rattle.lt_ir.specs.declared.node.Node.TheVariants as node
 use Rattle.lt_code.specs.Bodies.{Entry, arms_of, default_of, labels_at}
 use Rattle.lt_emit.specs.declared.builder.Builder.{Builder}
 use Rattle.lt_emit.specs.Turning.{turned_arm, are_below}
-use Rattle.lt_emit.specs.Emission.{Here, Finished, Grows, Adds, HasPoint}
+use Rattle.lt_emit.specs.Spending.{Spends}
+use Rattle.lt_emit.specs.Emission.{Here, here_of, Finished, Grows, Adds, HasPoint}
 use Rattle.lt_emit.proofs.Adding.{both}
+use Rattle.lt_emit.proofs.Emitted.{still_below}
+use Rattle.lt_emit.proofs.Spent.{spends_more, spends_within, fitting}
 use Rattle.lt_lower.specs.declared.flow.Exits.{Exits as HeldExits}
 use Rattle.lt_lower.specs.declared.flow.Entered.{Entered}
-use Rattle.lt_lower.specs.Stands.{HasCases, HasArms, arms_at, default_at, FlowStands, PutsLabels, PutsCase, ChoiceStands}
+use Rattle.lt_lower.specs.Stands.{statement_cost, cases_cost, HasCases, HasArms, arms_at, default_at, FlowStands, PutsLabels, PutsCase, ChoiceStands}
 use Rattle.lt_lower.proofs.Flows.{nothing_added, row_from, point_after}
 
 -- ---- labels
@@ -94,17 +96,6 @@ arms_below n (label.Case z ∷ labels) m arms there below =
     ap (λ b. b && are_below n (map (λ arm. arm.next) (arms_at labels m arms))) (lt-ltb m n there) ∙ arms_below n labels m arms there below
 arms_below n (label.Default ∷ labels) m arms there below = arms_below n labels m arms there below
 
-pub still_below : (n more : ℕ) (points : List ℕ) → n ≤ more → are_below n points ≡ true → are_below more points ≡ true
-still_below n more [] le below = refl
-still_below n more (p ∷ points) le below =
-    let both_hold = and_both (nat_lt p n) (are_below n points) below in
-    let there : p < more = omega (arith, le, ltb-true p n both_hold.0) in
-    ap (λ b. b && are_below more points) (lt-ltb p more there) ∙ still_below n more points le both_hold.1
-  where
-    and_both : (a b : Bool) → (a && b) ≡ true → (a ≡ true) × (b ≡ true)
-    and_both true b is = (refl, is)
-    and_both false b is = absurd (cc)
-
 pub default_there :
     (c : Builder) (labels : List Label) (m : ℕ) (default : Option ℕ) → HasPoint c m → IfSome default (HasPoint c)
     → IfSome (default_at labels m default) (HasPoint c)
@@ -154,6 +145,24 @@ cases_put {a} {b} {c} its x k it entered all some fits is before puts =
     let Default : Option ℕ → Type 0 = λ to. Adds a c (HasCases (drop (k - 1) its) x all.from (reverse all.arms.items) to) in
     subst Default (sym puts.default) (subst Arms (sym puts.arms)
     (cases_more its x k it entered.from arms entered.default all.from some fits is before puts.code.adds))
+
+-- and what they cost
+pub cases_spend :
+    {a b c : Builder} (its : List Case) (x : HeldExits) (k : ℕ) (it : Case) (entered all : Entered)
+    → 0 < k → k ≤ length its → it ≡ get_or its (k - 1) it → Grows a b → Spends (cases_cost (drop k its) (here_of a)) a b
+    → PutsCase b c entered all it x → Spends (cases_cost (drop (k - 1) its) (here_of a)) a c
+cases_spend {a} {b} {c} its x k it entered all some fits is grows before puts =
+    let Costs : List Case → Type 0 = λ row. Spends (cases_cost row (here_of a)) a c in
+    subst Costs (sym (row_from its k it some fits is))
+    (spends_within (spends_more (cases_cost (drop k its)) (statement_cost (λ types. statement_of types it.statement)) grows before puts.spends)
+    (grind fitting))
+
+pub all_cases_spend :
+    {a b : Builder} (its : List Case) (k : ℕ) → k ≤ 0 → Spends (cases_cost (drop k its) (here_of a)) a b → Spends (cases_cost its (here_of a)) a b
+all_cases_spend {a} {b} its k first spends =
+    let none : k ≡ 0 = omega arith in
+    let From : ℕ → Type 0 = λ n. Spends (cases_cost (drop n its) (here_of a)) a b in
+    subst From none spends
 
 pub arms_put :
     {b c : Builder} (x : HeldExits) (it : Case) (entered all : Entered) → HasArms b (reverse entered.arms.items)

@@ -3,7 +3,7 @@ use Rattle.std.proofs.Common.{◌≡◌, ℕ, zero, suc, ◌-◌, ◌<◌, ◌�
 use Rattle.std.specs.Borrow.{Bor}
 use Rattle.std.specs.declared.alloc.AllocError.{AllocError}
 use Rattle.std.proofs.lemmas.Bool.{lt-ltb}
-use Rattle.std.proofs.lemmas.List.{length-set, length-map}
+use Rattle.std.proofs.lemmas.List.{length-map}
 use Rattle.lt_model.specs.declared.cell.Shape.{Shape}
 use Rattle.lt_model.specs.declared.input.BlockIn.{BlockIn}
 use Rattle.lt_ir.specs.declared.code.Code.{Code}
@@ -20,17 +20,18 @@ use Rattle.lt_tables.specs.declared.site.Site.{Site}
 use Rattle.lt_emit.specs.declared.builder.Builder.{Builder}
 use Rattle.lt_emit.specs.Turning.{IsSoundNode}
 use Rattle.lt_emit.specs.Turned.{point_of, AreTurned}
-use Rattle.lt_emit.specs.Emission.{Here, here_of, local_shapes, counts_at, IsSound, IsBegun, Finished, site_in, Kept, Emits}
+use Rattle.lt_emit.specs.Emission.{Here, here_of, local_shapes, counts_at, IsSound, IsEntrance, IsBegun, Finished, site_in, Kept, Emits}
 use Rattle.lt_emit.proofs.Sound.{AreMore, sound_more}
 use Rattle.lt_emit.proofs.Emitted.{set_other, set_same}
 use Rattle.lt_emit.proofs.Turned.{are_turned, AreSound, nodes_in, turns_by_ticks, has_tables}
-use Rattle.lt_lower.specs.Functions.{HasBody, BodyStands, gives_back, IsFinished, here_at, IsSoundCode, CodeStands}
+use Rattle.lt_code.specs.Costs.{of_function}
+use Rattle.lt_sizes.specs.Laws.{CostsAtMost}
+use Rattle.lt_emit.specs.Spending.{Spends}
+use Rattle.lt_lower.specs.Known.{AreKnownItems}
+use Rattle.lt_lower.proofs.Frugal.{back_long, is_frugal}
+use Rattle.lt_lower.specs.Functions.{body_cost, HasBody, BodyStands, gives_back, IsFinished, here_at, IsSoundCode, CodeStands}
 
 -- ---- the return of the value in register 0
-
-back_long : (r : ℕ) (xs : List Node) → length (gives_back r xs) ≡ length xs
-back_long zero xs = refl
-back_long (suc r) xs = length-set xs 0 (node.Return (given.Held 0))
 
 back_other : (r : ℕ) (xs : List Node) (e : ℕ) → 1 ≤ e → slice_get (gives_back r xs) e ≡ slice_get xs e
 back_other zero xs e some = refl
@@ -74,7 +75,8 @@ and : {a b : Bool} → a ≡ true → b ≡ true → (a && b) ≡ true
 and p q = cc
 
 module _ (of : Bor Site) (a b : Builder) (start : ℕ) (it : Code) (begun : IsBegun of a) (body : Emits a b start (BodyStands start))
-    (done : IsFinished b start it) where
+    (spends : Spends (body_cost (here_of a)) a b)
+    (enters : AreKnownItems (here_of a) (here_of a).function.body → IsSound a → IsEntrance b start) (done : IsFinished b start it) where
   same_here : here_of b ≡ here_at of.now
   same_here = body.adds.grows.same ∙ here_begun of a begun
 
@@ -180,11 +182,22 @@ module _ (of : Bor Site) (a b : Builder) (start : ℕ) (it : Code) (begun : IsBe
   }
 
   pub code_stands : CodeStands (here_at of.now) it
-  code_stands = record { code = λ known. has_code (stands known); sound = is_sound }
+  code_stands = record {
+    code = λ known. has_code (stands known);
+    sound = is_sound;
+    frugal = λ known.
+        let here : here_of a ≡ here_at of.now = here_begun of a begun in
+        let Known : Here → Type 0 = λ here. AreKnownItems here here.function.body in
+        let Costs : Here → Type 0 = λ here. CostsAtMost (of_function here.program.functions here.function) it in
+        let sound = begun_sound of a begun in
+        subst Costs here (is_frugal of a b start it begun body.adds.grows spends (body.adds.grows.sound sound)
+        (enters (subst Known (sym here) known) sound) done);
+  }
 
 -- the same, where there was memory
 pub code_if :
     (of : Bor Site) (a b : Builder) (start : ℕ) (result : Result Code AllocError) → IsBegun of a → Emits a b start (BodyStands start)
+    → Spends (body_cost (here_of a)) a b → (AreKnownItems (here_of a) (here_of a).function.body → IsSound a → IsEntrance b start)
     → IfOk result (IsFinished b start) → IfOk result (CodeStands (here_at of.now))
-code_if of a b start (Ok it) begun body done = code_stands of a b start it begun body done
-code_if of a b start (Err e) begun body done = tt
+code_if of a b start (Ok it) begun body spends enters done = code_stands of a b start it begun body spends enters done
+code_if of a b start (Err e) begun body spends enters done = tt

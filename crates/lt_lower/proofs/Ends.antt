@@ -1,19 +1,29 @@
 -- Objects that begin, and end at each exit of what follows.
-use Rattle.std.proofs.Common.{◌≡◌, ℕ, ◌+◌, ◌-◌, ◌<◌, ◌≤◌, List, [], ◌∷◌, map, length, drop, get_or, Option, refl, sym, subst, arith}
+use Rattle.std.proofs.Common.{◌≡◌, ℕ, suc, ◌+◌, ◌*◌, ◌-◌, ◌<◌, ◌≤◌, List, [], ◌∷◌, map, length, drop, get_or, Option, Ok, refl, sym, subst, arith}
+use Rattle.std.specs.Borrow.{Bor}
 use Rattle.std.proofs.lemmas.List.{drop_all}
+use Rattle.lt_tree.specs.declared.typed.tree.Value.{Value}
 use Rattle.lt_tree.specs.declared.typed.statement.Local.{Local}
-use Rattle.lt_tree.specs.Typing.StatementView.{local_of}
+use Rattle.lt_tree.specs.declared.typed.statement.ForStart.{ForStart}
+use Rattle.lt_tree.specs.declared.typed.statement.ForStart.TheVariants as for_start
+use Rattle.lt_tree.specs.Typing.Types.{CType}
+use Rattle.lt_tree.specs.Typing.Entities.{Function}
+use Rattle.lt_tree.specs.Typing.StatementView.{local_of, for_start_of}
+use Rattle.lt_meaning.specs.Statements.{parts_in}
+use Rattle.lt_code.specs.Costs.{Cost, alone, tick, turn, ◌⊕◌, of_parts, of_locals, of_start, of_statement, optional_test, optional_value}
 use Rattle.lt_tree.specs.Typing.TypedTree as e
 use Rattle.lt_code.specs.Code.{Site}
 use Rattle.lt_code.specs.Bodies as code
 use Rattle.lt_code.specs.Bodies.{Exits, Flows, ◌▹◌}
 use Rattle.lt_emit.specs.declared.builder.Builder.{Builder}
-use Rattle.lt_emit.specs.Emission.{Here, Finished, site_in, Grows, Adds, Emits, HasPoint}
+use Rattle.lt_emit.specs.Spending.{IsWithin, piece}
+use Rattle.lt_emit.specs.Emission.{Here, here_of, Finished, site_in, Grows, Adds, Emits, EmitsWithin, GivesWithin, HasPoint}
 use Rattle.lt_emit.proofs.Adding.{both, grows_both}
+use Rattle.lt_emit.proofs.Spent.{spends_none, one_more_within, all_within, fitting}
 use Rattle.lt_lower.specs.declared.flow.Exits.{Exits as HeldExits}
-use Rattle.lt_lower.specs.Stands.{HasExits, exits_in, openings, all_end, start_opens, start_ends, OpeningStands, OpeningsStand, EndsStand, AllEnd, IsKnownStart}
+use Rattle.lt_lower.specs.Stands.{HasExits, exits_in, openings, all_end, start_opens, start_ends, maybe_at, all_opened, start_opened, declared_in, opening_cost, openings_cost, OpeningStands, OpeningsStand, EndsStand, AllEnd, IsKnownStart}
 use Rattle.lt_lower.specs.Known.{IsKnownStatement, IsKnownIfThere}
-use Rattle.lt_lower.proofs.Flows.{point_after, nothing_added, adds_too, row_from, row_at}
+use Rattle.lt_lower.proofs.Flows.{point_after, nothing_added, adds_too, row_at}
 
 -- the ends at five exits
 pub five_ends :
@@ -55,31 +65,31 @@ locals_stand s (first ∷ its) rest inner outer from m opened ended stands =
 -- none are left
 pub openings_none :
     {a : Builder} (its : List Local) (k to : ℕ) → length its ≤ k → HasPoint a to
-    → Emits a a to (OpeningsStand (drop k its) to to)
+    → EmitsWithin a a to (openings_cost (drop k its)) (OpeningsStand (drop k its) to to)
 openings_none {a} its k to all has =
-    let Are : List Local → Type 0 = λ row. Emits a a to (OpeningsStand row to to) in
-    subst Are (sym (drop_all k its all)) (record { adds = nothing_added (λ it known. refl); within = has })
+    let Are : List Local → Type 0 = λ row. EmitsWithin a a to (openings_cost row) (OpeningsStand row to to) in
+    subst Are (sym (drop_all k its all)) (record {
+      emits = record { adds = nothing_added (λ it known. refl); within = has };
+      spends = spends_none (openings_cost [] (here_of a));
+    })
 
 -- one more is in front of those that begin
 pub openings_more :
     {a b c : Builder} (its : List Local) (k to from : ℕ) (x : Local) (m : ℕ) → 0 < k → k ≤ length its → x ≡ get_or its (k - 1) x
-    → Emits a b from (OpeningsStand (drop k its) to from) → Emits b c m (OpeningStands x from m)
-    → Emits a c m (OpeningsStand (drop (k - 1) its) to m)
+    → EmitsWithin a b from (openings_cost (drop k its)) (OpeningsStand (drop k its) to from)
+    → GivesWithin b c (Ok m) (opening_cost x) (OpeningStands x from)
+    → EmitsWithin a c m (openings_cost (drop (k - 1) its)) (OpeningsStand (drop (k - 1) its) to m)
 openings_more {a} {b} {c} its k to from x m some fits is before one =
-    let Are : List Local → Type 0 = λ row. Emits a c m (OpeningsStand row to m) in
-    subst Are (sym (row_from its k x some fits is)) (record {
-      adds = both before.adds one.adds (λ here it p q known. (_, q known.0, p known.1));
-      within = one.within;
-    })
+    one_more_within (λ row j. openings_cost row) (λ row j at. OpeningsStand row to at) its k from x m some fits is before one
+    (λ here it p q known. (_, q known.0, p known.1)) (λ here. grind fitting)
 
 -- all begin
 pub openings_all :
     {a b : Builder} (its : List Local) (k to from : ℕ) → k ≤ 0
-    → Emits a b from (OpeningsStand (drop k its) to from) → Emits a b from (OpeningsStand its to from)
-openings_all {a} {b} its k to from first code =
-    let none : k ≡ 0 = omega arith in
-    let From : ℕ → Type 0 = λ n. Emits a b from (OpeningsStand (drop n its) to from) in
-    subst From none code
+    → EmitsWithin a b from (openings_cost (drop k its)) (OpeningsStand (drop k its) to from)
+    → EmitsWithin a b from (openings_cost its) (OpeningsStand its to from)
+openings_all its k to from first code =
+    all_within (λ row j. openings_cost row) (λ row j at. OpeningsStand row to at) its k from first code
 
 -- one object fewer is left that has to end
 pub all_end_more :
@@ -128,3 +138,57 @@ for_stands s (e.First v) test step body inner outer from first head t opened end
     (first, t, (head, opened, subst In ended stands))
 for_stands s (e.Locals its) test step body inner outer from first head t opened ended stands =
     (first, t, locals_stand s its (code.loop s test step (code.flows s body)) inner outer first head opened ended stands)
+
+-- ---- what objects cost, with their ends
+
+-- an object before others
+pub beside_objects :
+    (parts all most : Cost) (n : ℕ) → IsWithin (alone (5 * n) ⊕ all) most
+    → IsWithin (alone (5 * suc n) ⊕ ((alone 2 ⊕ parts) ⊕ all)) ((alone 7 ⊕ parts) ⊕ most)
+beside_objects parts all most n rest = record {
+  nodes = omega (arith, rest.nodes);
+  registers = omega (arith, rest.registers);
+  loops = omega (arith, rest.loops);
+  calls = λ f. grind (fitting, rest.calls f);
+}
+
+objects_fit :
+    (functions : List Function) (types : List CType) (its : List Local)
+    → IsWithin (alone (5 * length its) ⊕ all_opened functions (map (local_of types) its)) (of_locals functions (map (local_of types) its))
+objects_fit functions types [] = grind fitting
+objects_fit functions types (it ∷ its) =
+    beside_objects (of_parts functions (parts_in (local_of types it).start)) _ _ (length its) (objects_fit functions types its)
+
+start_fits :
+    (functions : List Function) (types : List CType) (start : ForStart)
+    → IsWithin (alone (5 * declared_in start) ⊕ start_opened functions (for_start_of types start)) (of_start functions (for_start_of types start))
+start_fits functions types for_start.Nothing = grind fitting
+start_fits functions types (for_start.First v) = grind fitting
+start_fits functions types (for_start.Locals its) = objects_fit functions types its.items
+
+for_sum :
+    (ends opened start test step body : Cost) → IsWithin (ends ⊕ opened) start
+    → IsWithin (((ends ⊕ (turn ⊕ test ⊕ step ⊕ body)) ⊕ opened) ⊕ piece 1 0) (tick ⊕ turn ⊕ start ⊕ test ⊕ step ⊕ body)
+for_sum ends opened start test step body fits = record {
+  nodes = omega (arith, fits.nodes);
+  registers = omega (arith, fits.registers);
+  loops = omega (arith, fits.loops);
+  calls = λ f. grind (fitting, fits.calls f);
+}
+
+-- a `for`, whose test and step may be left out
+pub for_fits :
+    (functions : List Function) (types : List CType) (start : ForStart) (test step : Option (Bor Value)) (t s : Option e.Value)
+    (body : e.Statement) → maybe_at types test ≡ t → maybe_at types step ≡ s
+    → IsWithin (((alone (5 * declared_in start) ⊕ (turn ⊕ optional_test functions (maybe_at types test) ⊕ optional_value functions (maybe_at types step)
+    ⊕ of_statement functions body)) ⊕ start_opened functions (for_start_of types start)) ⊕ piece 1 0)
+    (of_statement functions (e.For (for_start_of types start) t s body))
+for_fits functions types start test step t s body is_test is_step =
+    let before = for_sum (alone (5 * declared_in start)) (start_opened functions (for_start_of types start)) (of_start functions (for_start_of types start))
+    (optional_test functions (maybe_at types test)) (optional_value functions (maybe_at types step)) (of_statement functions body)
+    (start_fits functions types start) in
+    let Fits : Option e.Value → Option e.Value → Type 0 = λ u v.
+    IsWithin (((alone (5 * declared_in start) ⊕ (turn ⊕ optional_test functions (maybe_at types test) ⊕ optional_value functions (maybe_at types step)
+    ⊕ of_statement functions body)) ⊕ start_opened functions (for_start_of types start)) ⊕ piece 1 0)
+    (of_statement functions (e.For (for_start_of types start) u v body)) in
+    subst (λ u. Fits u s) is_test (subst (λ v. Fits (maybe_at types test) v) is_step before)

@@ -1,6 +1,7 @@
 pub mod Flows
 pub mod Objects
 pub mod Parameters
+pub mod Frugal
 pub mod Codes
 pub mod ZeroRows
 pub mod Lowerable

@@ -1,5 +1,5 @@
 -- Parameters end one behind the other, and are sealed so.
-use Rattle.std.proofs.Common.{◌≡◌, ℕ, suc, true, ◌&&◌, ◌+◌, ◌-◌, ◌<◌, ◌≤◌, List, [], ◌∷◌, length, drop, get_or, drop-cons, refl, sym, ap, subst, ◌∙◌, arith}
+use Rattle.std.proofs.Common.{◌≡◌, ℕ, suc, true, ◌&&◌, ◌+◌, ◌-◌, ◌<◌, ◌≤◌, List, [], ◌∷◌, length, drop, get_or, drop-cons, Ok, refl, sym, ap, subst, ◌∙◌, arith}
 use Rattle.std.proofs.lemmas.Bool.{lt-ltb}
 use Rattle.std.proofs.lemmas.List.{drop_all}
 use Rattle.lt_emit.specs.Turning.{are_below}
@@ -8,9 +8,11 @@ use Rattle.lt_ir.specs.declared.node.Node.TheVariants as node
 use Rattle.lt_code.specs.Bodies as code
 use Rattle.lt_code.specs.Bodies.{stands_in}
 use Rattle.lt_emit.specs.declared.builder.Builder.{Builder}
-use Rattle.lt_emit.specs.Emission.{Here, here_of, Finished, Adds, Emits, HasPoint, IsPlaced}
+use Rattle.lt_code.specs.Costs.{Cost, alone}
+use Rattle.lt_emit.specs.Emission.{Here, here_of, Finished, Adds, Emits, EmitsWithin, GivesWithin, HasPoint, IsPlaced, costs}
 use Rattle.lt_emit.proofs.Adding.{both}
-use Rattle.lt_lower.specs.Functions.{ParametersEnd, ParametersSealed, ParameterSealed}
+use Rattle.lt_emit.proofs.Spent.{spends_none, spends_both, spends_within}
+use Rattle.lt_lower.specs.Functions.{parameters_cost, ParametersEnd, ParametersSealed, ParameterSealed}
 use Rattle.lt_lower.proofs.Flows.{nothing_added}
 
 pub one_below : (next n : ℕ) → next < n → are_below n (next ∷ []) ≡ true
@@ -62,26 +64,42 @@ abbrev pub SealsRest : (to from k : ℕ) → Here → Finished → Type 0
 SealsRest to from k here it =
     code.parameters_sealed (stands_in it.nodes) here.program k (drop k here.function.parameters) (it.point from) (it.point to)
 
+-- what they cost
+abbrev pub sealed_cost : (k : ℕ) → Here → Cost
+sealed_cost k here = alone (length here.function.parameters - k)
+
 pub seals_none :
-    {a : Builder} (to k : ℕ) → length (here_of a).function.parameters ≤ k → HasPoint a to → Emits a a to (SealsRest to to k)
+    {a : Builder} (to k : ℕ) → length (here_of a).function.parameters ≤ k → HasPoint a to
+    → EmitsWithin a a to (sealed_cost k) (SealsRest to to k)
 seals_none {a} to k all has = record {
-  adds = nothing_added (λ it.
-      let Are : List ℕ → Type 0 = λ ns. code.parameters_sealed (stands_in it.nodes) (here_of a).program k ns (it.point to) (it.point to) in
-      subst Are (sym (drop_all k (here_of a).function.parameters all)) refl);
-  within = has;
+  emits = record {
+    adds = nothing_added (λ it.
+        let Are : List ℕ → Type 0 = λ ns. code.parameters_sealed (stands_in it.nodes) (here_of a).program k ns (it.point to) (it.point to) in
+        subst Are (sym (drop_all k (here_of a).function.parameters all)) refl);
+    within = has;
+  };
+  spends = spends_none (sealed_cost k (here_of a));
 }
 
 pub seals_more :
     {a b c : Builder} (to from k m : ℕ) (n : ℕ) → 0 < k → k ≤ length (here_of a).function.parameters
-    → n ≡ get_or (here_of a).function.parameters (k - 1) 0 → Emits a b from (SealsRest to from k)
-    → Emits b c m (ParameterSealed (k - 1) n from m) → Emits a c m (SealsRest to m (k - 1))
+    → n ≡ get_or (here_of a).function.parameters (k - 1) 0 → EmitsWithin a b from (sealed_cost k) (SealsRest to from k)
+    → GivesWithin b c (Ok m) (costs 1 0) (ParameterSealed (k - 1) n from) → EmitsWithin a c m (sealed_cost (k - 1)) (SealsRest to m (k - 1))
 seals_more {a} {b} {c} to from k m n some fits is before one = record {
-  adds = record { grows = all.grows; stands = λ it kept. by it (all.stands it kept) };
-  within = one.within;
+  emits = record {
+    adds = record { grows = all.grows; stands = λ it kept. by it (all.stands it kept) };
+    within = one.gives.code.within;
+  };
+  spends = spends_within (spends_both before.spends one.spends) record {
+    nodes = omega (arith, some, fits);
+    registers = omega arith;
+    loops = omega arith;
+    calls = λ f. omega arith;
+  };
 }
   where
     all : Adds a c (λ here it. SealsRest to from k here it × ParameterSealed (k - 1) n from m here it)
-    all = both before.adds one.adds (λ here it p q. (p, q))
+    all = both before.emits.adds one.gives.code.adds (λ here it p q. (p, q))
 
     by : (it : Finished) → SealsRest to from k (here_of a) it × ParameterSealed (k - 1) n from m (here_of a) it
         → SealsRest to m (k - 1) (here_of a) it
@@ -96,8 +114,12 @@ seals_more {a} {b} {c} to from k m n some fits is before one = record {
         subst Are (sym row) (_, p.1, subst Next (sym next) p.0)
 
 pub seals_all :
-    {a b : Builder} (to from k : ℕ) → k ≤ 0 → Emits a b from (SealsRest to from k) → Emits a b from (ParametersSealed to from)
-seals_all {a} {b} to from k first code =
-    let none : k ≡ 0 = omega arith in
-    let From : ℕ → Type 0 = λ n. Emits a b from (SealsRest to from n) in
-    subst From none code
+    {a b : Builder} (to from k : ℕ) → k ≤ 0 → EmitsWithin a b from (sealed_cost k) (SealsRest to from k)
+    → EmitsWithin a b from parameters_cost (ParametersSealed to from)
+seals_all {a} {b} to from k first code = record {
+  emits =
+      let none : k ≡ 0 = omega arith in
+      let From : ℕ → Type 0 = λ n. Emits a b from (SealsRest to from n) in
+      subst From none code.emits;
+  spends = spends_within code.spends (record { nodes = omega arith; registers = omega arith; loops = omega arith; calls = λ f. omega arith });
+}

@@ -19,6 +19,8 @@ use Rattle.lt_code.specs.Bodies.{HasProgram, Lowered, label_of}
 use Rattle.lt_tables.specs.declared.tables.Tables.{Tables}
 use Rattle.lt_tables.specs.Views.{program_at, types_at}
 use Rattle.lt_tables.specs.Lookups.{stubs_of}
+use Rattle.lt_code.specs.Costs.{of_function}
+use Rattle.lt_sizes.specs.Laws.{CostsAtMost, IsFrugal}
 use Rattle.lt_lower.specs.Functions.{CodeStands, IsSoundCode}
 use Rattle.lt_lower.specs.Programs.{here_for, CodesStand}
 use Rattle.lt_lower.proofs.Lowerable.{body_known}
@@ -68,6 +70,30 @@ module _ (tables : Tables) (stubs : tables.stubs.items ≡ stubs_of (program_at 
       (its : List Code) → CodesStand tables tables.program.now.functions.items its
       → (k : ℕ) → Lowered (program_at tables) labels tables.stubs.items (slice_get (program_at tables).functions k) (slice_get its k)
   each_has its all = has_codes tables.program.now.functions.items its all (λ k f at. (k, at))
+
+  -- each costs no more than its function allows
+  frugal_from :
+      (fs : List Function) (its : List Code) → CodesStand tables fs its
+      → ((k : ℕ) (f : typed.Function) → slice_get (map typed_function fs) k ≡ Some f → (n : ℕ) × (slice_get (program_at tables).functions n ≡ Some f))
+      → (k : ℕ) (f : typed.Function) (it : Code) → slice_get (map typed_function fs) k ≡ Some f → slice_get its k ≡ Some it
+      → CostsAtMost (of_function (program_at tables).functions f) it
+  frugal_from [] its all there k f it named at = absurd (cc)
+  frugal_from (g ∷ fs) [] all there k f it named at = absurd all
+  frugal_from (g ∷ fs) (other ∷ its) all there zero f it named at =
+      let same : typed_function g ≡ f = cc in
+      let this : other ≡ it = cc in
+      let in_program = there 0 (typed_function g) refl in
+      let Costs : typed.Function → Code → Type 0 = λ f it. CostsAtMost (of_function (program_at tables).functions f) it in
+      subst (λ f. Costs f it) same (subst (Costs (typed_function g)) this
+      (all.0.frugal (body_known (here_for tables g) in_program.0 stubs ranges in_program.1)))
+  frugal_from (g ∷ fs) (other ∷ its) all there (suc k) f it named at = frugal_from fs its all.1 (λ j h at. there (suc j) h at) k f it named at
+
+  pub is_frugal :
+      (program : Program) (graph : Graph) → program_at tables ≡ program → CodesStand tables tables.program.now.functions.items graph.codes
+      → IsFrugal program graph
+  is_frugal program graph same all =
+      let Is : Program → Type 0 = λ p. IsFrugal p graph in
+      subst Is same (λ k f it named at. frugal_from tables.program.now.functions.items graph.codes all (λ k f at. (k, at)) k f it named at)
 
   -- ---- and they are sound
 

@@ -1,5 +1,6 @@
 -- What is promised of the code of a function.
-use Rattle.std.specs.Prelude.{◌≡◌, ℕ, zero, suc, ◌≤◌, true, ◌||◌, List, map, length, Some, slice_get, slice_set}
+use Rattle.std.specs.Prelude.{◌≡◌, ℕ, zero, suc, ◌+◌, ◌*◌, ◌≤◌, true, ◌||◌, List, map, length, Some, slice_get, slice_set, Result, IfOk}
+use Rattle.std.specs.declared.alloc.AllocError.{AllocError}
 use Rattle.lt_tree.specs.Typing.Programs.{Program}
 use Rattle.lt_ir.specs.declared.variable.Variable.TheVariants as variable
 use Rattle.lt_ir.specs.declared.code.Code.{Code}
@@ -12,16 +13,26 @@ use Rattle.lt_ir.specs.Tables.{IsTableOf}
 use Rattle.lt_ir.specs.Ranges.{counts_in, is_code}
 use Rattle.lt_meaning.specs.Statements.{is_sealed_object}
 use Rattle.lt_meaning.specs.Runs.{initials, value_at_end}
+use Rattle.lt_code.specs.Costs.{Cost, alone, ◌⊕◌, of_items, of_function}
+use Rattle.lt_sizes.specs.Laws.{CostsAtMost}
 use Rattle.lt_code.specs.Bodies as code
 use Rattle.lt_code.specs.Bodies.{of_body, HasCode, label_of, stands_in, sealed_if}
 use Rattle.lt_tables.specs.declared.site.Site.{Site}
 use Rattle.lt_tables.specs.Views.{program_at, types_at, function_at}
 use Rattle.lt_emit.specs.declared.builder.Builder.{Builder}
 use Rattle.lt_emit.specs.Turned.{point_of, turned_round}
-use Rattle.lt_emit.specs.Emission.{Here, here_of, Finished, site_in, local_shapes}
+use Rattle.lt_emit.specs.Emission.{IsSound, IsEntrance, Here, here_of, Finished, site_in, local_shapes}
 use Rattle.lt_lower.specs.Known.{AreKnownItems}
 
 -- ---- parameters
+
+-- code begins with a node to which no edge leads, if what stands behind it does
+abbrev pub Continues : (before after : Builder) → (to : ℕ) → Result ℕ AllocError → Type 0
+Continues before after to result = IsSound before → IsEntrance before to → IfOk result (IsEntrance after)
+
+-- a node for each
+abbrev pub parameters_cost : Here → Cost
+parameters_cost here = alone (length here.function.parameters)
 
 abbrev pub ParametersEnd : (to from : ℕ) → Here → Finished → Type 0
 ParametersEnd to from here it =
@@ -49,6 +60,10 @@ pub record HasBody (from : ℕ) (here : Here) (it : Finished) : Type 0 where
   pub ends_with : code.parameters_end (stands_in it.nodes) 0 here.function.parameters back (it.point 0)
   pub ends_without : code.parameters_end (stands_in it.nodes) 0 here.function.parameters leaves end
   pub gives_none : stands_in it.nodes end (node.Return (given.Fixed (value_at_end here.function)))
+
+-- without the node that gives a value back
+abbrev pub body_cost : Here → Cost
+body_cost here = alone (3 * length here.function.parameters + 1) ⊕ of_items here.program.functions here.function.body
 
 abbrev pub BodyStands : (from : ℕ) → Here → Finished → Type 0
 BodyStands from here it = AreKnownItems here here.function.body → HasBody from here it
@@ -96,3 +111,4 @@ pub record CodeStands (here : Here) (it : Code) : Type 0 where
   pub code : AreKnownItems here here.function.body
       → HasCode here.program (map label_of here.program.labels) here.stubs here.function it
   pub sound : IsSoundCode here.program here.stubs it
+  pub frugal : AreKnownItems here here.function.body → CostsAtMost (of_function here.program.functions here.function) it

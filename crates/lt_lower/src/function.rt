@@ -4,8 +4,10 @@ mod parameters;
 mod parts;
 
 ghost use Rattle.std.specs.Prelude.{IfOk};
-ghost use Rattle.lt_emit.specs.Emission.{Gives, HasPoint};
-ghost use Rattle.lt_lower.specs.Functions.{BodyStands, CodeStands, IsFinished, here_at};
+ghost use Rattle.lt_emit.specs.Emission.{GivesWithin, HasPoint};
+ghost use Rattle.lt_emit.specs.Entering.{EntersIf};
+ghost use Rattle.lt_lower.specs.Known.{AreKnownItems};
+ghost use Rattle.lt_lower.specs.Functions.{body_cost, BodyStands, CodeStands, IsFinished, here_at};
 
 use crate::flow::{Exits, items};
 use ending::value_at_end;
@@ -29,7 +31,8 @@ pub fn code<'t>(alloc: Global, site: &'t Site<'t>) -> Result<Code, AllocError>
 // The code of a body and of what is round it: that of the parameters, and the returns.
 fn body(b: &mut Builder) -> Result<u32, AllocError>
     requires { HasPoint b.old 0 }
-    ensures { Gives b.old b.new result BodyStands }
+    ensures code { GivesWithin b.old b.new result body_cost BodyStands }
+    ensures enters { EntersIf (λ here. AreKnownItems here here.function.body) b.old b.new result }
 {
     let site = b.site;
     let back = parameters_end(b, 0)?;

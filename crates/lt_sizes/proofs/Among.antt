@@ -6,7 +6,7 @@ use Rattle.std.proofs.lemmas.List.Sums.{sum_by-cons}
 use Rattle.lt_ir.specs.declared.code.Code.{Code}
 use Rattle.lt_ir.specs.declared.node.Node.{Node}
 use Rattle.lt_code.specs.Bounds.{callee, AreCallsAmong}
-use Rattle.lt_sizes.specs.Laws.{callees, times}
+use Rattle.lt_code.specs.Costs.{callees, times}
 
 pub data IsPartOf : List ℕ → List ℕ → Type 0 where
   done : IsPartOf [] []

@@ -28,7 +28,7 @@ use Rattle.lt_tree.specs.Typing.NodeEnds.{judge_unary, text_at}
 use Rattle.lt_tree.specs.Typing.MarkRules.{judge_decide, judge_after, judge_marked}
 use Rattle.lt_code.specs.Code.{number_among}
 use Rattle.lt_code.specs.Sizes.{called_at}
-use Rattle.lt_sizes.specs.Costs.{nodes_of_arguments, nodes_of_parts, behind_arguments, behind_parts, marks_of, calls_in_all}
+use Rattle.lt_code.specs.Costs.{nodes_of_arguments, nodes_of_parts, behind_arguments, behind_parts, marks_of, calls_in_all}
 use Rattle.lt_sizes.proofs.Among as among
 use Rattle.lt_sizes.proofs.Among.{IsPartOf}
 use Rattle.lt_sizes.proofs.Values.{IsPaid, IsOperand, IsPaidTyped, operand, converted, valued_paid, placed_paid, read_typed}

@@ -20,8 +20,8 @@ use Rattle.lt_tree.specs.Typing.InitialiserTyping.{Judges, literal_alone, filled
 use Rattle.lt_tree.specs.Typing.Declaring.{Kind, a_type_name, a_function_name, an_object_of, kind_of, declaration_faults, declare_object, length_faults}
 use Rattle.lt_tree.specs.Typing.DeclarationTyping.{no_object, created, started_object, declare, init_declarator, init_declarators, has_no_declarator, declaration_by}
 use Rattle.lt_code.specs.Sizes.{letters_in_part, letters_in_local}
-use Rattle.lt_sizes.specs.Costs.{Cost, ◌⊕◌, full_value, full_test, of_part, of_parts, of_local, of_locals, nodes_of, behind, calls_in}
-use Rattle.lt_sizes.specs.Costs as costs
+use Rattle.lt_code.specs.Costs.{Cost, ◌⊕◌, full_value, full_test, of_part, of_parts, of_local, of_locals, nodes_of, behind, calls_in}
+use Rattle.lt_code.specs.Costs as costs
 use Rattle.lt_sizes.proofs.Among as among
 use Rattle.lt_sizes.proofs.Texts.{count, calls, IsWhole}
 use Rattle.lt_sizes.proofs.WholeTexts.{declarator_whole, specifiers_whole, initialiser_whole, init_declarator_whole}

@@ -15,7 +15,7 @@ use Rattle.lt_tree.specs.Typing.BinaryOperations.{judge_binary, judge_logical, j
 use Rattle.lt_tree.specs.Typing.MarkRules.{judge_decide, inside_mark, inside_after, judge_after, judge_marked}
 use Rattle.lt_tree.specs.Typing.NodeEnds.{judge_unary, operand_of, also}
 use Rattle.lt_tree.specs.Typing.ExpressionTyping.{expression, expressions, marks, mark, specifiers, declarator}
-use Rattle.lt_sizes.specs.Costs.{marks_of}
+use Rattle.lt_code.specs.Costs.{marks_of}
 use Rattle.lt_sizes.proofs.Texts.{count, calls, IsWhole, count_both, calls_both, marked, mark_whole}
 use Rattle.lt_sizes.proofs.WholeTexts.{expression_whole, expressions_whole, specifiers_whole, declarator_whole, marks_whole}
 use Rattle.lt_sizes.proofs.WholeTexts as whole

@@ -22,8 +22,8 @@ use Rattle.lt_tree.specs.Typing.ExpressionTyping.{mark}
 use Rattle.lt_tree.specs.Typing.DeclarationTyping.{effective_in_for}
 use Rattle.lt_tree.specs.Typing.StatementTyping.{Around, in_a_loop, in_a_switch, test_faults, optional_test_faults, optional_expression, optional_test, optional_value, TypedStart, for_start, switch_type, switch_value, Seen, labels, return_faults, returned, locals_before, statement, items, cases}
 use Rattle.lt_code.specs.Sizes.{full_in_start, nodes_of_full, letters_in, letters_in_items, letters_in_cases, letters_in_start, letters_in_local}
-use Rattle.lt_sizes.specs.Costs.{Cost, alone, tick, ◌⊕◌, full_value, full_test, of_locals, of_start, of_statement, of_items, of_cases, nodes_of, behind, calls_in}
-use Rattle.lt_sizes.specs.Costs as costs
+use Rattle.lt_code.specs.Costs.{Cost, alone, tick, ◌⊕◌, full_value, full_test, of_locals, of_start, of_statement, of_items, of_cases, nodes_of, behind, calls_in}
+use Rattle.lt_code.specs.Costs as costs
 use Rattle.lt_sizes.proofs.Texts.{count, calls, mark_whole, from_any}
 use Rattle.lt_sizes.proofs.WholeTexts.{expression_whole, declaration_whole, optional_whole, start_whole, label_whole, statement_whole, items_whole, cases_whole, each_whole}
 use Rattle.lt_sizes.proofs.WholeTexts as whole

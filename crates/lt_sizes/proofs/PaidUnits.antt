@@ -14,11 +14,11 @@ use Rattle.lt_tree.specs.Typing.NodeEnds.{end_of_declarator, enter_if}
 use Rattle.lt_tree.specs.Typing.ExpressionTyping.{specifiers, declarator, parts, parameters, parameter_list, maybe}
 use Rattle.lt_tree.specs.Typing.Declaring.{definition_faults}
 use Rattle.lt_tree.specs.Typing.Programs.{Program, typed, program_of}
-use Rattle.lt_tree.specs.Typing.UnitTyping.{around_body, objects_of, external, externals, defined_in, answer, typing}
+use Rattle.lt_tree.specs.Typing.UnitTyping.{around_body, objects_of, external, externals, defined_in, answer, typing_to}
 use Rattle.lt_ir.specs.declared.code.Code.{Code}
 use Rattle.lt_code.specs.Sizes.{is_definition, definitions, letters_in_items}
 use Rattle.lt_code.specs.Bounds.{HasLoopHeads}
-use Rattle.lt_sizes.specs.Costs.{alone, of_items, of_function}
+use Rattle.lt_code.specs.Costs.{alone, of_items, of_function}
 use Rattle.lt_sizes.specs.Laws.{FrugalGraphsAreBounded}
 use Rattle.lt_sizes.proofs.Among as among
 use Rattle.lt_sizes.proofs.Texts.{count, IsWhole, count_both}
@@ -172,7 +172,7 @@ answered unit (Goes a known) program adds is =
 answered unit (Breaks rule node) program adds is = absurd cc
 
 pub frugal_graphs_are_bounded : FrugalGraphsAreBounded
-unfolding typing
+unfolding typing_to
 frugal_graphs_are_bounded program graph frugal is k definition f code h i j =
     let aligned = answered program.unit (externals program.unit (at_start program.model (filter_map defined_in program.unit))) program
     (λ all. of_externals all program.unit [] (at_start program.model (filter_map defined_in program.unit)) refl) is in

@@ -6,7 +6,7 @@ use Rattle.lt_tree.specs.Nodes.{Node}
 use Rattle.lt_tree.specs.Typing.TypedTree.{StartPart, Local}
 use Rattle.lt_tree.specs.Typing.Entities.{Function}
 use Rattle.lt_code.specs.Sizes.{below_mark, full_at, nodes_of_full, is_loop, called_at, letters_in_part, letters_in_local}
-use Rattle.lt_sizes.specs.Costs.{Cost, alone, ◌⊕◌, of_parts, of_locals}
+use Rattle.lt_code.specs.Costs.{Cost, alone, ◌⊕◌, of_parts, of_locals}
 use Rattle.lt_sizes.proofs.Among as among
 use Rattle.lt_sizes.proofs.Among.{IsPartOf}
 use Rattle.lt_sizes.proofs.Texts.{counted, count, largest, loops, calls, IsWhole, count_both, largest_both, loops_both, calls_both, largest_behind}

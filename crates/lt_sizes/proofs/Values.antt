@@ -7,7 +7,7 @@ use Rattle.lt_tree.specs.Typing.TypedTree as e
 use Rattle.lt_tree.specs.Typing.TypedTree.{Value, Place, type_of, type_at}
 use Rattle.lt_tree.specs.Typing.Entities.{Function}
 use Rattle.lt_tree.specs.Typing.Expressions.{Form, a_value, a_place, a_designator, Typed, Use, valued, varies, value_at, value_in, place_in, read, as_it_is_read, is_read, used, cast_to, converted_to}
-use Rattle.lt_sizes.specs.Costs.{nodes_of, nodes_at, behind, behind_place, calls_in, calls_at}
+use Rattle.lt_code.specs.Costs.{nodes_of, nodes_at, behind, behind_place, calls_in, calls_at}
 use Rattle.lt_sizes.proofs.Among.{IsPartOf}
 
 -- a value, as it is and as a test

@@ -1,21 +1,11 @@
 -- The bounds of lowered code hold where it costs no more than its typed tree allows.
-use Rattle.std.specs.Prelude.{◌≡◌, ℕ, ◌==◌, ◌≤◌, ◌<◌, List, length, Some, slice_get}
-use Rattle.std.specs.List.{flat_map, count_by}
-use Rattle.std.specs.Option.{option_to_list}
+use Rattle.std.specs.Prelude.{◌≡◌, ℕ, ◌≤◌, ◌<◌, length, Some, slice_get}
 use Rattle.lt_tree.specs.Typing.Entities.{Function}
 use Rattle.lt_tree.specs.Typing.Programs.{Program}
 use Rattle.lt_ir.specs.declared.code.Code.{Code}
 use Rattle.lt_ir.specs.declared.graph.Graph.{Graph}
-use Rattle.lt_ir.specs.declared.node.Node.{Node}
-use Rattle.lt_code.specs.Bounds.{callee, HasEdge, HasLoopHeads, IsBoundedBy}
-use Rattle.lt_sizes.specs.Costs.{Cost, of_function}
-
--- the functions that are called in a list of nodes, one for each call
-abbrev pub callees : List Node → List ℕ
-callees nodes = flat_map (λ n. option_to_list (callee n)) nodes
-
-abbrev pub times : ℕ → List ℕ → ℕ
-times f calls = count_by (λ g. g == f) calls
+use Rattle.lt_code.specs.Bounds.{HasEdge, HasLoopHeads, IsBoundedBy}
+use Rattle.lt_code.specs.Costs.{Cost, callees, times, of_function}
 
 -- The code of a function costs so much at most: no function is called more often. Its start has the least number, and no edge leads to it.
 pub record CostsAtMost (cost : Cost) (code : Code) : Type 0 where

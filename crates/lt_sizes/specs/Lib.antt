@@ -1,4 +1,4 @@
 pub use Rattle.lt_code.specs.Bounds
-pub mod Costs
+pub use Rattle.lt_code.specs.Costs
 pub mod Laws
 pub mod Samples

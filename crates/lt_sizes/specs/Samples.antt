@@ -1,7 +1,7 @@
 -- Examples: what the codes of functions cost at most, worked out.
 use Rattle.std.specs.Prelude.{◌≡◌, [], ◌∷◌}
 use Rattle.lt_code.specs.Samples.{empty, calling, counting}
-use Rattle.lt_sizes.specs.Costs.{of_function}
+use Rattle.lt_code.specs.Costs.{of_function}
 
 -- Each has three nodes for its parameter and two for its returns. The second has seven for its array and eight that store two characters; the value
 -- that it returns has ten for `g(x)`, nine for `g(1)`, two for their sum and one for the mark, and its `return` has two. The third has two ticks of

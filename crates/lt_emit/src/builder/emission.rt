@@ -3,7 +3,8 @@
 ghost use Rattle.std.specs.Prelude.{◌≡◌, ℕ, IfOk, length, suc, ◌+◌, ◌≤◌, Some, slice_get};
 ghost use Rattle.lt_ir.specs.declared.node.Node.TheVariants as node;
 ghost use Rattle.lt_emit.specs.Turning.{LeadsBelow, NamesIn, UsesBelow, movement_uses, parts_use, given_uses, target_uses};
-ghost use Rattle.lt_emit.specs.Emission.{counts_at, Gives, HasPoint, IsBegun, IsPlaced, IsReserved, IsPatched};
+ghost use Rattle.lt_emit.specs.Spending.{movement_needs, parts_need, given_needs, call_needs, needs};
+ghost use Rattle.lt_emit.specs.Emission.{counts_at, GivesWithin, node_cost, Enters, HasPoint, IsBegun, IsPlaced, IsReserved, IsPatched};
 
 use crate::builder::Builder;
 use lt_ir::{Given, Movement, Node, Parts};
@@ -42,7 +43,8 @@ impl<'t> Builder<'t> {
     pub fn emit(&mut self, node: Node) -> Result<u32, AllocError>
         requires leads { LeadsBelow (length self.old.nodes.items) node }
         requires names { NamesIn (counts_at self.old) node }
-        ensures { Gives self.old self.new result (IsPlaced node) }
+        ensures code { GivesWithin self.old self.new result (node_cost node) (IsPlaced node) }
+        ensures enters { Enters self.old self.new result }
     {
         let Ok(number) = u32::try_from(self.nodes.len()) else {
             return Err(AllocError);
@@ -80,7 +82,8 @@ impl<'t> Builder<'t> {
 
 // How many registers a movement needs.
 fn movement_registers(by: Movement) -> Result<u32, AllocError>
-    ensures { IfOk result (λ n. movement_uses n by) }
+    ensures uses { IfOk result (λ n. movement_uses n by) }
+    ensures least { IfOk result (λ n. n ≤ movement_needs by) }
 {
     match by {
         Movement::Elements { count, .. } => behind(count),
@@ -90,7 +93,8 @@ fn movement_registers(by: Movement) -> Result<u32, AllocError>
 
 // How many registers a clash node needs.
 fn parts_registers(parts: Parts) -> Result<u32, AllocError>
-    ensures { IfOk result (λ n. parts_use n parts) }
+    ensures uses { IfOk result (λ n. parts_use n parts) }
+    ensures least { IfOk result (λ n. n ≤ parts_need parts) }
 {
     match parts {
         Parts::Unsequenced { left, right } | Parts::Sequenced { left, right } => {
@@ -104,7 +108,8 @@ fn parts_registers(parts: Parts) -> Result<u32, AllocError>
 
 // How many registers the value of a call needs.
 fn given_registers(given: Given) -> Result<u32, AllocError>
-    ensures { IfOk result (λ n. given_uses n given) }
+    ensures uses { IfOk result (λ n. given_uses n given) }
+    ensures least { IfOk result (λ n. n ≤ given_needs given) }
 {
     match given {
         Given::Nothing | Given::Fixed(_) => Ok(0),
@@ -116,6 +121,7 @@ fn given_registers(given: Given) -> Result<u32, AllocError>
 fn call_registers(to: Option<u32>, first: u32, count: u32) -> Result<u32, AllocError>
     ensures target { IfOk result (λ n. target_uses n to) }
     ensures arguments { IfOk result (λ n. first + count ≤ n) }
+    ensures least { IfOk result (λ n. n ≤ call_needs to first count) }
 {
     let end = first.checked_add(count).ok_or(AllocError)?;
     match to {
@@ -126,7 +132,8 @@ fn call_registers(to: Option<u32>, first: u32, count: u32) -> Result<u32, AllocE
 
 // How many registers a node needs.
 fn registers_of(node: &Node) -> Result<u32, AllocError>
-    ensures { IfOk result (λ n. UsesBelow n node.now) }
+    ensures uses { IfOk result (λ n. UsesBelow n node.now) }
+    ensures least { IfOk result (λ n. n ≤ needs node.now) }
 {
     match node {
         Node::Constant { to, .. } | Node::Address { to, .. } | Node::Stub { to, .. } => behind(*to),

@@ -6,8 +6,8 @@ ghost use Rattle.lt_tree.specs.Typing.TypeRows.{type_in};
 ghost use Rattle.lt_tree.specs.Typing.ValueView.{value_of, place_of, when_of};
 ghost use Rattle.lt_tree.specs.Typing.TypedTree as e;
 ghost use Rattle.lt_code.specs.Code as code;
-ghost use Rattle.lt_emit.specs.Emission.{Gives, HasPoint};
-ghost use Rattle.lt_emit.specs.Stands.{HasPlain};
+ghost use Rattle.lt_emit.specs.Emission.{HasPoint};
+ghost use Rattle.lt_emit.specs.Stands.{GivesPlain};
 ghost use Rattle.lt_emit.specs.Operators.{updated_by, stepped_by};
 
 use crate::builder::Builder;
@@ -31,7 +31,7 @@ pub fn assign(
     to: u32,
 ) -> Result<u32, AllocError>
     requires { HasPoint b.old to }
-    ensures { Gives b.old b.new result (HasPlain (λ types. e.Assign (type_in types ty) (place_of types target.now) (value_of types v.now)) register to) }
+    ensures { GivesPlain b.old b.new result (λ types. e.Assign (type_in types ty) (place_of types target.now) (value_of types v.now)) register to }
 {
     room(register)?;
     let stored = b.assignment(ty, v, register, to)?;
@@ -51,7 +51,7 @@ pub fn update(
     to: u32,
 ) -> Result<u32, AllocError>
     requires { HasPoint b.old to }
-    ensures { Gives b.old b.new result (HasPlain (λ types. updated_by change (type_in types ty) (place_of types target.now) (value_of types v.now)) register to) }
+    ensures { GivesPlain b.old b.new result (λ types. updated_by change (type_in types ty) (place_of types target.now) (value_of types v.now)) register to }
 {
     room(register)?;
     let changed = b.changed(change, ty, register, register + 3, to)?;
@@ -89,7 +89,7 @@ pub fn step(
     to: u32,
 ) -> Result<u32, AllocError>
     requires { HasPoint b.old to }
-    ensures { Gives b.old b.new result (HasPlain (λ types. stepped_by change (type_in types ty) (when_of when) (place_of types target.now)) register to) }
+    ensures { GivesPlain b.old b.new result (λ types. stepped_by change (type_in types ty) (when_of when) (place_of types target.now)) register to }
 {
     room(register)?;
     let gives = kept_in(when, register + 1, register + 3);

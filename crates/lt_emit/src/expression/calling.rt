@@ -6,9 +6,9 @@ ghost use Rattle.lt_tree.specs.Typing.TypeRows.{type_in};
 ghost use Rattle.lt_tree.specs.Typing.ValueView.{value_of, values_in};
 ghost use Rattle.lt_tree.specs.Typing.TypedTree as e;
 ghost use Rattle.lt_code.specs.Code.{taken_into};
-ghost use Rattle.lt_emit.specs.Emission.{Gives, HasPoint};
-ghost use Rattle.lt_emit.specs.Stands.{HasValue};
-ghost use Rattle.lt_emit.specs.Calling.{ArgumentsStand, JoinStands, JoinsStand, PassedStand, CallStands, OutsideStands, NextStands};
+ghost use Rattle.lt_emit.specs.Emission.{GivesWithin, costs, HasPoint};
+ghost use Rattle.lt_emit.specs.Stands.{GivesValue};
+ghost use Rattle.lt_emit.specs.Calling.{arguments_cost, joins_cost, passed_cost, call_cost, ArgumentsStand, JoinStands, JoinsStand, PassedStand, CallStands, OutsideStands, NextStands};
 
 use crate::builder::Builder;
 use crate::expression::value;
@@ -32,7 +32,7 @@ pub fn call(
     to: u32,
 ) -> Result<u32, AllocError>
     requires { HasPoint b.old to }
-    ensures { Gives b.old b.new result (HasValue (λ types. e.Call (type_in types ty) name.now (values_in types arguments.now)) fate register to) }
+    ensures { GivesValue b.old b.new result fate (λ types. e.Call (type_in types ty) name.now (values_in types arguments.now)) register to }
 {
     room_for(register, arguments.len())?;
     let count = arguments.len() as u32;
@@ -49,7 +49,7 @@ pub fn call(
 fn values(b: &mut Builder, arguments: &[Value], register: u32, to: u32) -> Result<u32, AllocError>
     requires point { HasPoint b.old to }
     requires room { register + length arguments.now + 4 < 2 ^ 32 }
-    ensures { Gives b.old b.new result (ArgumentsStand arguments.now register to) }
+    ensures { GivesWithin b.old b.new result (arguments_cost arguments.now register) (ArgumentsStand arguments.now register to) }
 {
     let mut from = to;
     'arguments: for at in (0..arguments.len()).rev() {
@@ -63,7 +63,7 @@ fn values(b: &mut Builder, arguments: &[Value], register: u32, to: u32) -> Resul
 fn joins(b: &mut Builder, arguments: &[Value], register: u32, to: u32) -> Result<u32, AllocError>
     requires point { HasPoint b.old to }
     requires room { register + length arguments.now + 4 < 2 ^ 32 }
-    ensures { Gives b.old b.new result (JoinsStand arguments.now register to) }
+    ensures { GivesWithin b.old b.new result (joins_cost (length arguments.now) register) (JoinsStand arguments.now register to) }
 {
     let mut from = to;
     'arguments: for (at, argument) in arguments.iter().enumerate() {
@@ -76,7 +76,7 @@ fn joins(b: &mut Builder, arguments: &[Value], register: u32, to: u32) -> Result
 fn join(b: &mut Builder, argument: &Value, register: u32, to: u32) -> Result<u32, AllocError>
     requires point { HasPoint b.old to }
     requires room { register + 4 < 2 ^ 32 }
-    ensures { Gives b.old b.new result (JoinStands argument.now register to) }
+    ensures { GivesWithin b.old b.new result (costs 2 (register + 2)) (JoinStands argument.now register to) }
 {
     let parts = Parts::Unsequenced {
         left: register,
@@ -90,7 +90,7 @@ fn join(b: &mut Builder, argument: &Value, register: u32, to: u32) -> Result<u32
 fn passed(b: &mut Builder, arguments: &[Value], register: u32, to: u32) -> Result<u32, AllocError>
     requires point { HasPoint b.old to }
     requires room { register + length arguments.now + 4 < 2 ^ 32 }
-    ensures { Gives b.old b.new result (PassedStand arguments.now register to) }
+    ensures { GivesWithin b.old b.new result (passed_cost arguments.now register) (PassedStand arguments.now register to) }
 {
     let mut from = to;
     'arguments: for at in (0..arguments.len()).rev() {
@@ -113,7 +113,7 @@ impl<'t> Builder<'t> {
         to: u32,
     ) -> Result<u32, AllocError>
         requires { HasPoint self.old to }
-        ensures { Gives self.old self.new result (CallStands is_taken name.now ty first count to) }
+        ensures { GivesWithin self.old self.new result (call_cost name.now first count) (CallStands is_taken name.now ty first count to) }
     {
         match self.site.tables.function(name) {
             Some(function) => self.emit(Node::Call {
@@ -137,7 +137,7 @@ impl<'t> Builder<'t> {
         to: u32,
     ) -> Result<u32, AllocError>
         requires { HasPoint self.old to }
-        ensures { Gives self.old self.new result (OutsideStands is_taken name.now ty register to) }
+        ensures { GivesWithin self.old self.new result (costs 1 (register + 1)) (OutsideStands is_taken name.now ty register to) }
     {
         if stops(name) {
             self.emit(Node::Stop)
@@ -153,7 +153,7 @@ impl<'t> Builder<'t> {
     // The next value of a function without a body.
     fn next_for(&mut self, name: &Name, register: u32, to: u32) -> Result<u32, AllocError>
         requires { HasPoint self.old to }
-        ensures { Gives self.old self.new result (NextStands name.now register to) }
+        ensures { GivesWithin self.old self.new result (costs 1 (register + 1)) (NextStands name.now register to) }
     {
         match self.site.tables.stub(name) {
             None => Ok(to),

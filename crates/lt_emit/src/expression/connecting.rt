@@ -5,9 +5,9 @@ ghost use Rattle.lt_tree.specs.declared.expression.LogicalOp.TheVariants as logi
 ghost use Rattle.lt_tree.specs.Typing.Types.{Void};
 ghost use Rattle.lt_tree.specs.Typing.ValueView.{value_of, values_in};
 ghost use Rattle.lt_tree.specs.Typing.TypedTree as e;
-ghost use Rattle.lt_emit.specs.Emission.{Gives, HasPoint, PieceStands};
-ghost use Rattle.lt_emit.specs.Stands.{HasPlain, HasValue, HasTest};
-ghost use Rattle.lt_emit.specs.Connecting.{joined_in, settled_in, behind_part, SecondStands, BranchStands, PartStands};
+ghost use Rattle.lt_emit.specs.Emission.{GivesWithin, costs, HasPoint, PieceStands};
+ghost use Rattle.lt_emit.specs.Stands.{GivesPlain, GivesValue, GivesTest};
+ghost use Rattle.lt_emit.specs.Connecting.{second_cost, branch_cost, part_cost, joined_in, settled_in, behind_part, SecondStands, BranchStands, PartStands};
 
 use crate::builder::Builder;
 use crate::expression::{test, value};
@@ -30,7 +30,7 @@ pub fn connected(
     to: u32,
 ) -> Result<u32, AllocError>
     requires { HasPoint b.old to }
-    ensures { Gives b.old b.new result (HasPlain (λ types. e.Logical Void op (value_of types left.now) (value_of types right.now)) register to) }
+    ensures { GivesPlain b.old b.new result (λ types. e.Logical Void op (value_of types left.now) (value_of types right.now)) register to }
 {
     let on = b.truth(register, true, to)?;
     let off = b.truth(register, false, to)?;
@@ -50,7 +50,7 @@ pub fn connected_test(
 ) -> Result<u32, AllocError>
     requires on { HasPoint b.old on }
     requires off { HasPoint b.old off }
-    ensures { Gives b.old b.new result (HasTest (λ types. e.Logical Void op (value_of types left.now) (value_of types right.now)) register on off) }
+    ensures { GivesTest b.old b.new result (λ types. e.Logical Void op (value_of types left.now) (value_of types right.now)) register on off }
 {
     match op {
         LogicalOp::And => conjunction(b, left, right, register, on, off),
@@ -70,7 +70,7 @@ fn conjunction(
 ) -> Result<u32, AllocError>
     requires on { HasPoint b.old on }
     requires off { HasPoint b.old off }
-    ensures { Gives b.old b.new result (HasTest (λ types. e.Logical Void logical.And (value_of types left.now) (value_of types right.now)) register on off) }
+    ensures { GivesTest b.old b.new result (λ types. e.Logical Void logical.And (value_of types left.now) (value_of types right.now)) register on off }
 {
     let further = second(b, right, register, on, off)?;
     let settled = b.clash(Parts::Settled { register }, off)?;
@@ -89,7 +89,7 @@ fn disjunction(
 ) -> Result<u32, AllocError>
     requires on { HasPoint b.old on }
     requires off { HasPoint b.old off }
-    ensures { Gives b.old b.new result (HasTest (λ types. e.Logical Void logical.Or (value_of types left.now) (value_of types right.now)) register on off) }
+    ensures { GivesTest b.old b.new result (λ types. e.Logical Void logical.Or (value_of types left.now) (value_of types right.now)) register on off }
 {
     let further = second(b, right, register, on, off)?;
     let settled = b.clash(Parts::Settled { register }, on)?;
@@ -107,7 +107,7 @@ fn second(
 ) -> Result<u32, AllocError>
     requires on { HasPoint b.old on }
     requires off { HasPoint b.old off }
-    ensures { Gives b.old b.new result (SecondStands right.now register on off) }
+    ensures { GivesWithin b.old b.new result (second_cost right.now register) (SecondStands right.now register on off) }
 {
     room(register)?;
     let joined = Parts::Sequenced {
@@ -132,7 +132,7 @@ pub fn conditional(
     to: u32,
 ) -> Result<u32, AllocError>
     requires { HasPoint b.old to }
-    ensures { Gives b.old b.new result (HasValue (λ types. e.Conditional Void (value_of types tested.now) (value_of types left.now) (value_of types right.now)) fate register to) }
+    ensures { GivesValue b.old b.new result fate (λ types. e.Conditional Void (value_of types tested.now) (value_of types left.now) (value_of types right.now)) register to }
 {
     room(register)?;
     let joined = b.joined(register, to)?;
@@ -146,7 +146,7 @@ pub fn conditional(
 fn branch(b: &mut Builder, fate: Fate, v: &Value, register: u32, to: u32) -> Result<u32, AllocError>
     requires point { HasPoint b.old to }
     requires room { register + 4 < 2 ^ 32 }
-    ensures { Gives b.old b.new result (BranchStands fate v.now register to) }
+    ensures { GivesWithin b.old b.new result (branch_cost v.now register) (BranchStands fate v.now register to) }
 {
     let chosen = value(b, fate.of_branch(), v, register + 1, to)?;
     b.clash(Parts::Settled { register }, chosen)
@@ -157,7 +157,7 @@ impl<'t> Builder<'t> {
     fn joined(&mut self, register: u32, to: u32) -> Result<u32, AllocError>
         requires point { HasPoint self.old to }
         requires room { register + 4 < 2 ^ 32 }
-        ensures { Gives self.old self.new result (PieceStands (λ s. joined_in s register) to) }
+        ensures { GivesWithin self.old self.new result (costs 2 (register + 2)) (PieceStands (λ s. joined_in s register) to) }
     {
         let moved = self.emit(Node::Convert {
             to: register,
@@ -176,7 +176,7 @@ impl<'t> Builder<'t> {
     fn settled(&mut self, register: u32, to: u32) -> Result<u32, AllocError>
         requires point { HasPoint self.old to }
         requires room { register + 4 < 2 ^ 32 }
-        ensures { Gives self.old self.new result (PieceStands (λ s. settled_in s register) to) }
+        ensures { GivesWithin self.old self.new result (costs 2 (register + 2)) (PieceStands (λ s. settled_in s register) to) }
     {
         let parts = Parts::Sequenced {
             left: register,
@@ -195,7 +195,7 @@ impl<'t> Builder<'t> {
     fn behind_part(&mut self, is_last: bool, register: u32, to: u32) -> Result<u32, AllocError>
         requires point { HasPoint self.old to }
         requires room { register + 4 < 2 ^ 32 }
-        ensures { Gives self.old self.new result (PieceStands (λ s. behind_part s is_last register) to) }
+        ensures { GivesWithin self.old self.new result (costs 2 (register + 2)) (PieceStands (λ s. behind_part s is_last register) to) }
     {
         if is_last {
             self.joined(register, to)
@@ -215,7 +215,7 @@ pub fn comma(
     to: u32,
 ) -> Result<u32, AllocError>
     requires { HasPoint b.old to }
-    ensures { Gives b.old b.new result (HasValue (λ types. e.Comma Void (values_in types parts.now)) fate register to) }
+    ensures { GivesValue b.old b.new result fate (λ types. e.Comma Void (values_in types parts.now)) register to }
 {
     room(register)?;
     let last_fate = fate.of_last();
@@ -239,7 +239,7 @@ fn comma_part(
 ) -> Result<u32, AllocError>
     requires point { HasPoint b.old to }
     requires room { register + 4 < 2 ^ 32 }
-    ensures { Gives b.old b.new result (PartStands fate is_last v.now register to) }
+    ensures { GivesWithin b.old b.new result (part_cost v.now register) (PartStands fate is_last v.now register to) }
 {
     let behind = b.behind_part(is_last, register, to)?;
     value(b, fate.of_part(is_last), v, register + 1, behind)

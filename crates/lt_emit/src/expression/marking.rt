@@ -2,11 +2,13 @@
 
 ghost use Rattle.std.specs.Prelude.{◌≡◌, List};
 ghost use Rattle.lt_tree.specs.Typing.Types.{Void};
-ghost use Rattle.lt_tree.specs.Typing.ValueView.{value_of, marks_in};
+ghost use Rattle.lt_tree.specs.Typing.ValueView.{value_of, mark_of, marks_in};
 ghost use Rattle.lt_tree.specs.Typing.TypedTree as e;
-ghost use Rattle.lt_emit.specs.Emission.{Gives, HasPoint};
-ghost use Rattle.lt_emit.specs.Stands.{HasPlain, HasValue, HasTest, MarkStands};
-ghost use Rattle.lt_emit.specs.Marking.{AreLookable, LabelStands, FixedMarkStands, BothMarksStand, MarksStand};
+ghost use Rattle.lt_emit.specs.Emission.{GivesWithin, costs, HasPoint};
+ghost use Rattle.lt_emit.specs.Known.{IsMarked};
+ghost use Rattle.lt_emit.specs.Entering.{EntersIf, IsLabel};
+ghost use Rattle.lt_emit.specs.Stands.{GivesPlain, GivesValue, GivesTest, MarkStands};
+ghost use Rattle.lt_emit.specs.Marking.{marks_cost, AreLookable, LabelStands, FixedMarkStands, BothMarksStand, MarksStand};
 
 use crate::builder::Builder;
 use crate::expression::{test, value};
@@ -28,7 +30,8 @@ impl<'t> Builder<'t> {
     ) -> Result<u32, AllocError>
         requires point { HasPoint self.old to }
         requires there { AreLookable self.old predicate bound.items }
-        ensures { Gives self.old self.new result (LabelStands id predicate bound.items to) }
+        ensures code { GivesWithin self.old self.new result (costs 1 0) (LabelStands id predicate bound.items to) }
+        ensures enters { EntersIf (IsLabel id) self.old self.new result }
     {
         match self.site.tables.label(id) {
             None => Ok(to),
@@ -44,7 +47,7 @@ impl<'t> Builder<'t> {
     /// A mark that is true, or isn't.
     pub fn fixed_mark(&mut self, id: u32, holds: bool, to: u32) -> Result<u32, AllocError>
         requires { HasPoint self.old to }
-        ensures { Gives self.old self.new result (FixedMarkStands id holds to) }
+        ensures { GivesWithin self.old self.new result (costs 1 0) (FixedMarkStands id holds to) }
     {
         self.label_mark(id, truth(holds), Vec::new(self.alloc), to)
     }
@@ -58,7 +61,7 @@ impl<'t> Builder<'t> {
         to: u32,
     ) -> Result<u32, AllocError>
         requires { HasPoint self.old to }
-        ensures { Gives self.old self.new result (BothMarksStand when_true when_false holds to) }
+        ensures { GivesWithin self.old self.new result (costs 2 0) (BothMarksStand when_true when_false holds to) }
     {
         let second = self.fixed_mark(when_false, !holds, to)?;
         self.fixed_mark(when_true, holds, second)
@@ -68,7 +71,8 @@ impl<'t> Builder<'t> {
 /// The code of a mark.
 pub fn mark(b: &mut Builder, m: &Mark, to: u32) -> Result<u32, AllocError>
     requires { HasPoint b.old to }
-    ensures { Gives b.old b.new result (MarkStands m.now to) }
+    ensures code { GivesWithin b.old b.new result (costs 1 0) (MarkStands m.now to) }
+    ensures enters { EntersIf (λ here. IsMarked here (mark_of here.types m.now)) b.old b.new result }
 {
     let predicate = pure(b.alloc, b.site, &m.predicate)?;
     let bound = pures(b.alloc, b.site, m.bound.as_slice())?;
@@ -78,7 +82,7 @@ pub fn mark(b: &mut Builder, m: &Mark, to: u32) -> Result<u32, AllocError>
 // Marks, one behind the other.
 fn marks(b: &mut Builder, all: &[Mark], to: u32) -> Result<u32, AllocError>
     requires { HasPoint b.old to }
-    ensures { Gives b.old b.new result (MarksStand all.now to) }
+    ensures { GivesWithin b.old b.new result (marks_cost all.now) (MarksStand all.now to) }
 {
     let mut from = to;
     'marks: for at in (0..all.len()).rev() {
@@ -98,7 +102,7 @@ pub fn marked(
     to: u32,
 ) -> Result<u32, AllocError>
     requires { HasPoint b.old to }
-    ensures { Gives b.old b.new result (HasValue (λ types. e.Marked Void (marks_in types all.now) (value_of types v.now)) fate register to) }
+    ensures { GivesValue b.old b.new result fate (λ types. e.Marked Void (marks_in types all.now) (value_of types v.now)) register to }
 {
     let behind = value(b, fate.of_last(), v, register, to)?;
     marks(b, all, behind)
@@ -116,7 +120,7 @@ pub fn marked_test(
 ) -> Result<u32, AllocError>
     requires on { HasPoint b.old on }
     requires off { HasPoint b.old off }
-    ensures { Gives b.old b.new result (HasTest (λ types. e.Marked Void (marks_in types all.now) (value_of types v.now)) register on off) }
+    ensures { GivesTest b.old b.new result (λ types. e.Marked Void (marks_in types all.now) (value_of types v.now)) register on off }
 {
     let behind = test(b, v, register, on, off)?;
     marks(b, all, behind)
@@ -133,7 +137,7 @@ pub fn decided(
     to: u32,
 ) -> Result<u32, AllocError>
     requires { HasPoint b.old to }
-    ensures { Gives b.old b.new result (HasPlain (λ types. e.Decide Void (value_of types operand.now) when_true when_false) register to) }
+    ensures { GivesPlain b.old b.new result (λ types. e.Decide Void (value_of types operand.now) when_true when_false) register to }
 {
     let on = b.truth(register, true, to)?;
     let off = b.truth(register, false, to)?;
@@ -153,7 +157,7 @@ pub fn decided_test(
 ) -> Result<u32, AllocError>
     requires on { HasPoint b.old on }
     requires off { HasPoint b.old off }
-    ensures { Gives b.old b.new result (HasTest (λ types. e.Decide Void (value_of types operand.now) when_true when_false) register on off) }
+    ensures { GivesTest b.old b.new result (λ types. e.Decide Void (value_of types operand.now) when_true when_false) register on off }
 {
     let marked_on = b.both_marks(when_true, when_false, true, on)?;
     let marked_off = b.both_marks(when_true, when_false, false, off)?;
@@ -171,7 +175,7 @@ pub fn after(
     to: u32,
 ) -> Result<u32, AllocError>
     requires { HasPoint b.old to }
-    ensures { Gives b.old b.new result (HasValue (λ types. e.After Void (value_of types operand.now) id) fate register to) }
+    ensures { GivesValue b.old b.new result fate (λ types. e.After Void (value_of types operand.now) id) register to }
 {
     let marked = b.fixed_mark(id, true, to)?;
     value(b, fate.of_last(), operand, register, marked)

@@ -5,8 +5,8 @@ ghost use Rattle.lt_tree.specs.Typing.Types.{CType, Void};
 ghost use Rattle.lt_tree.specs.Typing.TypeRows.{type_in};
 ghost use Rattle.lt_tree.specs.Typing.ValueView.{value_of, place_of, conversion_of, side_of};
 ghost use Rattle.lt_tree.specs.Typing.TypedTree as e;
-ghost use Rattle.lt_emit.specs.Emission.{Gives, HasPoint};
-ghost use Rattle.lt_emit.specs.Stands.{HasValue, HasPlain, HasPlace};
+ghost use Rattle.lt_emit.specs.Emission.{HasPoint};
+ghost use Rattle.lt_emit.specs.Stands.{GivesValue, GivesPlain, GivesPlace};
 
 use crate::builder::Builder;
 use crate::expression::{operands, place, value};
@@ -29,7 +29,7 @@ pub fn conversion(
     to: u32,
 ) -> Result<u32, AllocError>
     requires { HasPoint b.old to }
-    ensures { Gives b.old b.new result (HasValue (λ types. e.Convert (conversion_of how) (type_in types ty) (value_of types operand.now)) fate register to) }
+    ensures { GivesValue b.old b.new result fate (λ types. e.Convert (conversion_of how) (type_in types ty) (value_of types operand.now)) register to }
 {
     if how == Conversion::ToVoid {
         let dropped = b.replaced(register, Content::Unset, to)?;
@@ -52,7 +52,7 @@ pub fn minus(
     to: u32,
 ) -> Result<u32, AllocError>
     requires { HasPoint b.old to }
-    ensures { Gives b.old b.new result (HasPlain (λ types. e.Minus (type_in types ty) (value_of types operand.now)) register to) }
+    ensures { GivesPlain b.old b.new result (λ types. e.Minus (type_in types ty) (value_of types operand.now)) register to }
 {
     room(register)?;
     let negated = b.negated(ty, register, to)?;
@@ -69,7 +69,7 @@ pub fn complement(
     to: u32,
 ) -> Result<u32, AllocError>
     requires { HasPoint b.old to }
-    ensures { Gives b.old b.new result (HasPlain (λ types. e.Complement (type_in types ty) (value_of types operand.now)) register to) }
+    ensures { GivesPlain b.old b.new result (λ types. e.Complement (type_in types ty) (value_of types operand.now)) register to }
 {
     room(register)?;
     let complemented = b.complemented(ty, register, to)?;
@@ -89,7 +89,7 @@ pub fn movement(
     to: u32,
 ) -> Result<u32, AllocError>
     requires { HasPoint b.old to }
-    ensures { Gives b.old b.new result (HasPlain (λ types. e.Move Void op size (side_of side) (value_of types left.now) (value_of types right.now)) register to) }
+    ensures { GivesPlain b.old b.new result (λ types. e.Move Void op size (side_of side) (value_of types left.now) (value_of types right.now)) register to }
 {
     room(register)?;
     let moved = b.moved(op, size, side, register, to)?;
@@ -107,7 +107,7 @@ pub fn distance(
     to: u32,
 ) -> Result<u32, AllocError>
     requires { HasPoint b.old to }
-    ensures { Gives b.old b.new result (HasPlain (λ types. e.Distance Void size (value_of types left.now) (value_of types right.now)) register to) }
+    ensures { GivesPlain b.old b.new result (λ types. e.Distance Void size (value_of types left.now) (value_of types right.now)) register to }
 {
     room(register)?;
     let subtracted = b.emit(Node::Subtract {
@@ -131,7 +131,7 @@ pub fn comparison(
     to: u32,
 ) -> Result<u32, AllocError>
     requires { HasPoint b.old to }
-    ensures { Gives b.old b.new result (HasPlain (λ types. e.Compare Void op (value_of types left.now) (value_of types right.now)) register to) }
+    ensures { GivesPlain b.old b.new result (λ types. e.Compare Void op (value_of types left.now) (value_of types right.now)) register to }
 {
     room(register)?;
     let compared = b.emit(Node::Compare {
@@ -156,7 +156,7 @@ pub fn element(
     to: u32,
 ) -> Result<u32, AllocError>
     requires { HasPoint b.old to }
-    ensures { Gives b.old b.new result (HasPlace (λ types. e.Element Void size (side_of side) (value_of types left.now) (value_of types right.now)) register to) }
+    ensures { GivesPlace b.old b.new result (λ types. e.Element Void size (side_of side) (value_of types left.now) (value_of types right.now)) register to }
 {
     room(register)?;
     let moved = b.moved(Op::Add, size, side, register, to)?;
@@ -173,7 +173,7 @@ pub fn part(
     to: u32,
 ) -> Result<u32, AllocError>
     requires { HasPoint b.old to }
-    ensures { Gives b.old b.new result (HasPlace (λ types. e.Part Void offset (place_of types whole.now)) register to) }
+    ensures { GivesPlace b.old b.new result (λ types. e.Part Void offset (place_of types whole.now)) register to }
 {
     let member = b.member(register, offset, to)?;
     place(b, whole, register, member)

@@ -1,8 +1,9 @@
 // The ends of objects at the exits of what follows their declarations, C11 6.2.4.
 
-ghost use Rattle.std.specs.Prelude.{◌≡◌, ◌<◌, ℕ, length, slice_get};
+ghost use Rattle.std.specs.Prelude.{◌≡◌, ◌*◌, ◌<◌, ℕ, IfOk, length, slice_get};
+ghost use Rattle.lt_code.specs.Costs.{alone};
 ghost use Rattle.lt_emit.specs.Emission.{Adds, HasPoint};
-ghost use Rattle.lt_lower.specs.Stands.{HasExits, GivesExits, EndsStand, AllEnd, EndsBehind, GivesAlong};
+ghost use Rattle.lt_lower.specs.Stands.{HasExits, GivesExits, declared_by, EndsStand, AllEnd, EndsBehind, GivesAlong};
 
 use crate::flow::Exits;
 use lt_emit::Builder;
@@ -12,7 +13,7 @@ use std::alloc::AllocError;
 /// An object ends at each exit; the exits in front of that.
 pub fn ends(b: &mut Builder, object: u32, outer: Exits) -> Result<Exits, AllocError>
     requires { HasExits b.old outer }
-    ensures { GivesExits b.old b.new result (λ inner. EndsStand object inner outer) }
+    ensures { GivesExits b.old b.new result (alone 5) (λ inner. EndsStand object inner outer) }
 {
     let next = b.end(object, outer.next)?;
     let back = b.end(object, outer.back)?;
@@ -31,7 +32,7 @@ pub fn ends(b: &mut Builder, object: u32, outer: Exits) -> Result<Exits, AllocEr
 /// Objects end at each exit, the last declared first.
 pub fn all_end(b: &mut Builder, its: &[Local], outer: Exits) -> Result<Exits, AllocError>
     requires { HasExits b.old outer }
-    ensures { GivesExits b.old b.new result (λ inner. AllEnd its.now inner outer) }
+    ensures { GivesExits b.old b.new result (alone (5 * length its.now)) (λ inner. AllEnd its.now inner outer) }
 {
     let mut inner = outer;
     'objects: for it in its {
@@ -58,7 +59,8 @@ pub fn ends_along(b: &mut Builder, its: &[Item], x: Exits) -> Result<Vec<Exits>,
 // The exits of the items behind an item.
 fn ends_behind(b: &mut Builder, it: &Item, outer: Exits) -> Result<Exits, AllocError>
     requires { HasExits b.old outer }
-    ensures { GivesExits b.old b.new result (λ inner. EndsBehind it.now inner outer) }
+    ensures exits { GivesExits b.old b.new result (alone (5 * declared_by it.now)) (λ inner. EndsBehind it.now inner outer) }
+    ensures unchanged { declared_by it.now ≡ 0 → IfOk result (λ inner. inner ≡ outer) }
 {
     match it {
         Item::Local(local) => ends(b, local.object, outer),

@@ -4,7 +4,7 @@ ghost use Rattle.std.specs.Prelude.{◌≡◌, IfOk, OnOk, map};
 ghost use Rattle.std.specs.Ordering.{int_cmp};
 ghost use Rattle.std.specs.BTreeMap.{IsOrdered};
 ghost use Rattle.lt_ir.specs.Tables.{IsTableOf};
-ghost use Rattle.lt_emit.specs.Emission.{Gives, HasPoint};
+ghost use Rattle.lt_emit.specs.Emission.{GivesWithin, costs, HasPoint};
 ghost use Rattle.lt_lower.specs.Stands.{HasArms, PutsLabels, ChoiceStands, FindsArms, entry_arm};
 
 use crate::flow::Entered;
@@ -35,7 +35,7 @@ pub fn put_labels(all: &mut Entered, labels: &[Label]) -> Result<(), AllocError>
 pub fn choice(b: &mut Builder, arms: Vec<Arm>, default: u32) -> Result<u32, AllocError>
     requires arms { HasArms b.old arms.items }
     requires default { HasPoint b.old default }
-    ensures { Gives b.old b.new result (ChoiceStands arms.items default) }
+    ensures { GivesWithin b.old b.new result (costs 1 1) (ChoiceStands arms.items default) }
 {
     let table = by_value(b.alloc, arms.as_slice())?;
     b.emit(Node::Switch {

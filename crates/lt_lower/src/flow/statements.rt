@@ -3,9 +3,11 @@
 ghost use Rattle.std.specs.Prelude.{List, OnOk};
 ghost use Rattle.lt_tree.specs.Typing.TypedTree as e;
 ghost use Rattle.lt_tree.specs.Typing.ValueView.{value_of};
-ghost use Rattle.lt_tree.specs.Typing.StatementView.{statement_of, for_start_of, maybe_of, cases_in};
-ghost use Rattle.lt_emit.specs.Emission.{Gives, HasPoint};
-ghost use Rattle.lt_lower.specs.Stands.{HasExits, HasFlow, FlowStands, TurnsStand, ItemsStand, ItemStands, GivesCases, PutsCase};
+ghost use Rattle.lt_tree.specs.Typing.StatementView.{statement_of, for_start_of, maybe_of, items_in, cases_in};
+ghost use Rattle.lt_emit.specs.Emission.{GivesWithin, Enters, HasPoint};
+ghost use Rattle.lt_lower.specs.Known.{IsKnownStatement, AreKnownItems};
+ghost use Rattle.lt_lower.specs.Opening.{OpensIf, ItemOpens};
+ghost use Rattle.lt_lower.specs.Stands.{HasExits, GivesFlow, turns_cost, items_cost, item_cost, TurnsStand, ItemsStand, ItemStands, GivesCases, PutsCase};
 
 use crate::flow::ends::{ends_along, exits_at};
 use crate::flow::labels::{choice, put_labels};
@@ -21,7 +23,8 @@ use std::alloc::AllocError;
 #[cycle(flow)]
 pub fn flows(b: &mut Builder, s: &Statement, x: Exits) -> Result<u32, AllocError>
     requires { HasExits b.old x }
-    ensures { Gives b.old b.new result (FlowStands s.now x) }
+    ensures code { GivesFlow b.old b.new result (λ types. statement_of types s.now) x }
+    ensures enters { OpensIf (λ here. IsKnownStatement here (statement_of here.types s.now)) b.old b.new x.next result }
 {
     match s {
         Statement::Compound(its) => items(b, its.as_slice(), x),
@@ -43,7 +46,8 @@ pub fn flows(b: &mut Builder, s: &Statement, x: Exits) -> Result<u32, AllocError
 #[cycle(flow)]
 fn if_alone(b: &mut Builder, v: &Value, body: &Statement, x: Exits) -> Result<u32, AllocError>
     requires { HasExits b.old x }
-    ensures { Gives b.old b.new result (HasFlow (λ types. e.If (value_of types v.now) (statement_of types body.now)) x) }
+    ensures code { GivesFlow b.old b.new result (λ types. e.If (value_of types v.now) (statement_of types body.now)) x }
+    ensures enters { Enters b.old b.new result }
 {
     let on = flows(b, body, x)?;
     let test = full_test(b, v, 0, on, x.next)?;
@@ -60,7 +64,8 @@ fn if_else(
     x: Exits,
 ) -> Result<u32, AllocError>
     requires { HasExits b.old x }
-    ensures { Gives b.old b.new result (HasFlow (λ types. e.IfElse (value_of types v.now) (statement_of types body.now) (statement_of types other.now)) x) }
+    ensures code { GivesFlow b.old b.new result (λ types. e.IfElse (value_of types v.now) (statement_of types body.now) (statement_of types other.now)) x }
+    ensures enters { Enters b.old b.new result }
 {
     let off = flows(b, other, x)?;
     let on = flows(b, body, x)?;
@@ -78,7 +83,7 @@ fn turns(
     x: Exits,
 ) -> Result<u32, AllocError>
     requires { HasExits b.old x }
-    ensures { Gives b.old b.new result (TurnsStand test.entry step.entry body.now x) }
+    ensures { GivesWithin b.old b.new result (turns_cost test.entry step.entry body.now) (TurnsStand test.entry step.entry body.now x) }
 {
     let head = b.reserve()?;
     let stepped = optional(b, step, head)?;
@@ -98,7 +103,8 @@ fn turns(
 #[cycle(flow)]
 fn while_loop(b: &mut Builder, v: &Value, body: &Statement, x: Exits) -> Result<u32, AllocError>
     requires { HasExits b.old x }
-    ensures { Gives b.old b.new result (HasFlow (λ types. e.While (value_of types v.now) (statement_of types body.now)) x) }
+    ensures code { GivesFlow b.old b.new result (λ types. e.While (value_of types v.now) (statement_of types body.now)) x }
+    ensures enters { Enters b.old b.new result }
 {
     let head = turns(b, Some(v), None, body, x)?;
     tick(b, head)
@@ -108,7 +114,8 @@ fn while_loop(b: &mut Builder, v: &Value, body: &Statement, x: Exits) -> Result<
 #[cycle(flow)]
 fn do_loop(b: &mut Builder, body: &Statement, v: &Value, x: Exits) -> Result<u32, AllocError>
     requires { HasExits b.old x }
-    ensures { Gives b.old b.new result (HasFlow (λ types. e.Do (statement_of types body.now) (value_of types v.now)) x) }
+    ensures code { GivesFlow b.old b.new result (λ types. e.Do (statement_of types body.now) (value_of types v.now)) x }
+    ensures enters { Enters b.old b.new result }
 {
     let again = b.reserve()?;
     let inside = Exits {
@@ -134,7 +141,8 @@ fn for_loop(
     x: Exits,
 ) -> Result<u32, AllocError>
     requires { HasExits b.old x }
-    ensures { Gives b.old b.new result (HasFlow (λ types. e.For (for_start_of types start.now) (maybe_of types test.now) (maybe_of types step.now) (statement_of types body.now)) x) }
+    ensures code { GivesFlow b.old b.new result (λ types. e.For (for_start_of types start.now) (maybe_of types test.now) (maybe_of types step.now) (statement_of types body.now)) x }
+    ensures enters { Enters b.old b.new result }
 {
     let inside = start_ends(b, start, x)?;
     let head = turns(b, given(test), given(step), body, inside)?;
@@ -146,7 +154,8 @@ fn for_loop(
 #[cycle(flow)]
 pub fn items(b: &mut Builder, its: &[Item], x: Exits) -> Result<u32, AllocError>
     requires { HasExits b.old x }
-    ensures { Gives b.old b.new result (ItemsStand its.now x) }
+    ensures code { GivesWithin b.old b.new result (items_cost its.now) (ItemsStand its.now x) }
+    ensures enters { OpensIf (λ here. AreKnownItems here (items_in here.types its.now)) b.old b.new x.next result }
 {
     let exits = ends_along(b, its, x)?;
     let mut from = exits[its.len()].next;
@@ -162,7 +171,8 @@ pub fn items(b: &mut Builder, its: &[Item], x: Exits) -> Result<u32, AllocError>
 fn item(b: &mut Builder, it: &Item, x: Exits, to: u32) -> Result<u32, AllocError>
     requires exits { HasExits b.old x }
     requires behind { HasPoint b.old to }
-    ensures { Gives b.old b.new result (ItemStands it.now x to) }
+    ensures code { GivesWithin b.old b.new result (item_cost it.now) (ItemStands it.now x to) }
+    ensures enters { ItemOpens it.now b.old b.new to result }
 {
     match it {
         Item::Local(local) => opening(b, local, to),
@@ -175,7 +185,8 @@ fn item(b: &mut Builder, it: &Item, x: Exits, to: u32) -> Result<u32, AllocError
 #[cycle(flow)]
 fn switch(b: &mut Builder, v: &Value, its: &[Case], x: Exits) -> Result<u32, AllocError>
     requires { HasExits b.old x }
-    ensures { Gives b.old b.new result (HasFlow (λ types. e.Switch (value_of types v.now) (cases_in types its.now)) x) }
+    ensures code { GivesFlow b.old b.new result (λ types. e.Switch (value_of types v.now) (cases_in types its.now)) x }
+    ensures enters { Enters b.old b.new result }
 {
     let inside = Exits {
         breaks: x.next,

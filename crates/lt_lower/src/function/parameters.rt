@@ -1,8 +1,8 @@
 // Code of parameters, C11 6.9.1: they are sealed that are declared `const`, and end where the function is left.
 
 ghost use Rattle.std.specs.Prelude.{◌≡◌, ◌<◌, IfOk, length};
-ghost use Rattle.lt_emit.specs.Emission.{Gives, HasPoint};
-ghost use Rattle.lt_lower.specs.Functions.{ParametersEnd, ParametersSealed, ParameterSealed};
+ghost use Rattle.lt_emit.specs.Emission.{GivesWithin, costs, HasPoint};
+ghost use Rattle.lt_lower.specs.Functions.{Continues, parameters_cost, ParametersEnd, ParametersSealed, ParameterSealed};
 
 use lt_emit::Builder;
 use lt_ir::{Node, Variable};
@@ -11,7 +11,8 @@ use std::alloc::AllocError;
 /// The parameters end, the last first.
 pub fn parameters_end(b: &mut Builder, to: u32) -> Result<u32, AllocError>
     requires { HasPoint b.old to }
-    ensures { Gives b.old b.new result (ParametersEnd to) }
+    ensures code { GivesWithin b.old b.new result (parameters_cost) (ParametersEnd to) }
+    ensures enters { Continues b.old b.new to result }
 {
     let parameters = b.site.function.parameters.as_slice();
     let mut from = to;
@@ -28,7 +29,8 @@ pub fn parameters_end(b: &mut Builder, to: u32) -> Result<u32, AllocError>
 /// The parameters are sealed that are declared `const`.
 pub fn parameters_sealed(b: &mut Builder, to: u32) -> Result<u32, AllocError>
     requires { HasPoint b.old to }
-    ensures { Gives b.old b.new result (ParametersSealed to) }
+    ensures code { GivesWithin b.old b.new result (parameters_cost) (ParametersSealed to) }
+    ensures enters { Continues b.old b.new to result }
 {
     let parameters = b.site.function.parameters.as_slice();
     let mut from = to;
@@ -42,7 +44,8 @@ pub fn parameters_sealed(b: &mut Builder, to: u32) -> Result<u32, AllocError>
 fn parameter_sealed(b: &mut Builder, at: usize, number: u32, to: u32) -> Result<u32, AllocError>
     requires point { HasPoint b.old to }
     requires parameter { at < length b.old.site.now.function.now.parameters.items }
-    ensures { Gives b.old b.new result (ParameterSealed at number to) }
+    ensures code { GivesWithin b.old b.new result (costs 1 0) (ParameterSealed at number to) }
+    ensures enters { Continues b.old b.new to result }
 {
     if !b.site.tables.is_sealed(number) {
         return Ok(to);

@@ -13,41 +13,40 @@ use Rattle.lt_tree.specs.declared.typed.tree.Conversion.TheVariants as how
 use Rattle.lt_emit.specs.Fate.{fate_of}
 use Rattle.lt_emit.specs.Emission.{site_in}
 use Rattle.lt_emit.specs.Operators.{changed}
-use Rattle.lt_emit.proofs.Adding.{last, last2, last3, last4, also}
-use Rattle.lt_emit.proofs.Changing.{update_is, update_knows, step_is, step_knows}
+use Rattle.lt_emit.proofs.Spent.{then1, then2, then3, then4, then5, within, none_within, one_more_within, all_within, as_given, fitting}
+use Rattle.lt_emit.proofs.Changing.{update_is, update_knows, update_fits, step_is, step_knows, step_fits, kept_below}
 use Rattle.lt_emit.proofs.Conversions.{converted_is, made_here, left_out, not_void}
 use Rattle.lt_emit.specs.Known.{named_in}
-use Rattle.lt_emit.proofs.Arms.{plain_arm, value_arm, fated, place_arm, test_arm, plain_tested}
+use Rattle.lt_emit.proofs.Arms.{plain_arm, value_arm, fated, place_arm, test_arm, plain_tested, plain_nodes}
 use Rattle.lt_emit.specs.Stands.{HasTest}
-use Rattle.lt_emit.specs.Calling.{ArgumentsStand}
-use Rattle.lt_emit.specs.Connecting.{PartsStand, parts_from}
+use Rattle.lt_emit.specs.Calling.{ArgumentsStand, arguments_cost}
+use Rattle.lt_emit.specs.Connecting.{PartsStand, parts_cost, parts_from}
 use Rattle.lt_tree.specs.declared.expression.LogicalOp.{LogicalOp}
-use Rattle.lt_emit.proofs.Arguments.{arguments_counted, arguments_all, values_more, call_stands}
-use Rattle.lt_emit.proofs.Backwards.{none_left, one_more, all_of_them, last5}
+use Rattle.lt_emit.proofs.Arguments.{arguments_counted, arguments_nodes, arguments_behind, arguments_all, values_more, call_stands}
 use Rattle.lt_emit.proofs.CommaParts.{last_is, part_stands, comma_stands}
 use Rattle.lt_emit.proofs.Connected.{connected_and, connected_or}
 use Rattle.lt_emit.proofs.expression.+expression.Goals as goal
 
 pub load-returns : goal.load-returns
 load-returns t c =
-    last c.in_ok-read.ensures.code.adds c.place.ensures (λ from here it p q known fate. (p.0, (_, q known, p.1)))
+    then1 c.in_ok-read.ensures c.place.ensures (λ from here it p q known fate. (p.0, (_, q known, p.1))) (λ here. grind fitting)
 
 pub arithmetic-returns : goal.arithmetic-returns
 arithmetic-returns t c =
-    last c.in_ok-applied.ensures.code.adds c.operands.ensures
-    (λ from here it p q known fate. (p.1.2, (_, q known.0 known.1, p.0)))
+    then1 c.in_ok-applied.ensures.code c.operands.ensures
+    (λ from here it p q known fate. (p.1.2, (_, q known.0 known.1, p.0))) (λ here. grind fitting)
 
 pub operands-returns : goal.operands-returns
 operands-returns t c =
-    last2 c.in_ok-joined.ensures.code.adds c.in_ok-second.ensures.code.adds c.value-2.ensures
-    (λ from here it p q r left right. (_, r left, (_, q right, p)))
+    then2 c.in_ok-joined.ensures c.in_ok-second.ensures c.value-2.ensures
+    (λ from here it p q r left right. (_, r left, (_, q right, p))) (λ here. grind fitting)
 
 pub pointed-returns : goal.pointed-returns
 pointed-returns t c =
-    last c.in_ok-converted.ensures.code.adds c.value.ensures (λ from here it p q known. (p.0, (_, q known, p.1)))
+    then1 c.in_ok-converted.ensures c.value.ensures (λ from here it p q known. (p.0, (_, q known, p.1))) (λ here. grind fitting)
 
 pub negated_test-returns : goal.negated_test-returns
-negated_test-returns t c = also c.test.ensures (λ from here it p known. p known)
+negated_test-returns t c = within c.test.ensures (λ from here it p known. p known) (λ here. grind fitting)
 
 pub value-returns-in-Constant : goal.value-returns-in-Constant
 value-returns-in-Constant t c =
@@ -55,9 +54,9 @@ value-returns-in-Constant t c =
     plain_arm c.args.v.now c.args.fate c.args.register c.args.to
     (λ types. e.Constant (type_in types c.in-Constant.field-0) c.in-Constant.number)
     (λ types. ap (value_of types) c.in-Constant.is)
-    (also c.constant.ensures (λ from here it p known fate.
+    (within c.constant.ensures (λ from here it p known fate.
     let Is : ℤ → Type 0 = λ z. value_code (site_in here it) fate (e.Constant Void z) c.args.register (it.point from) (it.point c.args.to) in
-    subst Is (to_z-of_z w128 _ fits) p))
+    subst Is (to_z-of_z w128 _ fits) p) (λ here. grind fitting))
 
 pub value-returns-in-Load : goal.value-returns-in-Load
 value-returns-in-Load t c =
@@ -97,7 +96,7 @@ place-returns-in-Object t c =
     place_arm c.args.p.now c.args.register c.args.to
     (λ types. e.Object (type_in types c.in-Object.field-0) c.in-Object.number)
     (λ types. ap (place_of types) c.in-Object.is)
-    (also c.address.ensures (λ from here it p known. p))
+    (within c.address.ensures (λ from here it p known. p) (λ here. grind fitting))
 
 pub place-returns-in-Pointed : goal.place-returns-in-Pointed
 place-returns-in-Pointed t c =
@@ -115,96 +114,98 @@ place-returns-in-Held t c =
 
 pub negation-returns : goal.negation-returns
 negation-returns t c =
-    last2 c.in_ok-on.ensures.code.adds c.in_ok-off.ensures.code.adds c.test.ensures
-    (λ from here it p q r known fate. (p.0, (_, _, r known, p.1, q.1)))
+    then2 c.in_ok-on.ensures c.in_ok-off.ensures c.test.ensures
+    (λ from here it p q r known fate. (p.0, (_, _, r known, p.1, q.1))) (λ here. grind fitting)
 
 pub plain_test-returns : goal.plain_test-returns
 plain_test-returns t c =
-    last c.in_ok-tested.ensures.code.adds c.value.ensures
+    then1 c.in_ok-tested.ensures c.value.ensures
     (λ from here it p q known. plain_tested (site_in here it) (it.point from) _ (c.requires.plain here.types) (q known) p.0)
+    (λ here. grind (fitting, plain_nodes (value_of here.types c.args.v.now) (c.requires.plain here.types)))
 
 -- ---- conversions and operators
 
 pub operators::conversion-returns-in_ok-dropped : goal.operators::conversion-returns-in_ok-dropped
 operators::conversion-returns-in_ok-dropped t c =
     let is : c.args.how ≡ how.ToVoid = search rules in
-    last c.in_ok-dropped.ensures.code.adds c.value.ensures (λ from here it p q known.
+    then1 c.in_ok-dropped.ensures c.value.ensures (λ from here it p q known.
     let Is : Conversion → Type 0 =
     λ how. value_code (site_in here it) (fate_of c.args.fate) (e.Convert (conversion_of how) (type_in here.types c.args.ty)
     (value_of here.types c.args.operand.now)) c.args.register (it.point from) (it.point c.args.to) in
-    subst Is (sym is) (p.0, (_, q known, p.1)))
+    subst Is (sym is) (p.0, (_, q known, p.1))) (λ here. grind fitting)
 
 pub operators::conversion-returns-in_ok-converted : goal.operators::conversion-returns-in_ok-converted
 operators::conversion-returns-in_ok-converted t c =
     let other : c.args.how ≢ how.ToVoid = search rules in
-    last c.in_ok-converted.ensures.code.adds c.value-then-converts.ensures (λ from here it p q known.
+    then1 c.in_ok-converted.ensures c.value-then-converts.ensures (λ from here it p q known.
     converted_is (site_in here it) (fate_of c.args.fate) (conversion_of c.args.how) _ _ c.args.register _ _ _
     (not_void c.args.how other)
     (fated (site_in here it) _ _ c.args.register _ _ c.inside.ensures (q known))
     (made_here (site_in here it) (fate_of c.args.fate) (conversion_of c.args.how) _ c.args.register _ _
-    (sym c.if-converts.ensures) p))
+    (sym c.if-converts.ensures) p)) (λ here. grind fitting)
 
 pub operators::conversion-returns-else-converts : goal.operators::conversion-returns-else-converts
 operators::conversion-returns-else-converts t c =
     let other : c.args.how ≢ how.ToVoid = search rules in
-    also c.value-else-converts.ensures (λ from here it q known.
+    within c.value-else-converts.ensures (λ from here it q known.
     converted_is (site_in here it) (fate_of c.args.fate) (conversion_of c.args.how) _ _ c.args.register _ _ _
     (not_void c.args.how other)
     (fated (site_in here it) _ _ c.args.register _ _ c.inside-else-converts.ensures (q known))
     (left_out (site_in here it) (fate_of c.args.fate) (conversion_of c.args.how) _ c.args.register _
-    (sym c.if-converts.ensures)))
+    (sym c.if-converts.ensures))) (λ here. grind fitting)
 
 pub operators::minus-returns : goal.operators::minus-returns
 operators::minus-returns t c =
-    last c.in_ok-negated.ensures.code.adds c.value.ensures (λ from here it p q known fate. (p.0, (_, q known, p.1)))
+    then1 c.in_ok-negated.ensures c.value.ensures (λ from here it p q known fate. (p.0, (_, q known, p.1))) (λ here. grind fitting)
 
 pub operators::complement-returns : goal.operators::complement-returns
 operators::complement-returns t c =
-    last c.in_ok-complemented.ensures.code.adds c.value.ensures (λ from here it p q known fate. (p.0, (_, q known, p.1)))
+    then1 c.in_ok-complemented.ensures c.value.ensures (λ from here it p q known fate. (p.0, (_, q known, p.1))) (λ here. grind fitting)
 
 pub operators::movement-returns : goal.operators::movement-returns
 operators::movement-returns t c =
-    last c.in_ok-moved.ensures.code.adds c.operands.ensures
-    (λ from here it p q known fate. (p.0, (_, q known.0 known.1, p.1)))
+    then1 c.in_ok-moved.ensures c.operands.ensures
+    (λ from here it p q known fate. (p.0, (_, q known.0 known.1, p.1))) (λ here. grind fitting)
 
 pub operators::distance-returns : goal.operators::distance-returns
 operators::distance-returns t c =
-    last c.in_ok-subtracted.ensures.code.adds c.operands.ensures
-    (λ from here it p q known fate. (p.1.2, (_, q known.0 known.1, p.0)))
+    then1 c.in_ok-subtracted.ensures.code c.operands.ensures
+    (λ from here it p q known fate. (p.1.2, (_, q known.0 known.1, p.0))) (λ here. grind fitting)
 
 pub operators::comparison-returns : goal.operators::comparison-returns
 operators::comparison-returns t c =
-    last c.in_ok-compared.ensures.code.adds c.operands.ensures
-    (λ from here it p q known fate. (p.1.2, (_, q known.0 known.1, p.0)))
+    then1 c.in_ok-compared.ensures.code c.operands.ensures
+    (λ from here it p q known fate. (p.1.2, (_, q known.0 known.1, p.0))) (λ here. grind fitting)
 
 pub operators::element-returns : goal.operators::element-returns
 operators::element-returns t c =
-    last c.in_ok-moved.ensures.code.adds c.operands.ensures
-    (λ from here it p q known. (p.0, (_, q known.0 known.1, p.1)))
+    then1 c.in_ok-moved.ensures c.operands.ensures
+    (λ from here it p q known. (p.0, (_, q known.0 known.1, p.1))) (λ here. grind fitting)
 
 pub operators::part-returns : goal.operators::part-returns
 operators::part-returns t c =
-    last c.in_ok-member.ensures.code.adds c.place.ensures (λ from here it p q known. (p.0, (_, q known, p.1)))
+    then1 c.in_ok-member.ensures c.place.ensures (λ from here it p q known. (p.0, (_, q known, p.1))) (λ here. grind fitting)
 
 -- ---- assignments
 
 pub assigning::assign-returns : goal.assigning::assign-returns
 assigning::assign-returns t c =
-    last2 c.in_ok-stored.ensures.code.adds c.in_ok-right.ensures.code.adds c.place.ensures
-    (λ from here it p q r known fate. (p.0, (_, r known.0, (_, q known.1, p.1))))
+    then2 c.in_ok-stored.ensures c.in_ok-right.ensures c.place.ensures
+    (λ from here it p q r known fate. (p.0, (_, r known.0, (_, q known.1, p.1)))) (λ here. grind fitting)
 
 pub assigning::update-returns : goal.assigning::update-returns
 assigning::update-returns t c =
-    last4 c.in_ok-changed.ensures.code.adds c.in_ok-joined.ensures.code.adds c.in_ok-right.ensures.code.adds
-    c.in_ok-read.ensures.code.adds c.place.ensures
+    then4 c.in_ok-changed.ensures c.in_ok-joined.ensures c.in_ok-right.ensures
+    c.in_ok-read.ensures c.place.ensures
     (λ from here it p j q l r known fate.
     let both = update_knows (named_in here) c.args.change _ _ _ known in
     update_is (site_in here it) fate c.args.change _ _ _ c.args.register _ _
     (p.0, (_, (_, r both.0, l.1), (_, (_, q both.1, j), p.1))))
+    (λ here. update_fits here.program.functions c.args.change _ _ _ c.args.register _ (grind fitting))
 
 pub assigning::step-returns : goal.assigning::step-returns
 assigning::step-returns t c =
-    last3 c.in_ok-changed.ensures.code.adds c.in_ok-one.ensures.code.adds c.in_ok-read.ensures.code.adds c.place.ensures
+    then3 c.in_ok-changed.ensures c.in_ok-one.ensures c.in_ok-read.ensures c.place.ensures
     (λ from here it p o l r known fate.
     let Is : ℕ → Type 0 =
     λ gives. changed c.args.change (site_in here it) (type_in here.types c.args.ty) c.args.register gives
@@ -212,6 +213,8 @@ assigning::step-returns t c =
     let new = subst Is c.kept_in-gives.ensures p in
     step_is (site_in here it) fate c.args.change _ _ _ c.args.register _ _
     (new.0, (_, (_, r (step_knows (named_in here) c.args.change _ _ _ known), l.1), (_, o.1, new.1))))
+    (λ here. step_fits here.program.functions c.args.change _ _ _ c.args.register _
+    (grind (fitting, c.kept_in-gives.ensures, kept_below (when_of c.args.when) (c.args.register + 1) (c.args.register + 3))))
 
 -- ---- what is done in each case
 
@@ -221,7 +224,7 @@ value-returns-in-Whole t c =
     (λ types. e.Whole (type_in types c.in-Whole.field-0) (place_of types c.deref-in-Whole.result.now))
     (λ types. ap (value_of types) c.in-Whole.is
     ∙ ap (λ p. e.Whole (type_in types c.in-Whole.field-0) (place_of types p)) (sym c.deref-in-Whole.ensures))
-    (also c.place.ensures (λ from here it p known fate. p known))
+    (within c.place.ensures (λ from here it p known fate. p known) (λ here. grind fitting))
 
 pub value-returns-in-Decay : goal.value-returns-in-Decay
 value-returns-in-Decay t c =
@@ -229,7 +232,7 @@ value-returns-in-Decay t c =
     (λ types. e.Decay (type_in types c.in-Decay.field-0) (place_of types c.deref-in-Decay.result.now))
     (λ types. ap (value_of types) c.in-Decay.is
     ∙ ap (λ p. e.Decay (type_in types c.in-Decay.field-0) (place_of types p)) (sym c.deref-in-Decay.ensures))
-    (also c.place-in-Decay.ensures (λ from here it p known fate. p known))
+    (within c.place-in-Decay.ensures (λ from here it p known fate. p known) (λ here. grind fitting))
 
 pub value-returns-in-AddressOf : goal.value-returns-in-AddressOf
 value-returns-in-AddressOf t c =
@@ -237,7 +240,7 @@ value-returns-in-AddressOf t c =
     (λ types. e.AddressOf (type_in types c.in-AddressOf.field-0) (place_of types c.deref-in-AddressOf.result.now))
     (λ types. ap (value_of types) c.in-AddressOf.is
     ∙ ap (λ p. e.AddressOf (type_in types c.in-AddressOf.field-0) (place_of types p)) (sym c.deref-in-AddressOf.ensures))
-    (also c.place-in-AddressOf.ensures (λ from here it p known fate. p known))
+    (within c.place-in-AddressOf.ensures (λ from here it p known fate. p known) (λ here. grind fitting))
 
 pub value-returns-in-Convert : goal.value-returns-in-Convert
 value-returns-in-Convert t c =
@@ -354,8 +357,8 @@ place-returns-in-Part t c =
 
 pub marking::after-returns : goal.marking::after-returns
 marking::after-returns t c =
-    last c.in_ok-marked.ensures.code.adds c.value.ensures (λ from here it p q known.
-    (_, fated (site_in here it) _ _ c.args.register _ _ c.of_last.ensures (q known.0), p known.1))
+    then1 c.in_ok-marked.ensures c.value.ensures (λ from here it p q known.
+    (_, fated (site_in here it) _ _ c.args.register _ _ c.of_last.ensures (q known.0), p known.1)) (λ here. grind fitting)
 
 pub value-returns-in-After : goal.value-returns-in-After
 value-returns-in-After t c =
@@ -369,79 +372,80 @@ value-returns-in-After t c =
 
 pub marking::marked-returns : goal.marking::marked-returns
 marking::marked-returns t c =
-    last c.in_ok-behind.ensures.code.adds c.marks.ensures (λ from here it p q known.
-    (_, q known.0, fated (site_in here it) (value_of here.types c.args.v.now) c.of_last.result _ _ _ c.of_last.ensures (p known.1)))
+    then1 c.in_ok-behind.ensures c.marks.ensures (λ from here it p q known.
+    (_, q known.0, fated (site_in here it) (value_of here.types c.args.v.now) c.of_last.result _ _ _ c.of_last.ensures (p known.1))) (λ here. grind fitting)
 
 pub marking::marked_test-returns : goal.marking::marked_test-returns
 marking::marked_test-returns t c =
-    last c.in_ok-behind.ensures.code.adds c.marks.ensures (λ from here it p q known. (_, q known.0, p known.1))
+    then1 c.in_ok-behind.ensures c.marks.ensures (λ from here it p q known. (_, q known.0, p known.1)) (λ here. grind fitting)
 
 pub marking::decided-returns : goal.marking::decided-returns
 marking::decided-returns t c =
-    last2 c.in_ok-on.ensures.code.adds c.in_ok-off.ensures.code.adds c.decided_test.ensures
-    (λ from here it p q r known fate. (p.0, (_, _, r known, p.1, q.1)))
+    then2 c.in_ok-on.ensures c.in_ok-off.ensures c.decided_test.ensures
+    (λ from here it p q r known fate. (p.0, (_, _, r known, p.1, q.1))) (λ here. grind fitting)
 
 pub marking::decided_test-returns : goal.marking::decided_test-returns
 marking::decided_test-returns t c =
-    last2 c.in_ok-marked_on.ensures.code.adds c.in_ok-marked_off.ensures.code.adds c.test.ensures
-    (λ from here it p q r known. (_, _, r known.0, p known.1 known.2, q known.1 known.2))
+    then2 c.in_ok-marked_on.ensures c.in_ok-marked_off.ensures c.test.ensures
+    (λ from here it p q r known. (_, _, r known.0, p known.1 known.2, q known.1 known.2)) (λ here. grind fitting)
 
 -- ---- `&&`, `||`, `?:` and `,`
 
 pub connecting::connected-returns : goal.connecting::connected-returns
 connecting::connected-returns t c =
-    last2 c.in_ok-on.ensures.code.adds c.in_ok-off.ensures.code.adds c.connected_test.ensures
-    (λ from here it p q r known fate. (p.0, (_, _, r known, p.1, q.1)))
+    then2 c.in_ok-on.ensures c.in_ok-off.ensures c.connected_test.ensures
+    (λ from here it p q r known fate. (p.0, (_, _, r known, p.1, q.1))) (λ here. grind fitting)
 
 pub connecting::connected_test-returns-in-And : goal.connecting::connected_test-returns-in-And
 connecting::connected_test-returns-in-And t c =
-    also c.conjunction.ensures (λ from here it p.
+    within c.conjunction.ensures (λ from here it p.
     let Is : LogicalOp → Type 0 = λ op. HasTest (λ types. e.Logical Void op (value_of types c.args.left.now) (value_of types c.args.right.now))
     c.args.register c.args.on c.args.off from here it in
-    subst Is (sym c.in-And.is) p)
+    subst Is (sym c.in-And.is) p) (λ here. grind fitting)
 
 pub connecting::connected_test-returns-in-Or : goal.connecting::connected_test-returns-in-Or
 connecting::connected_test-returns-in-Or t c =
-    also c.disjunction.ensures (λ from here it p.
+    within c.disjunction.ensures (λ from here it p.
     let Is : LogicalOp → Type 0 = λ op. HasTest (λ types. e.Logical Void op (value_of types c.args.left.now) (value_of types c.args.right.now))
     c.args.register c.args.on c.args.off from here it in
-    subst Is (sym c.in-Or.is) p)
+    subst Is (sym c.in-Or.is) p) (λ here. grind fitting)
 
 pub connecting::conjunction-returns : goal.connecting::conjunction-returns
 connecting::conjunction-returns t c =
-    last2 c.in_ok-further.ensures.code.adds c.in_ok-settled.ensures.code.adds c.test.ensures
+    then2 c.in_ok-further.ensures c.in_ok-settled.ensures c.test.ensures
     (λ from here it p q r known. connected_and (site_in here it) (value_of here.types c.args.left.now) (value_of here.types c.args.right.now)
-    c.args.register (it.point from) (it.point c.args.on) (it.point c.args.off) _ _ (r known.0) (p known.1) q)
+    c.args.register (it.point from) (it.point c.args.on) (it.point c.args.off) _ _ (r known.0) (p known.1) q) (λ here. grind fitting)
 
 pub connecting::disjunction-returns : goal.connecting::disjunction-returns
 connecting::disjunction-returns t c =
-    last2 c.in_ok-further.ensures.code.adds c.in_ok-settled.ensures.code.adds c.test.ensures
+    then2 c.in_ok-further.ensures c.in_ok-settled.ensures c.test.ensures
     (λ from here it p q r known. connected_or (site_in here it) (value_of here.types c.args.left.now) (value_of here.types c.args.right.now)
-    c.args.register (it.point from) (it.point c.args.on) (it.point c.args.off) _ _ (r known.0) (p known.1) q)
+    c.args.register (it.point from) (it.point c.args.on) (it.point c.args.off) _ _ (r known.0) (p known.1) q) (λ here. grind fitting)
 
 pub connecting::second-returns : goal.connecting::second-returns
 connecting::second-returns t c =
-    last3 c.in_ok-joined_on.ensures.code.adds c.in_ok-joined_off.ensures.code.adds c.in_ok-tested.ensures.code.adds c.clash-3.ensures
-    (λ from here it p q r s known. (_, _, (_, s, r known), p, q))
+    then3 c.in_ok-joined_on.ensures c.in_ok-joined_off.ensures c.in_ok-tested.ensures c.clash-3.ensures
+    (λ from here it p q r s known. (_, _, (_, s, r known), p, q)) (λ here. grind fitting)
 
 pub connecting::conditional-returns : goal.connecting::conditional-returns
 connecting::conditional-returns t c =
-    last3 c.in_ok-joined.ensures.code.adds c.in_ok-on.ensures.code.adds c.in_ok-off.ensures.code.adds c.test.ensures
-    (λ from here it p q r s known. (p.0, (_, (_, _, s known.0, q known.1, r known.2), p.1)))
+    then3 c.in_ok-joined.ensures c.in_ok-on.ensures c.in_ok-off.ensures c.test.ensures
+    (λ from here it p q r s known. (p.0, (_, (_, _, s known.0, q known.1, r known.2), p.1))) (λ here. grind fitting)
 
 pub connecting::branch-returns : goal.connecting::branch-returns
 connecting::branch-returns t c =
-    last c.in_ok-chosen.ensures.code.adds c.clash.ensures (λ from here it p q known.
-    (_, q, fated (site_in here it) (value_of here.types c.args.v.now) c.of_branch.result _ _ _ c.of_branch.ensures (p known)))
+    then1 c.in_ok-chosen.ensures c.clash.ensures (λ from here it p q known.
+    (_, q, fated (site_in here it) (value_of here.types c.args.v.now) c.of_branch.result _ _ _ c.of_branch.ensures (p known))) (λ here. grind fitting)
 
 pub connecting::comma_part-returns : goal.connecting::comma_part-returns
 connecting::comma_part-returns t c =
-    last c.in_ok-behind.ensures.code.adds c.value.ensures (λ from here it p q known.
-    (_, fated (site_in here it) (value_of here.types c.args.v.now) c.of_part.result _ _ _ c.of_part.ensures (q known), p))
+    then1 c.in_ok-behind.ensures c.value.ensures (λ from here it p q known.
+    (_, fated (site_in here it) (value_of here.types c.args.v.now) c.of_part.result _ _ _ c.of_part.ensures (q known), p)) (λ here. grind fitting)
 
 pub connecting::comma-parts-init : goal.connecting::comma-parts-init
 connecting::comma-parts-init t c =
-    none_left (λ row k. PartsStand c.of_last-last_fate.result row c.args.register c.args.to) c.args.parts.now _ c.args.to (omega arith) c.requires
+    none_within (λ row k. parts_cost row c.args.register) (λ row k. PartsStand c.of_last-last_fate.result row c.args.register c.args.to)
+    c.args.parts.now _ c.args.to (omega arith) c.requires
     (λ here it known. refl)
 
 pub connecting::comma-parts-preserved : goal.connecting::comma-parts-preserved
@@ -451,25 +455,28 @@ connecting::comma-parts-preserved t c =
     let some : 0 < k = c.parts-test.true in
     let fits : k ≤ length parts = omega (arith, c.parts.auto.at) in
     let whole : (k - 1) + 1 ≡ k = omega (arith, some) in
-    one_more (λ row k. PartsStand c.of_last-last_fate.result row c.args.register c.args.to) parts k c.parts.from c.index-parts-at.result c.in_ok-from.from
-    some fits c.index-parts-at.is c.parts.invariant c.in_ok-from.ensures.code
+    one_more_within (λ row k. parts_cost row c.args.register) (λ row k. PartsStand c.of_last-last_fate.result row c.args.register c.args.to)
+    parts k c.parts.from c.index-parts-at.result c.in_ok-from.from some fits c.index-parts-at.is c.parts.invariant c.in_ok-from.ensures
     (λ here it p q known. part_stands (site_in here it) (fate_of c.of_last-last_fate.result) _ (value_of here.types c.index-parts-at.result)
     (values_in here.types (drop k parts)) c.args.register _ _ _
-    (ap (λ n. nat_eq n (length parts)) whole ∙ last_is here.types parts k fits) (q known.0) (p known.1))
+    (ap (λ n. nat_eq n (length parts)) whole ∙ last_is here.types parts k fits) (q known.0) (p known.1)) (λ here. grind fitting)
 
 pub connecting::comma-returns : goal.connecting::comma-returns
 connecting::comma-returns t c =
-    last (all_of_them (λ row k. PartsStand c.of_last-last_fate.result row c.args.register c.args.to) c.args.parts.now c.parts.at c.parts.from (omega arith) c.parts.invariant).adds
+    then1 (as_given {P = PartsStand c.of_last-last_fate.result c.args.parts.now c.args.register c.args.to}
+    (all_within (λ row k. parts_cost row c.args.register)
+    (λ row k. PartsStand c.of_last-last_fate.result row c.args.register c.args.to) c.args.parts.now c.parts.at c.parts.from (omega arith) c.parts.invariant))
     c.constant.ensures
     (λ from here it p q known.
     let Of : Fate → Type 0 = λ f. parts_from (site_in here it) f (values_in here.types c.args.parts.now) c.args.register (it.point c.parts.from) (it.point c.args.to) in
-    comma_stands (site_in here it) (fate_of c.args.fate) (values_in here.types c.args.parts.now) c.args.register _ _ _ q (subst Of c.of_last-last_fate.ensures (p known)))
+    comma_stands (site_in here it) (fate_of c.args.fate) (values_in here.types c.args.parts.now) c.args.register _ _ _ q (subst Of c.of_last-last_fate.ensures (p known))) (λ here. grind fitting)
 
 -- ---- calls
 
 pub calling::values-arguments-init : goal.calling::values-arguments-init
 calling::values-arguments-init t c =
-    none_left (λ row k. ArgumentsStand row (c.args.register + k) c.args.to) c.args.arguments.now _ c.args.to (omega arith) c.requires.point
+    none_within (λ row k. arguments_cost row (c.args.register + k)) (λ row k. ArgumentsStand row (c.args.register + k) c.args.to)
+    c.args.arguments.now _ c.args.to (omega arith) c.requires.point
     (λ here it known. refl)
 
 pub calling::values-arguments-preserved : goal.calling::values-arguments-preserved
@@ -477,20 +484,20 @@ calling::values-arguments-preserved t c =
     let row = c.args.arguments.now in
     let k = c.arguments.at in
     let some : 0 < k = c.arguments-test.true in
-    one_more (λ row k. ArgumentsStand row (c.args.register + k) c.args.to) row k c.arguments.from c.index-arguments-at.result c.in_ok-from.from
-    some (omega (arith, c.arguments.auto.at)) c.index-arguments-at.is c.arguments.invariant c.in_ok-from.ensures.code
+    one_more_within (λ row k. arguments_cost row (c.args.register + k)) (λ row k. ArgumentsStand row (c.args.register + k) c.args.to)
+    row k c.arguments.from c.index-arguments-at.result c.in_ok-from.from some (omega (arith, c.arguments.auto.at)) c.index-arguments-at.is
+    c.arguments.invariant c.in_ok-from.ensures
     (λ here it p q known. values_more (site_in here it) here.types (drop k row) c.args.register k _ _ _ c.index-arguments-at.result some
-    (q known.0) (p known.1))
+    (q known.0) (p known.1)) (λ here. grind (fitting, some))
 
 pub calling::values-returns : goal.calling::values-returns
-calling::values-returns t c = record {
-  code = arguments_all c.args.arguments.now c.arguments.at c.args.register c.args.to c.arguments.from (omega arith) c.arguments.invariant;
-}
+calling::values-returns t c =
+    as_given (arguments_all c.args.arguments.now c.arguments.at c.args.register c.args.to c.arguments.from (omega arith) c.arguments.invariant)
 
 pub calling::call-returns : goal.calling::call-returns
 calling::call-returns t c =
-    last5 c.in_ok-called.ensures.code.adds c.in_ok-ticked.ensures.code.adds c.in_ok-passed.ensures.code.adds c.in_ok-settled.ensures.code.adds
-    c.in_ok-joined.ensures.code.adds c.values.ensures
+    then5 c.in_ok-called.ensures c.in_ok-ticked.ensures.code c.in_ok-passed.ensures c.in_ok-settled.ensures
+    c.in_ok-joined.ensures c.values.ensures
     (λ from here it p q r s u v known.
     let t = type_in here.types c.args.ty in
     let vs = values_in here.types c.args.arguments.now in
@@ -498,6 +505,9 @@ calling::call-returns t c =
     (it.point c.in_ok-called.called) (it.point c.args.to) in
     call_stands (site_in here it) (fate_of c.args.fate) t c.args.name.now vs c.args.register (length c.args.arguments.now) _ _ _ _ _ _ _ _
     (arguments_counted here.types c.args.arguments.now) (v known.1) u.1 u.2 s r q.0 (subst Takes c.takes.ensures (p known.0)))
+    (λ here.
+    let vs = values_in here.types c.args.arguments.now in
+    grind (fitting, arguments_nodes vs, arguments_behind vs, arguments_counted here.types c.args.arguments.now))
 
 -- ---- their arms
 

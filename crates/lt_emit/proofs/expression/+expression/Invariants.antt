@@ -2,9 +2,9 @@ use denote.Param.Weighed.{most}
 use Rattle.std.proofs.Common.{◌+◌, ◌*◌, max, drop}
 use Rattle.lt_tree.specs.declared.typed.tree.Value.{size-Value}
 use Rattle.lt_tree.specs.declared.typed.tree.Place.{size-Place}
-use Rattle.lt_emit.specs.Emission.{Emits}
-use Rattle.lt_emit.specs.Connecting.{PartsStand}
-use Rattle.lt_emit.specs.Calling.{ArgumentsStand}
+use Rattle.lt_emit.specs.Emission.{EmitsWithin}
+use Rattle.lt_emit.specs.Connecting.{PartsStand, parts_cost}
+use Rattle.lt_emit.specs.Calling.{ArgumentsStand, arguments_cost}
 use Rattle.lt_emit.proofs.expression.+expression.Given as goal
 
 -- measures: the depth of what is gone over, and which function calls which at the same depth
@@ -123,9 +123,11 @@ decreases-calling::call l = 8 * most size-Value l.arguments.now + 3
 -- the parts of a comma expression from one on
 abbrev pub invariant-connecting::comma-parts : goal.invariant-connecting::comma-parts
 invariant-connecting::comma-parts l =
-    Emits l.initial.b l.b l.from (PartsStand l.last_fate (drop l.at l.parts) l.register l.to l.from)
+    EmitsWithin l.initial.b l.b l.from (parts_cost (drop l.at l.parts) l.register)
+    (PartsStand l.last_fate (drop l.at l.parts) l.register l.to l.from)
 
 -- the arguments of a call from one on
 abbrev pub invariant-calling::values-arguments : goal.invariant-calling::values-arguments
 invariant-calling::values-arguments l =
-    Emits l.initial.b l.b l.from (ArgumentsStand (drop l.at l.arguments) (l.register + l.at) l.to l.from)
+    EmitsWithin l.initial.b l.b l.from (arguments_cost (drop l.at l.arguments) (l.register + l.at))
+    (ArgumentsStand (drop l.at l.arguments) (l.register + l.at) l.to l.from)

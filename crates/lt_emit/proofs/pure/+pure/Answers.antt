@@ -1,13 +1,12 @@
-use Rattle.std.proofs.Common.{◌≡◌, ℕ, ◌+◌, suc, sym, ap, subst, ◌∙◌, length, nat_eq, drop, add-one, arith}
+use Rattle.std.proofs.Common.{ℕ, suc, sym, ap, ◌∙◌, length, nat_eq, drop, add-one}
 use Rattle.lt_ir.specs.Pure as p
-use Rattle.lt_ir.specs.PureView.{pure_of}
 use Rattle.lt_tree.specs.Typing.ValueView.{value_of, values_in}
 use Rattle.lt_tree.proofs.TypedRows.{comma_is}
 use Rattle.lt_meaning.specs.Expressions.{of_last}
 use Rattle.lt_code.specs.Predicates.{raw_of, raw_parts}
 use Rattle.lt_tables.specs.Views.{types_at}
 use Rattle.lt_emit.specs.Fate.{fate_of, part_fate}
-use Rattle.lt_emit.specs.Names.{names_at, before, pures_in}
+use Rattle.lt_emit.specs.Names.{names_at, before}
 use Rattle.lt_emit.proofs.PureRows as rows
 use Rattle.lt_emit.proofs.pure.+pure.Goals as goal
 

@@ -1,4 +1,4 @@
-use Rattle.std.proofs.Common.{◌≡◌, List, sym, ap, ◌∙◌}
+use Rattle.std.proofs.Common.{sym, ap, ◌∙◌}
 use Rattle.lt_tree.specs.Typing.ValueView.{values_in}
 use Rattle.lt_tree.proofs.TypedRows.{comma_is}
 use Rattle.lt_meaning.specs.Expressions as meaning

@@ -16,7 +16,7 @@ loop-test-init c =
 pub loop-test-preserved : goal.loop-test-preserved
 loop-test-preserved c =
     test_added (program_of c.args.program.now) c.in_ok-graph.graph c.args.spec.now c.args.steps c.args.suite.now.tests c.deref-test-items.result.now
-    c.loop-test.test-index c.test-item.result c.loop-test.draft c.add.new.self c.in_ok-seen.seen c.graphs_run_in_no_other_way.ensures c.in_ok-graph.ensures
+    c.loop-test.test-index c.test-item.result c.loop-test.draft c.add.new.self c.in_ok-seen.seen c.graphs_run_in_no_other_way.ensures c.in_ok-graph.ensures.code
     (in_order_as c.deref-test-items.result.now c.in_ok-order.order.items c.as_slice.result.now c.args.suite.now.tests c.deref-test-items.ensures.value
     c.as_slice.ensures c.in_ok-order.ensures)
     c.loop-test-test.true c.test-item.is c.loop-test.invariant c.in_ok-seen.ensures

@@ -3,7 +3,7 @@ use Rattle.lt_ir.specs.declared.variable.Variable.{Variable}
 use Rattle.lt_ir.specs.declared.node.Node.TheVariants as node
 use Rattle.lt_ir.specs.Ranges.{is_variable}
 use Rattle.lt_emit.specs.Emission.{here_of, counts_at}
-use Rattle.lt_emit.proofs.Adding.{also_here}
+use Rattle.lt_emit.proofs.Spent.{within_here, fitting}
 use Rattle.lt_emit.proofs.Variables.{variable_in}
 use Rattle.lt_emit.proofs.builder.Builder.address.Goals as goal
 
@@ -15,7 +15,7 @@ emit-requires-clause-names c =
 
 pub returns : goal.returns
 returns c =
-    also_here c.emit.ensures (λ from it p.
+    within_here c.emit.ensures.code (λ from it p.
     let Is : Variable → Type 0 =
     λ v. slice_get it.nodes (it.point from) ≡ Some (node.Address c.args.register v (it.point c.args.to)) in
-    (p.1, subst Is c.variable.ensures p.0))
+    (p.1, subst Is c.variable.ensures p.0)) (grind fitting)

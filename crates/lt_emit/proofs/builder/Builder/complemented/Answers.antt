@@ -3,16 +3,16 @@ use Rattle.lt_model.specs.declared.cell.Content.{Content}
 use Rattle.lt_model.specs.declared.operator.Op.TheVariants as O
 use Rattle.lt_model.specs.declared.scalar.Scalar.{Scalar}
 use Rattle.lt_ir.specs.declared.node.Node.TheVariants as node
-use Rattle.lt_emit.proofs.Adding.{last_here}
+use Rattle.lt_emit.proofs.Spent.{then_here, fitting}
 use Rattle.lt_emit.proofs.builder.Builder.complemented.Goals as goal
 
 pub returns : goal.returns
 returns c =
-    last_here c.in_ok-applied.ensures.code.adds c.constant.ensures (λ from it applied ones.
+    then_here c.in_ok-applied.ensures.code c.constant.ensures (λ from it applied ones.
     let IsOf : Content → Type 0 =
     λ x. slice_get it.nodes (it.point from)
     ≡ Some (node.Constant (c.args.register + 1) x false (it.point c.in_ok-applied.applied)) in
     let Is : Scalar → Type 0 =
     λ k. slice_get it.nodes (it.point c.in_ok-applied.applied)
     ≡ Some (node.Apply c.args.register c.args.register (c.args.register + 1) O.Xor k (it.point c.args.to)) in
-    (ones.0, (_, subst IsOf c.all_ones-ones.ensures ones.1, subst Is c.scalar.ensures applied.0)))
+    (ones.0, (_, subst IsOf c.all_ones-ones.ensures ones.1, subst Is c.scalar.ensures applied.0))) (grind fitting)

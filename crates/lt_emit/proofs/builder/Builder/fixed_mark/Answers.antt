@@ -5,16 +5,16 @@ use Rattle.lt_ir.specs.declared.node.Node.TheVariants as node
 use Rattle.lt_ir.specs.PureView.{pure_of}
 use Rattle.lt_ir.specs.Ranges.{is_lookable}
 use Rattle.lt_emit.specs.Emission.{counts_at}
-use Rattle.lt_emit.proofs.Adding.{also}
+use Rattle.lt_emit.proofs.Spent.{within, fitting}
 use Rattle.lt_emit.proofs.builder.Builder.fixed_mark.Goals as goal
 
 pub returns : goal.returns
 returns c =
-    also c.label_mark.ensures (λ from here it p known.
+    within c.label_mark.ensures.code (λ from here it p known.
     let made = p [] known in
     let Is : List Pure → Type 0 =
     λ qs. slice_get it.nodes (it.point from) ≡ Some (node.Mark made.0 c.truth.result qs (it.point c.args.to)) in
-    (made.0, _, made.1, c.truth.ensures, subst Is c.new.ensures.items made.2))
+    (made.0, _, made.1, c.truth.ensures, subst Is c.new.ensures.items made.2)) (λ here. grind fitting)
 
 pub label_mark-requires-clause-there : goal.label_mark-requires-clause-there
 label_mark-requires-clause-there c =

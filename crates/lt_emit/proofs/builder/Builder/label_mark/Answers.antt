@@ -9,7 +9,7 @@ use Rattle.lt_ir.specs.PureView.{pure_of}
 use Rattle.lt_ir.specs.Ranges.{is_lookable}
 use Rattle.lt_tables.specs.Lookups.{label_number}
 use Rattle.lt_emit.specs.Emission.{here_of, counts_at}
-use Rattle.lt_emit.proofs.Adding.{also_here, grows_none}
+use Rattle.lt_emit.proofs.Spent.{nothing_within, within_here, fitting}
 use Rattle.lt_emit.proofs.Variables.{label_in}
 use Rattle.lt_emit.proofs.builder.Builder.label_mark.Goals as goal
 
@@ -20,27 +20,26 @@ place_or_none (Some k) = k
 nothing_there : {k : ℕ} → Some k ≡ None → ⊥
 nothing_there is = absurd (cc)
 
-pub returns-in-None : goal.returns-in-None
-returns-in-None c = record {
-  code = record {
-    adds = record {
-      grows = grows_none;
-      stands = λ it kept names known. absurd (nothing_there (sym known.2 ∙ sym c.label.ensures ∙ c.in-None.is));
-    };
-    within = c.requires.point;
-  };
-}
+pub returns-in-None-clause-enters : goal.returns-in-None-clause-enters
+returns-in-None-clause-enters c known = absurd (nothing_there (sym known.1.2 ∙ sym c.label.ensures ∙ c.in-None.is))
 
-pub returns-in-Some : goal.returns-in-Some
-returns-in-Some c =
-    also_here c.emit.ensures (λ from it p names known.
+pub returns-in-Some-clause-enters : goal.returns-in-Some-clause-enters
+returns-in-Some-clause-enters c known = c.emit.ensures.enters
+
+pub returns-in-None-clause-code : goal.returns-in-None-clause-code
+returns-in-None-clause-code c =
+    nothing_within c.args.to c.requires.point (λ it names known. absurd (nothing_there (sym known.2 ∙ sym c.label.ensures ∙ c.in-None.is)))
+
+pub returns-in-Some-clause-code : goal.returns-in-Some-clause-code
+returns-in-Some-clause-code c =
+    within_here c.emit.ensures.code (λ from it p names known.
     let same = ap place_or_none (sym c.in-Some.is ∙ c.label.ensures ∙ known.2) in
     let Is : ℕ → List Pure → Type 0 =
     λ k qs. slice_get it.nodes (it.point from) ≡ Some (node.Mark k c.args.predicate qs (it.point c.args.to)) in (
       known.0,
       (label_of known.1, slice_get-map label_of _ known.0 ∙ ap (option_map label_of) known.3, known.4, known.5),
       subst (λ k. Is k c.args.bound.items) same (subst (Is c.in-Some.label) c.new.ensures p.0),
-    ))
+    )) (grind fitting)
 
 -- the label is there
 pub emit-requires-clause-names : goal.emit-requires-clause-names

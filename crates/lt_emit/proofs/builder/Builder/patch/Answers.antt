@@ -4,6 +4,7 @@ use Rattle.std.proofs.lemmas.Option.{slice_get_within}
 use Rattle.std.specs.Vec.{with_item}
 use Rattle.lt_ir.specs.declared.node.Node.TheVariants as node
 use Rattle.lt_emit.proofs.Emitted.{patched_sound, set_other, set_same}
+use Rattle.lt_emit.proofs.Counted.{patched_spends}
 use Rattle.lt_emit.proofs.builder.Builder.patch.Goals as goal
 
 pub returns-in-Some : goal.returns-in-Some
@@ -24,4 +25,5 @@ returns-in-Some c =
       structs = refl;
       registers = refl;
       sound = patched_sound a after hole c.args.to refl long others at refl refl c.requires.point;
+      spends = patched_spends a after hole c.args.to refl refl;
     }

@@ -1,6 +1,7 @@
 use Rattle.std.proofs.Common.{rules, ◌≡◌, [], ◌∷◌, ◌++◌, length, slice_get, refl, ap, ◌∙◌, inr, arith}
 use Rattle.lt_ir.specs.declared.node.Node.TheVariants as node
 use Rattle.lt_emit.proofs.Emitted.{grown, longer, last_of}
+use Rattle.lt_emit.proofs.Counted.{reserved_spends}
 use Rattle.lt_emit.proofs.builder.Builder.reserve.Goals as goal
 
 pub returns : goal.returns
@@ -16,4 +17,5 @@ returns c =
       longer = ap length items ∙ longer a.nodes.items (node.Tick hole);
       tick = ap (λ row. slice_get row hole) items ∙ ap (slice_get (a.nodes.items ++ node.Tick hole ∷ [])) number
           ∙ last_of a.nodes.items (node.Tick hole);
+      spends = reserved_spends a after hole items (omega arith);
     }

@@ -1,4 +1,4 @@
-use Rattle.std.proofs.Common.{◌≡◌, [], ◌∷◌, ◌++◌, ap, ◌∙◌, None}
+use Rattle.std.proofs.Common.{[], ◌∷◌, ◌++◌, ap, ◌∙◌, None}
 use Rattle.lt_model.specs.declared.cell.Content.TheVariants as content
 use Rattle.lt_ir.specs.declared.pure.Pure.TheVariants as pure
 use Rattle.lt_ir.specs.Pure.{Comma, Fixed, a_pure, no_pures}

@@ -1,3 +1,4 @@
+use Rattle.lt_emit.proofs.Spent.{spends_both, spends_within, fitting}
 use Rattle.lt_lower.proofs.Ends.{five_ends}
 use Rattle.lt_lower.proofs.flow.ends.ends.Goals as goal
 
@@ -11,6 +12,12 @@ returns c =
       breaks = c.in_ok-breaks.breaks;
       continues = c.in_ok-continues.continues;
     })
-    c.in_ok-next.ensures.code c.in_ok-back.ensures.code c.in_ok-leaves.ensures.code c.in_ok-breaks.ensures.code c.in_ok-continues.ensures.code
+    c.in_ok-next.ensures.gives.code c.in_ok-back.ensures.gives.code c.in_ok-leaves.ensures.gives.code c.in_ok-breaks.ensures.gives.code
+    c.in_ok-continues.ensures.gives.code
     (λ here it p q r s t. (p, q, r, s, t)) in
-    record { adds = all.0; within = all.1 }
+    record {
+      adds = all.0;
+      spends = spends_within (spends_both (spends_both (spends_both (spends_both c.in_ok-next.ensures.spends c.in_ok-back.ensures.spends)
+          c.in_ok-leaves.ensures.spends) c.in_ok-breaks.ensures.spends) c.in_ok-continues.ensures.spends) (grind fitting);
+      within = all.1;
+    }

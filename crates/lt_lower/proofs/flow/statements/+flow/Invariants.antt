@@ -2,13 +2,15 @@ use denote.Param.Weighed.{most}
 use Rattle.std.proofs.Common.{reverse}
 use Rattle.std.specs.Prelude.{IfSome}
 use Rattle.lt_tree.specs.declared.typed.statement.Case.{size-Case}
-use Rattle.lt_emit.specs.Emission.{Adds, HasPoint}
-use Rattle.lt_lower.specs.Stands.{HasExits, HasArms, HasCases}
+use Rattle.lt_emit.specs.Spending.{Spends}
+use Rattle.lt_emit.specs.Emission.{here_of, Adds, HasPoint}
+use Rattle.lt_lower.specs.Stands.{HasExits, HasArms, cases_cost, HasCases}
 use Rattle.std.proofs.Common.{◌≡◌, ◌+◌, ◌*◌, max, drop, Some, slice_get}
-use Rattle.lt_emit.specs.Emission.{Emits}
+use Rattle.lt_emit.specs.Emission.{EmitsWithin}
 use Rattle.lt_lower.specs.declared.flow.Exits.{Exits as HeldExits}
-use Rattle.lt_lower.specs.Stands.{EndsAlong, ItemsStand}
+use Rattle.lt_lower.specs.Stands.{EndsAlong, opened_cost, ItemsStand}
 use Rattle.lt_tree.specs.declared.typed.statement.Statement.{size-Statement}
+use Rattle.lt_lower.proofs.Items.{OpenFrom}
 use Rattle.lt_lower.proofs.flow.statements.+flow.Given as goal
 
 -- measures: the depth of what is gone over, and which function calls which at the same depth
@@ -43,8 +45,11 @@ decreases-item l = 8 * goal.size-item l
 -- what begins at an item, where the exits of the items are there
 abbrev pub invariant-items-items : goal.invariant-items-items
 invariant-items-items l =
-    Emits l.initial.b l.b l.from (λ here it. EndsAlong l.its l.exits.items here it → (y : HeldExits)
-    → slice_get l.exits.items l.at ≡ Some y → ItemsStand (drop l.at l.its) y l.from here it)
+    record {
+      code : EmitsWithin l.initial.b l.b l.from (opened_cost (drop l.at l.its)) (λ here it. EndsAlong l.its l.exits.items here it
+          → (y : HeldExits) → slice_get l.exits.items l.at ≡ Some y → ItemsStand (drop l.at l.its) y l.from here it);
+      opens : OpenFrom l.fn.b l.b l.fn.x l.its l.at l.from;
+    }
 
 abbrev pub decreases-switch : goal.decreases-switch
 decreases-switch l = 8 * most size-Case l.its.now + 2
@@ -60,6 +65,7 @@ abbrev pub invariant-cases-cases : goal.invariant-cases-cases
 invariant-cases-cases l =
     record {
       adds : Adds l.initial.b l.b (HasCases (drop l.at l.its) l.x l.all.from (reverse l.all.arms.items) l.all.default);
+      spends : Spends (cases_cost (drop l.at l.its) (here_of l.initial.b)) l.initial.b l.b;
       exits : HasExits l.b l.x;
       within : HasPoint l.b l.all.from;
       arms : HasArms l.b (reverse l.all.arms.items);

@@ -1,12 +1,15 @@
 -- What the code of typed trees costs at most, form by form: how many nodes and registers a lowering takes that keeps to the relation of code, which
 -- calls it makes, and how many points there are that loops lead back to. Footprints count as tracked, arguments and values that are assigned as
 -- structs that are read and as converted late: that is the most. Nodes aren't shared.
-use Rattle.std.specs.Prelude.{ℕ, ◌+◌, ◌*◌, max, List, [], ◌∷◌, ◌++◌, length, Option, Some, None}
+use Rattle.std.specs.Prelude.{ℕ, ◌==◌, ◌+◌, ◌*◌, max, List, [], ◌∷◌, ◌++◌, length, Option, Some, None}
+use Rattle.std.specs.List.{flat_map, count_by}
 use Rattle.std.specs.Option.{option_to_list}
 use Rattle.lt_tree.specs.Typing.Entities.{Function}
 use Rattle.lt_tree.specs.Typing.TypedTree as e
 use Rattle.lt_tree.specs.Typing.TypedTree.{Value, Values, Place, Marks, StartPart, Local, ForStart, Statement, Items, Cases}
+use Rattle.lt_ir.specs.declared.node.Node.{Node}
 use Rattle.lt_meaning.specs.Statements.{parts_in}
+use Rattle.lt_code.specs.Bounds.{callee}
 use Rattle.lt_code.specs.Code.{number_among}
 
 -- ---- the nodes of expressions
@@ -173,6 +176,15 @@ module _ (functions : List Function) where
     pub calls_in_all : Values → List ℕ
     calls_in_all e.no_values = []
     calls_in_all (e.a_value v vs) = calls_in v ++ calls_in_all vs
+
+-- ---- the calls of nodes
+
+-- the functions that are called in a list of nodes, one for each call
+abbrev pub callees : List Node → List ℕ
+callees nodes = flat_map (λ n. option_to_list (callee n)) nodes
+
+abbrev pub times : ℕ → List ℕ → ℕ
+times f calls = count_by (λ g. g == f) calls
 
 -- ---- costs
 
