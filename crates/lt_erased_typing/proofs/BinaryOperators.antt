@@ -13,13 +13,13 @@ use Rattle.lt_tree.specs.Typing.Extents.{Structs}
 use Rattle.lt_tree.specs.Typing.Constants.{Constancy, is_null_constant, converted, operated, chosen, moved_by}
 use Rattle.lt_tree.specs.Typing.Rules.{unless, bad_sum, bad_comparison, not_scalar, bad_choice}
 use Rattle.lt_tree.specs.Typing.TypedTree as e
-use Rattle.lt_tree.specs.Typing.TypedTree.{type_of}
-use Rattle.lt_tree.specs.Typing.Entities.{Known, Object, Label}
+use Rattle.lt_tree.specs.Typing.Entities.{Known, Object}
 use Rattle.lt_tree.specs.Typing.Operands.{are_integers, point_alike, can_be_added, can_be_subtracted, can_be_compared, can_be_chosen_from, is_relation, is_equality}
 use Rattle.lt_tree.specs.Typing.Expressions.{Typed, valued, own_type, value_in, converted_to, constancy_to, scalar_in}
 use Rattle.lt_tree.specs.Typing.Operations.{pointer_among, other_among, element_size, object_size, target_in}
 use Rattle.lt_tree.specs.Typing.BinaryOperations.{judge_binary, judge_logical, judge_conditional, judge_comma, operand_faults, on_integers, on_pointers, moved, distance, operation_type, right_type, result_type, towards, settles, chosen_type, common_pointer, last_of}
 use Rattle.lt_erased_typing.specs.Erasable.{ShowsNull}
+use Rattle.lt_erased_typing.proofs.Scopes.{Own}
 use Rattle.lt_erased_typing.proofs.Going.{IsBeside, beside}
 use Rattle.lt_erased_typing.proofs.Constants.{IsOf, operated_sees, applied_is, connected_sees, connected_is, chosen_sees, conversion_is, moved_seen, null_more, null_same}
 use Rattle.lt_erased_typing.proofs.Operands.{BareValue, a_bare_value, BareTruth, BareJudged, value_type_same, kin_pointer, bare_varies, bare_valued}
@@ -114,12 +114,12 @@ module _ {x y v w : Typed} (p : BareValue x y) (q : BareValue v w) where
   )
 
 -- what is known of structs is the same
-binary_known : {texts : Bool} {known : Known} {labels : List Label} {k j : Known} (op : Op) (x y : Typed) → IsBeside texts known labels k j
+binary_known : {texts : Bool} {known : Known} {own : Own} {k j : Known} (op : Op) (x y : Typed) → IsBeside texts known own k j
     → (judge_binary op x y k ≡ judge_binary op x y (with_objects k.objects known)) × (judge_binary op x y j ≡ judge_binary op x y (with_objects j.objects known))
 unfolding judge_binary
 binary_known op x y (beside more other) = (refl, refl)
 
-pub binary_bare : {texts : Bool} {known : Known} {labels : List Label} {x y v w : Typed} {k j : Known} (op : Op) → IsBeside texts known labels k j → BareValue x y → BareValue v w → BareJudged (judge_binary op x v k) (judge_binary op y w j)
+pub binary_bare : {texts : Bool} {known : Known} {own : Own} {x y v w : Typed} {k j : Known} (op : Op) → IsBeside texts known own k j → BareValue x y → BareValue v w → BareJudged (judge_binary op x v k) (judge_binary op y w j)
 binary_bare {known = known} {x = x} {y = y} {v = v} {w = w} {k = k} {j = j} op b p q =
     subst (λ it. BareJudged it (judge_binary op y w j)) (sym (binary_known op x v b).0)
     (subst (BareJudged (judge_binary op x v (with_objects k.objects known))) (sym (binary_known op y w b).1) (binary_by p q (with_objects k.objects known) j.objects op))
@@ -201,11 +201,11 @@ module _ {x y v w : Typed} (p : BareValue x y) (q : BareValue v w) (shows : Show
               (sym (choice_same known can)) (conditional_typed known (chosen_type known x v))),
         )
 
-conditional_known : {texts : Bool} {known : Known} {labels : List Label} {k j : Known} (o x y : Typed) → IsBeside texts known labels k j → (judge_conditional o x y k ≡ judge_conditional o x y known) × (judge_conditional o x y j ≡ judge_conditional o x y known)
+conditional_known : {texts : Bool} {known : Known} {own : Own} {k j : Known} (o x y : Typed) → IsBeside texts known own k j → (judge_conditional o x y k ≡ judge_conditional o x y known) × (judge_conditional o x y j ≡ judge_conditional o x y known)
 unfolding judge_conditional
 conditional_known o x y (beside more other) = (refl, refl)
 
-pub conditional_bare : {texts : Bool} {known : Known} {labels : List Label} {o t x y v w : Typed} {k j : Known} → IsBeside texts known labels k j → BareTruth o t → BareValue x y → ShowsNull x → BareValue v w → ShowsNull v
+pub conditional_bare : {texts : Bool} {known : Known} {own : Own} {o t x y v w : Typed} {k j : Known} → IsBeside texts known own k j → BareTruth o t → BareValue x y → ShowsNull x → BareValue v w → ShowsNull v
     → BareJudged (judge_conditional o x v k) (judge_conditional t y w j)
 conditional_bare {known = known} {o = o} {t = t} {x = x} {y = y} {v = v} {w = w} {k = k} {j = j} b truth p shows q other =
     subst (λ it. BareJudged it (judge_conditional t y w j)) (sym (conditional_known o x v b).0)

@@ -1,33 +1,36 @@
 -- What predicates copy is plain, where it is typed.
-use Rattle.std.proofs.Common.{◌≡◌, List, [], Bool, true, false, refl, sym}
+use Rattle.std.proofs.Common.{◌≡◌, ℕ, List, [], Option, Bool, true, false, refl, sym}
 use Rattle.std.proofs.lemmas.Bool.{false≢true}
 use Rattle.std.specs.Prelude.{◌&&◌, ◌||◌, not}
 use Rattle.lt_tree.specs.Tree as c
 use Rattle.lt_tree.specs.Comma.{comma_of, followed_by}
-use Rattle.lt_tree.specs.Erasure.{erased, erased_expressions, erased_parts, erased_declarator, erased_specifiers}
-use Rattle.lt_tree.specs.Purity.{is_pure, are_pure, is_pure_specifiers, is_pure_declarator, are_pure_parts}
-use Rattle.lt_tree.specs.Typing.Types.{CType}
+use Rattle.lt_tree.specs.Erasure.{erased, erased_expressions, erased_parts, erased_parameters, erased_parameter_list, erased_declarator, erased_specifiers}
+use Rattle.lt_tree.specs.Purity.{is_pure, are_pure, is_pure_specifiers, is_pure_declarator, are_pure_parts, are_pure_parameters, is_pure_parameter_list}
+use Rattle.lt_tree.specs.Typing.Types.{CType, adjusted}
+use Rattle.lt_tree.specs.Typing.Rules.{Rule}
 use Rattle.lt_tree.specs.Typing.Entities.{Known}
-use Rattle.lt_tree.specs.Typing.Steps.{Outcome, Goes, goes_on, marked_again}
+use Rattle.lt_tree.specs.Typing.Steps.{Outcome, Goes, goes_on, marked_again, in_block}
 use Rattle.lt_tree.specs.Typing.Expressions.{Typed, Use, as_value, as_truth, as_place}
 use Rattle.lt_tree.specs.Typing.MarkRules.{inside_mark, inside_after}
 use Rattle.lt_tree.specs.Typing.NodeEnds.{judge_unary, operand_of, enter_if}
-use Rattle.lt_tree.specs.Typing.Specifying.{Specified, elsewhere}
-use Rattle.lt_tree.specs.Typing.Declarators.{Built, Declares, type_name_faults, setting_in_sizeof, is_written}
-use Rattle.lt_tree.specs.Typing.ExpressionTyping.{expression, expressions, maybe, marks, specifiers, declarator, parts}
-use Rattle.lt_objectives.specs.Copies.{is_core, is_marked_cast, hides, any_hides, can_be_copied}
-use Rattle.lt_erased_typing.specs.Erasable.{CanBeErasedWith, entered, unmarked}
-use Rattle.lt_erased_typing.specs.Plain.{IsPlainWith, ArePlain, IsPlainDeclarator, ArePlainParts}
-use Rattle.lt_erased_typing.specs.Simple.{IsSimpleWith, AreSimple, IsSimpleDeclarator, AreSimpleParts}
-use Rattle.lt_erased_typing.specs.Laws.{CopiesCanBeErased, CopiesWithLiteralsCanBeErased}
+use Rattle.lt_tree.specs.Typing.Specifying.{Specified, is_register, elsewhere}
+use Rattle.lt_tree.specs.Typing.Declarators.{Parameters, Built, Declares, type_name_faults, parameter_faults, setting_in_sizeof, is_written}
+use Rattle.lt_tree.specs.Typing.ExpressionTyping.{expression, expressions, maybe, marks, specifiers, declarator, parts, parameters, parameter_list}
+use Rattle.lt_objectives.specs.Copies.{is_core, is_marked_cast, hides, any_hides}
+use Rattle.lt_erased_typing.specs.Erasable.{entered, unmarked, in_scope}
+use Rattle.lt_erased_typing.specs.Plain.{IsPlainWith, ArePlain, IsPlainDeclarator, ArePlainParts, ArePlainParameters, IsPlainList}
+use Rattle.lt_erased_typing.specs.Simple.{IsSimpleWith, AreSimple, IsSimpleDeclarator, AreSimpleParts, AreSimpleParameters, IsSimpleList}
+use Rattle.lt_erased_typing.specs.Laws.{CopiesWithLiteralsCanBeErased}
 use Rattle.lt_erased_typing.proofs.Conditions.{and_first, and_second, both_true}
-use Rattle.lt_erased_typing.proofs.Texts.{IsNamed}
 use Rattle.lt_erased_typing.proofs.TypeNames.{written_somewhere}
 use Rattle.lt_erased_typing.proofs.Shows.{or_none}
 use Rattle.lt_erased_typing.proofs.PlainWalks.{IsNear, here_near, went, bind, entered_near, constant_near, constant_walk, near_behind}
-use Rattle.lt_erased_typing.proofs.Found.{found_specifiers, found_expression, found_marks, found_declarator}
+use Rattle.lt_erased_typing.proofs.Found.{found_specifiers, found_expression, found_marks, found_declarator, found_parameters}
+use Rattle.lt_erased_typing.proofs.SameTags.{turned, parameters_there, list_there, simple_parameters, simple_list}
+use Rattle.lt_erased_typing.proofs.PlainScopes.{scope_tags, scope_found, bound_went_on}
+use Rattle.lt_erased_typing.proofs.SizesAndCasts.{any_type_name}
 use Rattle.lt_erased_typing.proofs.PlainExpressions.{erasable}
-use Rattle.lt_erased_typing.proofs.Ended.{went_on, marked_went_on, ended, entered_if, not_true}
+use Rattle.lt_erased_typing.proofs.Ended.{went_on, marked_went_on, scope_went_on, ended, entered_if, not_true}
 use Rattle.lt_erased_typing.proofs.Markless.{core_no_marked_cast}
 use Rattle.lt_erased_typing.proofs.MarksGoOn.{plain_marks, core_there, takes}
 
@@ -121,7 +124,7 @@ mutual
   plain {k = k} (c.SizeofType sp (c.declarator name ps)) role o p h s e =
       let one = went_on (specifiers sp (setting_in_sizeof (c.declarator name ps)) (entered k)) _ e in
       let two = went_on (declarator (c.declarator name ps) one.0 false (λ name known b. type_name_faults b) one.1) _ one.3 in
-      (h.0, plain_declarator (c.declarator name ps) one.0 (and_second (is_pure_specifiers (erased_specifiers sp)) (is_pure_declarator (erased_declarator (c.declarator name ps))) p) h.1 (near_behind (found_specifiers sp (setting_in_sizeof (c.declarator name ps)) (written_somewhere name ps) (entered_near s) h.0) one.2) two.2)
+      (h.0, plain_declarator any_type_name (c.declarator name ps) one.0 (and_second (is_pure_specifiers (erased_specifiers sp)) (is_pure_declarator (erased_declarator (c.declarator name ps))) p) h.1 (near_behind (found_specifiers sp (setting_in_sizeof (c.declarator name ps)) (written_somewhere name ps) (entered_near s) h.0) one.2) two.2)
   plain {k = k} (c.Cast sp d operand) role o p h s e =
       let one = went_on (specifiers sp elsewhere (entered k)) _ e in
       let two = went_on (declarator d one.0 false (λ name known b. type_name_faults b) one.1) _ one.3 in
@@ -129,10 +132,10 @@ mutual
       let types = is_pure_specifiers (erased_specifiers sp) in
       let front = and_first (types && is_pure_declarator (erased_declarator d)) (is_pure (erased operand)) p in
       let behind = near_behind (found_specifiers sp elsewhere refl (entered_near s) h.0) one.2 in
-      let lengths = plain_declarator d one.0 (and_second types (is_pure_declarator (erased_declarator d)) front) h.1 behind two.2 in (
+      let lengths = plain_declarator any_type_name d one.0 (and_second types (is_pure_declarator (erased_declarator d)) front) h.1 behind two.2 in (
         h.0,
         lengths,
-        plain operand as_value o (and_second (types && is_pure_declarator (erased_declarator d)) (is_pure (erased operand)) p) h.2 (near_behind (found_declarator d one.0 behind lengths) two.2) three.2,
+        plain operand as_value o (and_second (types && is_pure_declarator (erased_declarator d)) (is_pure (erased operand)) p) h.2 (near_behind (found_declarator any_type_name d one.0 behind lengths) two.2) three.2,
       )
   plain (c.Binary op left right) role o p h s e =
       two_operands as_value left right _ (λ k x l s e. plain left as_value (first_open (hides left) (hides right) o) (and_first (is_pure (erased left)) (is_pure (erased right)) p) h.0 s e)
@@ -201,26 +204,53 @@ mutual
         plain_parts rest t false (and_second (is_pure (erased length)) (are_pure_parts (erased_parts rest)) p) h.1
             (near_behind (bind (constant_walk s (found_expression {known = unmarked known} length as_value (constant_near s) it)) (λ x l s. went s)) one.2) four.2,
       )
-  plain_parts (c.Function them rest) t is_outermost p h s e = absurd h
+  plain_parts {texts} {known} {k = k} (c.Function them rest) t is_outermost p h s e =
+      let one = went_on (in_block (parameters them false) k) _ e in
+      let two = scope_went_on k.frames (parameters them false (in_scope k)) one.2 in
+      let three = went_on (parts rest t false false one.1) _ one.3 in
+      let there = scope_tags s in
+      let inner = plain_parameters {known = in_scope k} {k = in_scope k} h.0 them (and_first (are_pure_parameters (erased_parameters them)) (are_pure_parts (erased_parts rest)) p) (simple_parameters there texts them h.1)
+      (here_near (in_scope k)) two.2 in (
+        h.0,
+        parameters_there (turned there) texts them inner,
+        plain_parts rest t false (and_second (are_pure_parameters (erased_parameters them)) (are_pure_parts (erased_parts rest)) p) h.2
+            (near_behind (scope_found s (found_parameters h.0 them (here_near (in_scope k)) inner)) one.2) three.2,
+      )
 
-  plain_declarator : {texts : Bool} {known k : Known} {x : Declares} {l : Known} (d : c.Declarator) (it : Specified)
+  plain_declarator : {texts : Bool} {known k : Known} {x : Declares} {l : Known} (judge : Option (List ℕ) → Known → Built → List Rule) (d : c.Declarator) (it : Specified)
       → is_pure_declarator (erased_declarator d) ≡ true → IsSimpleDeclarator texts known.frames d → IsNear texts known k
-      → declarator d it false (λ name known b. type_name_faults b) k ≡ Goes x l → IsPlainDeclarator texts known.frames d
-  plain_declarator {k = k} (c.declarator name ps) it p h s e =
+      → declarator d it false judge k ≡ Goes x l → IsPlainDeclarator texts known.frames d
+  plain_declarator {k = k} judge (c.declarator name ps) it p h s e =
       let one = went_on (enter_if (is_written name ps) k) _ e in
       let two = went_on (parts ps it.type false true one.1) _ one.3 in
       plain_parts ps it.type true p h (entered_if (is_written name ps) s one.2) two.2
 
+  plain_parameters : {texts : Bool} {known k : Known} {x : Parameters} {l : Known} → texts ≡ true → (them : c.Parameters) → are_pure_parameters (erased_parameters them) ≡ true
+      → AreSimpleParameters texts known.frames them → IsNear texts known k → parameters them false k ≡ Goes x l → ArePlainParameters texts known.frames them
+  plain_parameters is c.Unstated p h s e = tt
+  plain_parameters is c.Void p h s e = tt
+  plain_parameters is (c.Listed list) p h s e = plain_list is list p h s e
+  plain_parameters {k = k} is (c.Open list) p h s e = plain_list is list p h s (went_on (parameter_list list false k) _ e).2
+
+  plain_list : {texts : Bool} {known k : Known} {x : Parameters} {l : Known} → texts ≡ true → (them : c.ParameterList) → is_pure_parameter_list (erased_parameter_list them) ≡ true
+      → IsSimpleList texts known.frames them → IsNear texts known k → parameter_list them false k ≡ Goes x l → IsPlainList texts known.frames them
+  plain_list is c.no_parameters p h s e = tt
+  plain_list {texts} {known} {k} is (c.a_parameter sp d rest) p h s e =
+      let types = is_pure_specifiers (erased_specifiers sp) && is_pure_declarator (erased_declarator d) in
+      let one = went_on (specifiers sp elsewhere k) _ e in
+      let two = went_on (declarator d one.0 false (parameter_faults false) one.1) _ one.3 in
+      let behind = near_behind (found_specifiers sp elsewhere refl s h.0) one.2 in
+      let first = plain_declarator (parameter_faults false) d one.0 (and_second (is_pure_specifiers (erased_specifiers sp)) (is_pure_declarator (erased_declarator d)) (and_first types (is_pure_parameter_list (erased_parameter_list rest)) p)) h.1 behind two.2 in
+      let later = near_behind (found_declarator (parameter_faults false) d one.0 behind first) two.2 in
+      let three = bound_went_on two.0.name (is_register one.0) two.0.node (adjusted two.0.type) later two.3 in
+      let four = went_on (parameter_list rest false three.2) _ three.5 in (
+        h.0,
+        first,
+        list_there (turned three.3) texts rest (plain_list is rest (and_second types (is_pure_parameter_list (erased_parameter_list rest)) p) (simple_list three.3 texts rest h.2) three.4 four.2),
+      )
+
 -- what predicates copy is plain, so marks can be taken off it
-copies_by : (texts : Bool) (known next : Known) (it : c.Expression) (x : Typed) → IsNamed texts known → can_be_copied it ≡ true
-    → IsSimpleWith texts known.frames it → expression it as_value known ≡ Goes x next
-    → CanBeErasedWith texts as_value known it
-copies_by texts known next it x w c h e =
-    erasable {known = known} {k = known} w it as_value refl (λ q. absurd cc) (here_near known)
-    (plain {known = known} {k = known} it as_value (shown (not_true (hides it) (and_second (is_pure (erased it)) (not (hides it)) c))) (and_first (is_pure (erased it)) (not (hides it)) c) h (here_near known) e)
-
-pub copies : CopiesCanBeErased
-copies known next it x = copies_by false known next it x (λ is. absurd (false≢true is))
-
 pub copies_with_literals : CopiesWithLiteralsCanBeErased
-copies_with_literals known next it x w = copies_by true known next it x (λ is. w)
+copies_with_literals known next it x w c h e =
+    erasable {known = known} {k = known} (λ is. w) it as_value refl (λ q. absurd cc) (here_near known)
+    (plain {known = known} {k = known} it as_value (shown (not_true (hides it) (and_second (is_pure (erased it)) (not (hides it)) c))) (and_first (is_pure (erased it)) (not (hides it)) c) h (here_near known) e)

@@ -3,8 +3,8 @@ use Rattle.std.proofs.Common.{◌≡◌, ℕ, List, [], ◌∷◌, Bool, true, f
 use Rattle.std.proofs.lemmas.Bool.{false≢true}
 use Rattle.std.specs.Prelude.{◌++◌, not, Option}
 use Rattle.lt_tree.specs.Typing.Rules.{Rule}
-use Rattle.lt_tree.specs.Typing.Entities.{Known, Fact}
-use Rattle.lt_tree.specs.Typing.Steps.{Outcome, Goes, Breaks, goes_on, settle, marked_again, notes, gives, ◌>>◌}
+use Rattle.lt_tree.specs.Typing.Entities.{Known, Frame, Fact}
+use Rattle.lt_tree.specs.Typing.Steps.{Outcome, Goes, Breaks, goes_on, left, settle, marked_again, notes, gives, ◌>>◌}
 use Rattle.lt_tree.specs.Typing.Expressions.{Typed, Use, Judged, used, fact_of, faults_of_any, finish}
 use Rattle.lt_tree.specs.Typing.NodeEnds.{enter_if}
 use Rattle.lt_erased_typing.proofs.Ends.{left_empty}
@@ -19,6 +19,10 @@ went_on (Breaks rule node) f e = absurd cc
 pub marked_went_on : {A : Type 0} (was : Bool) (o : Outcome A) {a : A} {k : Known} → marked_again was o ≡ Goes a k → (j : Known) × (o ≡ Goes a j)
 marked_went_on was (Goes b j) e = (j, cc)
 marked_went_on was (Breaks rule node) e = absurd cc
+
+pub scope_went_on : {A : Type 0} (frames : List Frame) (o : Outcome A) {a : A} {k : Known} → goes_on (left frames o) (λ r l. Goes r.0 l) ≡ Goes a k → (b : A) × (j : Known) × (o ≡ Goes b j)
+scope_went_on frames (Goes b j) e = (b, j, refl)
+scope_went_on frames (Breaks rule node) e = absurd cc
 
 pub nothing_broken : {B : Type 0} (n : ℕ) (rules : List Rule) (k : Known) (f : Unit {0} → Known → Outcome B) {b : B} {l : Known}
     → goes_on (settle n rules k) f ≡ Goes b l → rules ≡ []

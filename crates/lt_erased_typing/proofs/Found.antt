@@ -1,9 +1,9 @@
--- Plain expressions find nothing but string literals, labels and facts.
+-- Plain expressions find nothing but string literals, parameters of type names, labels and facts.
 use Rattle.std.proofs.Common.{◌≡◌, ℕ, List, [], ◌∷◌, Option, Some, None, Bool, true, false, refl, sym}
 use Rattle.std.proofs.lemmas.Bool.{false≢true}
 use Rattle.std.specs.Prelude.{◌++◌, is_some, length}
 use Rattle.lt_tree.specs.Tree as c
-use Rattle.lt_tree.specs.Typing.Types.{CType}
+use Rattle.lt_tree.specs.Typing.Types.{CType, adjusted}
 use Rattle.lt_tree.specs.Typing.Rules.{Rule, unless, bad_mark}
 use Rattle.lt_tree.specs.Typing.Constants.{constant_of}
 use Rattle.lt_tree.specs.Typing.Entities.{Known, meaning_of, Tagged, a_struct, an_enum, tagged_in}
@@ -11,14 +11,17 @@ use Rattle.lt_tree.specs.Typing.Expressions.{Use, as_value, as_truth, as_place, 
 use Rattle.lt_tree.specs.Typing.Operations.{judge_name, judge_constant, judge_member, judge_arrow, judge_index, judge_size, judge_cast}
 use Rattle.lt_tree.specs.Typing.BinaryOperations.{judge_binary, judge_logical, judge_conditional, judge_comma}
 use Rattle.lt_tree.specs.Typing.MarkRules.{names_of, is_good_mark, judge_marked, judge_decide, judge_after, label_of, inside_mark, inside_after}
-use Rattle.lt_tree.specs.Typing.NodeEnds.{judge_unary, operand_of, also, end_of_declarator, text_at}
-use Rattle.lt_tree.specs.Typing.Specifying.{Setting, alone, in_sizeof, elsewhere, is_alone, beside_words, struct_tagged, Specified}
-use Rattle.lt_tree.specs.Typing.Declarators.{Built, built, type_name_faults, setting_in_sizeof}
-use Rattle.lt_tree.specs.Typing.ExpressionTyping.{expression, expressions, marks, mark, bindings, specifiers, type_specifiers, type_specifier, declarator, parts}
-use Rattle.lt_erased_typing.specs.Erasable.{AreKnown, AreKnownTypes, IsKnownType, entered, unmarked}
-use Rattle.lt_erased_typing.specs.Plain.{IsPlainWith, ArePlain, ArePlainMarks, IsPlainMark, ArePlainBindings, IsPlainDeclarator, ArePlainParts}
+use Rattle.lt_tree.specs.Typing.NodeEnds.{judge_unary, operand_of, also, text_at, with_dots}
+use Rattle.lt_tree.specs.Typing.Specifying.{Setting, alone, in_sizeof, elsewhere, is_alone, beside_words, struct_tagged, Specified, is_register}
+use Rattle.lt_tree.specs.Typing.Declarators.{Built, setting_in_sizeof, parameter_faults, parameter_before}
+use Rattle.lt_tree.specs.Typing.ExpressionTyping.{expression, expressions, marks, mark, bindings, specifiers, type_specifiers, type_specifier, declarator, parts, parameters, parameter_list}
+use Rattle.lt_erased_typing.specs.Erasable.{AreKnown, AreKnownTypes, IsKnownType, entered, unmarked, in_scope}
+use Rattle.lt_erased_typing.specs.Plain.{IsPlainWith, ArePlain, ArePlainMarks, IsPlainMark, ArePlainBindings, IsPlainDeclarator, ArePlainParts, ArePlainParameters, IsPlainList}
 use Rattle.lt_erased_typing.proofs.TypeNames.{written_somewhere, words_aside}
-use Rattle.lt_erased_typing.proofs.PlainWalks.{IsNear, near, Finds, went, bind, entered_near, labels_near, text_near, constant_near, constant_walk, settled, finished}
+use Rattle.lt_erased_typing.proofs.SizesAndCasts.{any_type_name}
+use Rattle.lt_erased_typing.proofs.PlainWalks.{IsNear, near, Finds, went, bind, here_near, entered_near, labels_near, text_near, constant_near, constant_walk, settled, finished}
+use Rattle.lt_erased_typing.proofs.SameTags.{parameters_there, list_there}
+use Rattle.lt_erased_typing.proofs.PlainScopes.{Reaches, reach_here, reach_then, reach_last, reach_bound, scope_tags, scope_found, declared_found}
 
 module _ {texts : Bool} {known : Known} where
   struct_found : {k : Known} (tag : List ℕ) (found : Option Tagged) → is_some found ≡ true → IsNear texts known k → Finds texts known (struct_tagged tag found k)
@@ -47,10 +50,6 @@ module _ {texts : Bool} {known : Known} where
       → AreKnown known.frames it → Finds texts known (specifiers it setting k)
   found_specifiers (c.specifiers words types) setting a s h = bind (found_types types (beside_words words setting) (words_aside words setting a) s h) (λ namings k s. went s)
 
-  ended : {k : Known} (n : ℕ) (name : Option (List ℕ)) (x : Built) (rules : List Rule) → IsNear texts known k
-      → Finds texts known (end_of_declarator (Some n) name x rules k)
-  ended n name x rules s = settled n rules _ (went s)
-
 mutual
   pub found_expression : {texts : Bool} {known k : Known} (it : c.Expression) (role : Use) → IsNear texts known k → IsPlainWith texts known.frames it
       → Finds texts known (expression it role k)
@@ -72,10 +71,10 @@ mutual
   found_expression {known = known} {k} (c.SizeofExpr operand) role s h =
       bind (constant_walk (entered_near s) (found_expression {known = unmarked known} operand as_place (constant_near (entered_near s)) h.1)) (λ x l s. finished k.next role (judge_size (own_type x) l) s)
   found_expression {k = k} (c.SizeofType sp (c.declarator name ps)) role s h =
-      bind (found_specifiers sp (setting_in_sizeof (c.declarator name ps)) (written_somewhere name ps) (entered_near s) h.0) (λ it l s. bind (found_declarator (c.declarator name ps) it s h.1)
+      bind (found_specifiers sp (setting_in_sizeof (c.declarator name ps)) (written_somewhere name ps) (entered_near s) h.0) (λ it l s. bind (found_declarator any_type_name (c.declarator name ps) it s h.1)
       (λ t l s. finished k.next role (also t.faults (judge_size t.type l)) s))
   found_expression {k = k} (c.Cast sp d operand) role s h =
-      bind (found_specifiers sp elsewhere refl (entered_near s) h.0) (λ it l s. bind (found_declarator d it s h.1) (λ t l s. bind (found_expression operand as_value s h.2)
+      bind (found_specifiers sp elsewhere refl (entered_near s) h.0) (λ it l s. bind (found_declarator any_type_name d it s h.1) (λ t l s. bind (found_expression operand as_value s h.2)
       (λ x l s. finished k.next role (also t.faults (judge_cast t.type x l)) s)))
   found_expression {k = k} (c.Binary op left right) role s h =
       bind (found_expression left as_value (entered_near s) h.0) (λ x l s. bind (found_expression right as_value s h.1) (λ y l s. finished k.next role (judge_binary op x y l) s))
@@ -127,14 +126,23 @@ mutual
   found_parts {known = known} (c.Array (c.present length) rest) t is_outermost s h =
       bind (bind (constant_walk s (found_expression {known = unmarked known} length as_value (constant_near s) h.0)) (λ x l s. went s)) (λ n l s.
       bind (found_parts rest t false s h.1) (λ x l s. went s))
-  found_parts (c.Function them rest) t is_outermost s h = absurd h
+  found_parts {texts} {known} {k} (c.Function them rest) t is_outermost s h =
+      bind (scope_found s (found_parameters h.0 them (here_near (in_scope k)) (parameters_there (scope_tags s) texts them h.1))) (λ x l s. bind (found_parts rest t false s h.2) (λ y l s. went s))
 
-  pub found_declarator : {texts : Bool} {known k : Known} (d : c.Declarator) (it : Specified) → IsNear texts known k
-      → IsPlainDeclarator texts known.frames d → Finds texts known (declarator d it false (λ name known b. type_name_faults b) k)
-  found_declarator (c.declarator None c.no_parts) it s h = went s
-  found_declarator {k = k} (c.declarator (Some w) c.no_parts) it s h = ended k.next (Some w) (built it.type []) _ (entered_near s)
-  found_declarator {k = k} (c.declarator None (c.Pointer q rest)) it s h = bind (found_parts (c.Pointer q rest) it.type true (entered_near s) h) (λ x l s. ended k.next None x _ s)
-  found_declarator {k = k} (c.declarator (Some w) (c.Pointer q rest)) it s h = bind (found_parts (c.Pointer q rest) it.type true (entered_near s) h) (λ x l s. ended k.next (Some w) x _ s)
-  found_declarator {k = k} (c.declarator None (c.Array length rest)) it s h = bind (found_parts (c.Array length rest) it.type true (entered_near s) h) (λ x l s. ended k.next None x _ s)
-  found_declarator {k = k} (c.declarator (Some w) (c.Array length rest)) it s h = bind (found_parts (c.Array length rest) it.type true (entered_near s) h) (λ x l s. ended k.next (Some w) x _ s)
-  found_declarator (c.declarator name (c.Function them rest)) it s h = absurd h
+  pub found_declarator : {texts : Bool} {known k : Known} (judge : Option (List ℕ) → Known → Built → List Rule) (d : c.Declarator) (it : Specified) → IsNear texts known k
+      → IsPlainDeclarator texts known.frames d → Finds texts known (declarator d it false judge k)
+  found_declarator judge (c.declarator name ps) it s h = declared_found judge name ps it s (found_parts ps it.type true (entered_near s) h)
+
+  pub found_parameters : {texts : Bool} {known k : Known} → texts ≡ true → (them : c.Parameters) → IsNear texts known k → ArePlainParameters texts known.frames them
+      → Reaches texts known (parameters them false k)
+  found_parameters is c.Unstated s h = reach_here s
+  found_parameters is c.Void s h = reach_here s
+  found_parameters is (c.Listed list) s h = found_list is list s h
+  found_parameters is (c.Open list) s h = reach_last with_dots (found_list is list s h)
+
+  pub found_list : {texts : Bool} {known k : Known} → texts ≡ true → (them : c.ParameterList) → IsNear texts known k → IsPlainList texts known.frames them
+      → Reaches texts known (parameter_list them false k)
+  found_list is c.no_parameters s h = reach_here s
+  found_list {texts} is (c.a_parameter sp d rest) s h =
+      reach_then (found_specifiers sp elsewhere refl s h.0) (λ it l s. reach_then (found_declarator (parameter_faults false) d it s h.1) (λ x l s.
+      reach_bound x.name (is_register it) x.node (adjusted x.type) is s (λ those later m same s. reach_last (parameter_before x those) (found_list is rest s (list_there same texts rest h.2)))))

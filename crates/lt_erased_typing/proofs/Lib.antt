@@ -1,4 +1,5 @@
 mod Texts
+mod Scopes
 mod Going
 mod Constants
 mod Operands
@@ -7,14 +8,23 @@ mod Conditions
 mod Operators
 mod BinaryOperators
 mod TypeNames
+mod SizesAndCasts
+mod Parameters
 mod Marks
 mod Commas
 mod Expressions
 pub mod Whole
 mod Shows
+mod SameTags
 mod PlainWalks
+mod PlainScopes
 mod Found
 mod PlainExpressions
+mod Unmarked
+mod Together
+mod PureTypeNames
+mod PureWalks
+pub mod Before
 mod Ended
 mod Markless
 mod MarksGoOn

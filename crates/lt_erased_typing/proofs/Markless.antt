@@ -5,11 +5,11 @@ use Rattle.std.specs.Prelude.{◌&&◌}
 use Rattle.lt_tree.specs.declared.expression.UnaryOp.{UnaryOp}
 use Rattle.lt_tree.specs.declared.expression.UnaryOp.TheVariants as unary
 use Rattle.lt_tree.specs.Tree as c
-use Rattle.lt_tree.specs.Purity.{is_pure, are_pure, is_pure_specifiers, is_pure_declarator, are_pure_parts}
+use Rattle.lt_tree.specs.Purity.{is_pure, are_pure, is_pure_specifiers, is_pure_declarator, are_pure_parts, are_pure_parameters, is_pure_parameter_list}
 use Rattle.lt_tree.specs.Typing.Entities.{Frame}
 use Rattle.lt_objectives.specs.Copies.{is_core, is_marked_cast}
-use Rattle.lt_erased_typing.specs.Plain.{IsPlainWith, ArePlain, IsPlainDeclarator, ArePlainParts, MayTake}
-use Rattle.lt_erased_typing.specs.Simple.{IsSimpleWith, AreSimple, IsSimpleDeclarator, AreSimpleParts}
+use Rattle.lt_erased_typing.specs.Plain.{IsPlainWith, ArePlain, IsPlainDeclarator, ArePlainParts, ArePlainParameters, IsPlainList, MayTake}
+use Rattle.lt_erased_typing.specs.Simple.{IsSimpleWith, AreSimple, IsSimpleDeclarator, AreSimpleParts, AreSimpleParameters, IsSimpleList}
 use Rattle.lt_erased_typing.proofs.Conditions.{and_first, and_second}
 
 pub core_no_marked_cast : (it : c.Expression) → is_core it ≡ true → is_marked_cast it ≡ false
@@ -82,7 +82,25 @@ mutual
     plain_of_pure texts frames length (and_first (is_pure length) (are_pure_parts rest) p) h.0,
     plain_parts texts frames rest (and_second (is_pure length) (are_pure_parts rest) p) h.1,
   )
-  plain_parts texts frames (c.Function parameters rest) p h = absurd h
+  plain_parts texts frames (c.Function them rest) p h =
+      (h.0, plain_parameters texts frames them (and_first (are_pure_parameters them) (are_pure_parts rest) p) h.1, plain_parts texts frames rest (and_second (are_pure_parameters them) (are_pure_parts rest) p) h.2)
+
+  plain_parameters : (texts : Bool) (frames : List Frame) (them : c.Parameters) → are_pure_parameters them ≡ true → AreSimpleParameters texts frames them
+      → ArePlainParameters texts frames them
+  plain_parameters texts frames c.Unstated p h = tt
+  plain_parameters texts frames c.Void p h = tt
+  plain_parameters texts frames (c.Listed list) p h = plain_list texts frames list p h
+  plain_parameters texts frames (c.Open list) p h = plain_list texts frames list p h
+
+  plain_list : (texts : Bool) (frames : List Frame) (them : c.ParameterList) → is_pure_parameter_list them ≡ true → IsSimpleList texts frames them
+      → IsPlainList texts frames them
+  plain_list texts frames c.no_parameters p h = tt
+  plain_list texts frames (c.a_parameter s d rest) p h = (
+    h.0,
+    plain_declarator texts frames d
+        (and_second (is_pure_specifiers s) (is_pure_declarator d) (and_first (is_pure_specifiers s && is_pure_declarator d) (is_pure_parameter_list rest) p)) h.1,
+    plain_list texts frames rest (and_second (is_pure_specifiers s && is_pure_declarator d) (is_pure_parameter_list rest) p) h.2,
+  )
 
   plain_declarator : (texts : Bool) (frames : List Frame) (d : c.Declarator) → is_pure_declarator d ≡ true → IsSimpleDeclarator texts frames d
       → IsPlainDeclarator texts frames d

@@ -1,4 +1,4 @@
--- Walks that find string literals, labels and facts.
+-- Walks that find string literals, parameters of type names, labels and facts.
 use Rattle.std.proofs.Common.{◌≡◌, ℕ, Bool, true, List, [], ◌∷◌, refl, subst}
 use Rattle.std.specs.Prelude.{◌++◌}
 use Rattle.lt_tree.specs.Typing.Rules.{Rule}
@@ -11,12 +11,12 @@ use Rattle.lt_erased_typing.specs.Erasable.{FindsLabels, with_found, entered, un
 use Rattle.lt_erased_typing.proofs.Texts.{IsNamed, more_after, kept_within}
 use Rattle.lt_erased_typing.proofs.Shows.{Holds, holds, broken}
 
--- the same is known but for the numbers of nodes, string literals, labels and facts
+-- the same is known but for the numbers of nodes, string literals, parameters, labels and facts
 pub data IsNear (texts : Bool) (known : Known) : Known → Type 0 where
   near : {n : ℕ} {objects : List Object} {found : List Label} {facts : List Fact} → HasMoreTexts texts known.objects objects
       → IsNear texts known (with_found known n objects found facts)
 
--- where a walk goes on, it found string literals, labels and facts
+-- where a walk goes on, it found string literals, parameters, labels and facts
 pub data Finds {A : Type 0} (texts : Bool) (known : Known) : Outcome A → Type 0 where
   went : {a : A} {k : Known} → IsNear texts known k → Finds texts known (Goes a k)
   broke : {rule : Rule} {node : ℕ} → Finds texts known (Breaks rule node)

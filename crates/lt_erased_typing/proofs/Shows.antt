@@ -15,8 +15,8 @@ use Rattle.lt_tree.specs.Typing.Extents.{Placed, is_complete}
 use Rattle.lt_tree.specs.Typing.Constants.{Constancy, varying, faulty, number, null_constant, null_address, address, is_form, is_zero, TypedConstant, converted, chosen}
 use Rattle.lt_tree.specs.Typing.Rules.{Rule, bad_cast, bad_address}
 use Rattle.lt_tree.specs.Typing.TypedTree as e
-use Rattle.lt_tree.specs.Typing.TypedTree.{Value, Place, type_at}
-use Rattle.lt_tree.specs.Typing.Entities.{Known, Label, Entity, an_object, a_function, a_typedef, an_enumerator, type_of_object}
+use Rattle.lt_tree.specs.Typing.TypedTree.{Place, type_at}
+use Rattle.lt_tree.specs.Typing.Entities.{Known, Entity, an_object, a_function, a_typedef, an_enumerator, type_of_object}
 use Rattle.lt_tree.specs.Typing.Steps.{Outcome, Goes, Breaks, goes_on, settle, marked_again, notes, gives, ◌>>◌}
 use Rattle.lt_tree.specs.Typing.Operands.{are_integers, points_to, can_be_cast}
 use Rattle.lt_tree.specs.Typing.Expressions.{a_value, Typed, Use, as_value, as_truth, as_place, varies, placed, nothing, own_type, value_in, place_in, value_at, read, used, fact_of, faults_of_any, finish, Judged, judgement, constancy_to, constancy_as_pointer, null_of, scalar_in}
@@ -31,7 +31,8 @@ use Rattle.lt_erased_typing.specs.Erasable.{CanBeErasedWith, FindsLabels, ShowsN
 use Rattle.lt_objectives.specs.Copies.{is_cast, is_marked_cast}
 use Rattle.lt_erased_typing.specs.Literals.{none_more}
 use Rattle.lt_erased_typing.proofs.Texts.{IsNamed, kept_within}
-use Rattle.lt_erased_typing.proofs.TypeNames.{specifiers_same}
+use Rattle.lt_erased_typing.proofs.TypeNames.{specifiers_same, type_names_judged}
+use Rattle.lt_erased_typing.proofs.Scopes.{Own, itself, scopes_itself}
 use Rattle.lt_erased_typing.proofs.Going.{beside, named_beside, Follows, goes, breaks}
 use Rattle.lt_erased_typing.proofs.Constants.{seen, is_integral, converted_is, applied_is, negated_is, connected_is, conversion_is, moved_seen, chosen_second, chosen_third}
 use Rattle.lt_erased_typing.proofs.Operands.{BareValue, BareTruth, Bare, value_read}
@@ -86,8 +87,8 @@ unfolding finish
 behind_end P n role it k h = behind_rules P n (it.faults ++ faults_of_any k.structs role it.typed) it.typed (used role it.typed) k (λ r. h (left_empty it.faults (faults_of_any k.structs role it.typed) r))
 
 -- of two walks, what is said of the first
-first_of : {A B : Type 0} {texts : Bool} {known : Known} {labels : List Label} {R : A → B → Type 0} {o : Outcome A} {p : Outcome B}
-    → IsNamed texts known → Follows texts known labels R o p
+first_of : {A B : Type 0} {texts : Bool} {known : Known} {own : Own} {R : A → B → Type 0} {o : Outcome A} {p : Outcome B}
+    → IsNamed texts known → Follows texts known own R o p
     → Holds (λ a k. (b : B) × R a b × IsNamed texts k) o
 first_of w (goes {a} {b} r s) = holds (b, r, named_beside w s)
 first_of w breaks = broken
@@ -102,15 +103,15 @@ or_none false b h = (refl, h)
 -- what is said of an expression beside itself without its marks
 pub itself_bare : {texts : Bool} (k : Known) (it : c.Expression) → IsNamed texts k → CanBeErasedWith texts as_value k it
     → Holds (λ x j. (y : Typed) × BareValue x y × IsNamed texts j) (expression it as_value k)
-itself_bare k it w h = first_of w (of_expression {known = k} {labels = k.labels} {k = k} {j = k} w it as_value refl (beside none_more none_more) h)
+itself_bare k it w h = first_of w (of_expression {known = k} {own = itself k} {k = k} {j = k} (scopes_itself k w) it as_value refl (beside none_more none_more) h)
 
 itself_tested : {texts : Bool} (k : Known) (it : c.Expression) → IsNamed texts k → CanBeErasedWith texts as_truth k it
     → Holds (λ x j. (y : Typed) × BareTruth x y × IsNamed texts j) (expression it as_truth k)
-itself_tested k it w h = first_of w (of_expression {known = k} {labels = k.labels} {k = k} {j = k} w it as_truth refl (beside none_more none_more) h)
+itself_tested k it w h = first_of w (of_expression {known = k} {own = itself k} {k = k} {j = k} (scopes_itself k w) it as_truth refl (beside none_more none_more) h)
 
 itself_placed : {texts : Bool} (k : Known) (it : c.Expression) → IsNamed texts k → CanBeErasedWith texts as_place k it
     → Holds (λ x j. (y : Typed) × Bare x y × IsNamed texts j) (expression it as_place k)
-itself_placed k it w h = first_of w (of_expression {known = k} {labels = k.labels} {k = k} {j = k} w it as_place refl (beside none_more none_more) h)
+itself_placed k it w h = first_of w (of_expression {known = k} {own = itself k} {k = k} {j = k} (scopes_itself k w) it as_place refl (beside none_more none_more) h)
 
 -- ---- what is no null pointer constant
 
@@ -373,10 +374,10 @@ cast_behind : {texts : Bool} (s : c.Specifiers) (d : c.Declarator) (operand : c.
 cast_behind {texts} s d operand k w h =
     behind_bind (specifiers s elsewhere (entered k)) _
     (behind_both (given (specifiers s elsewhere (entered k)) h.1)
-    (first_of {texts = texts} {known = entered k} w (specifiers_same {texts = texts} {known = entered k} {labels = k.labels} {k = entered k} {j = entered k} s elsewhere refl h.0 (beside none_more none_more)))) (λ it l a.
+    (first_of {texts = texts} {known = entered k} w (specifiers_same {texts = texts} {known = entered k} {own = itself k} (scopes_itself k w) {k = entered k} {j = entered k} s elsewhere refl h.0 (beside none_more none_more)))) (λ it l a.
     behind_bind (declarator d it false (λ name known b. type_name_faults b) l) _
     (behind_both (given (declarator d it false (λ name known b. type_name_faults b) l) a.0.1)
-    (first_of {texts = texts} {known = l} a.1.2 (of_declarator {known = l} {labels = l.labels} {k = l} {j = l} a.1.2 d it (beside none_more none_more) a.0.0))) (λ t l b.
+    (first_of {texts = texts} {known = l} a.1.2 (of_declarator {known = l} {own = itself l} {k = l} {j = l} (scopes_itself l a.1.2) type_names_judged d it (beside none_more none_more) a.0.0))) (λ t l b.
     behind_bind (expression operand as_value l) _ (itself_bare l operand b.1.2 b.0) (λ x l p.
     behind_end ShowsNull k.next as_value (also t.faults (judge_cast t.type x l)) l (λ r. cast_shows t.type l p.1 (right_empty t.faults (judge_cast t.type x l).faults r)))))
 

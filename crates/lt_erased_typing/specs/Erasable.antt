@@ -1,15 +1,16 @@
 -- Where marks can be taken off an expression: it only reads, declares nothing, and its marks hide nothing from an operator.
-use Rattle.std.specs.Prelude.{◌≡◌, ℕ, ◌+◌, Bool, true, false, List, is_some}
+use Rattle.std.specs.Prelude.{◌≡◌, ℕ, ◌+◌, Bool, true, false, List, ◌∷◌, is_some}
 use Rattle.lt_tree.specs.Tree as c
 use Rattle.lt_tree.specs.Typing.Constants.{null_constant}
-use Rattle.lt_tree.specs.Typing.Entities.{Known, Object, Label, Fact, Frame, tagged_in}
-use Rattle.lt_tree.specs.Typing.Steps.{Outcome, Goes, Breaks}
+use Rattle.lt_tree.specs.Typing.Types.{adjusted}
+use Rattle.lt_tree.specs.Typing.Entities.{Known, Object, Label, Fact, Frame, no_names, tagged_in}
+use Rattle.lt_tree.specs.Typing.Steps.{Outcome, Goes, Breaks, in_block}
 use Rattle.lt_tree.specs.Typing.Expressions.{Typed, Use, as_value, as_truth, as_place, as_callee}
 use Rattle.lt_tree.specs.Typing.MarkRules.{inside_mark, inside_after}
-use Rattle.lt_tree.specs.Typing.Specifying.{elsewhere}
-use Rattle.lt_tree.specs.Typing.Declarators.{type_name_faults, setting_in_sizeof}
+use Rattle.lt_tree.specs.Typing.Specifying.{is_register, elsewhere}
+use Rattle.lt_tree.specs.Typing.Declarators.{type_name_faults, setting_in_sizeof, parameter_faults, binds_parameter}
 use Rattle.lt_tree.specs.Typing.NodeEnds.{operand_of}
-use Rattle.lt_tree.specs.Typing.ExpressionTyping.{expression, maybe, marks, specifiers, declarator}
+use Rattle.lt_tree.specs.Typing.ExpressionTyping.{expression, maybe, marks, specifiers, declarator, parameters}
 use Rattle.lt_erased_typing.specs.Literals.{HasMoreTexts}
 
 -- what is known there, with these numbers, labels and facts
@@ -32,7 +33,11 @@ entered known = record known { next = known.next + 1 }
 abbrev pub unmarked : Known → Known
 unmarked known = record known { is_unmarked = true }
 
--- nothing is found but labels and facts, and string literals, where these are allowed
+-- in a scope of its own
+abbrev pub in_scope : Known → Known
+in_scope known = record known { frames = no_names ∷ known.frames }
+
+-- nothing is found but labels and facts, and string literals and parameters of type names, where these are allowed
 abbrev pub FindsLabels : (texts : Bool) → Known → Known → Type 0
 FindsLabels texts known next = HasMoreTexts texts known.objects next.objects × (next ≡ with_found known next.next next.objects next.labels next.facts)
 
@@ -66,8 +71,8 @@ AreKnown frames (c.specifiers words types) = AreKnownTypes frames types
 -- ---- expressions
 
 abbrev mutual
-  -- That marks can be taken off an expression that is used so, where this is known, and with string literals in it, where they are allowed: each part is
-  -- judged with what is known there, behind those before it.
+  -- That marks can be taken off an expression that is used so, where this is known, and with string literals and parameters of type names in it, where they
+  -- are allowed: each part is judged with what is known there, behind those before it.
   pub CanBeErasedWith : (texts : Bool) → Use → Known → c.Expression → Type 0
   CanBeErasedWith texts role known (c.Name name) = Unit {0}
   CanBeErasedWith texts role known (c.Constant text) = Unit {0}
@@ -114,12 +119,12 @@ abbrev mutual
       CanBeErasedWith texts as_value known first
       × Behind (expression first as_value known) (λ x next. CanEachBeErased texts next rest)
 
-  -- the lengths of arrays in a type name, where no functions have parameters
+  -- the lengths of arrays in a type name, and its parameters
   pub CanLengthsBeErased : (texts : Bool) → Known → c.Declarator → Type 0
   CanLengthsBeErased texts known (c.declarator name c.no_parts) = Unit {0}
   CanLengthsBeErased texts known (c.declarator name (c.Pointer qualifiers rest)) = CanPartsBeErased texts (entered known) (c.Pointer qualifiers rest)
   CanLengthsBeErased texts known (c.declarator name (c.Array length rest)) = CanPartsBeErased texts (entered known) (c.Array length rest)
-  CanLengthsBeErased texts known (c.declarator name (c.Function parameters rest)) = ⊥
+  CanLengthsBeErased texts known (c.declarator name (c.Function them rest)) = CanPartsBeErased texts (entered known) (c.Function them rest)
 
   pub CanPartsBeErased : (texts : Bool) → Known → c.Parts → Type 0
   CanPartsBeErased texts known c.no_parts = Unit {0}
@@ -127,12 +132,25 @@ abbrev mutual
   CanPartsBeErased texts known (c.Array length rest) =
       CanLengthBeErased texts known length
       × Behind (maybe length known) (λ n next. CanPartsBeErased texts next rest)
-  CanPartsBeErased texts known (c.Function parameters rest) = ⊥
+  CanPartsBeErased texts known (c.Function them rest) =
+      (texts ≡ true) × CanParametersBeErased texts (in_scope known) them
+      × Behind (in_block (parameters them false) known) (λ found next. CanPartsBeErased texts next rest)
 
   pub CanLengthBeErased : (texts : Bool) → Known → c.Maybe → Type 0
   CanLengthBeErased texts known c.absent = Unit {0}
   CanLengthBeErased texts known (c.present e) = CanBeErasedWith texts as_value (unmarked known) e
 
--- that marks can be taken off an expression without string literals
-abbrev pub CanBeErased : Use → Known → c.Expression → Type 0
-CanBeErased role known e = CanBeErasedWith false role known e
+  -- parameters, in their scope
+  pub CanParametersBeErased : (texts : Bool) → Known → c.Parameters → Type 0
+  CanParametersBeErased texts known c.Unstated = Unit {0}
+  CanParametersBeErased texts known c.Void = Unit {0}
+  CanParametersBeErased texts known (c.Listed list) = CanListBeErased texts known list
+  CanParametersBeErased texts known (c.Open list) = CanListBeErased texts known list
+
+  pub CanListBeErased : (texts : Bool) → Known → c.ParameterList → Type 0
+  CanListBeErased texts known c.no_parameters = Unit {0}
+  CanListBeErased texts known (c.a_parameter s d rest) =
+      AreKnown known.frames s
+      × Behind (specifiers s elsewhere known) (λ it next. CanLengthsBeErased texts next d
+      × Behind (declarator d it false (parameter_faults false) next) (λ declared behind.
+      Behind (binds_parameter false (is_register it) declared.node declared.name (adjusted declared.type) behind) (λ objects last. CanListBeErased texts last rest)))

@@ -9,27 +9,13 @@ use Rattle.lt_tree.specs.Typing.Expressions.{Typed, as_value, as_truth, own_type
 use Rattle.lt_tree.specs.Typing.ExpressionTyping.{expression}
 use Rattle.lt_objectives.specs.Copies.{is_core, can_be_copied}
 use Rattle.lt_erased_typing.specs.Literals.{HasMoreTexts, NamesObjects}
-use Rattle.lt_erased_typing.specs.Plain.{IsPlain}
-use Rattle.lt_erased_typing.specs.Simple.{IsSimple, IsSimpleWith}
-use Rattle.lt_erased_typing.specs.Erasable.{CanBeErased, CanBeErasedWith, at, with_found, entered}
+use Rattle.lt_erased_typing.specs.Plain.{IsPlainWith}
+use Rattle.lt_erased_typing.specs.Simple.{IsSimpleWith}
+use Rattle.lt_erased_typing.specs.Erasable.{CanBeErasedWith, at, with_found, entered}
 
 -- Where the typing of an expression goes on, marks of which can be taken off, so does the typing of the expression without its marks: with the same type,
--- and it finds nothing but facts.
-abbrev pub PureExpressionsAreTypedWithoutMarks : Type 0
-PureExpressionsAreTypedWithoutMarks =
-    (known next : Known) (e : c.Expression) (x : Typed) → CanBeErased as_value known e → expression e as_value known ≡ Goes x next
-    → (y : Typed) × (n : ℕ) × (facts : List Fact) × (expression (erased e) as_value known ≡ Goes y (record known { next = n; facts = facts }))
-    × (own_type y ≡ own_type x)
-
--- So it does where other labels and facts are known, and nodes have other numbers.
-abbrev pub TheyAreTypedBesideOtherMarks : Type 0
-TheyAreTypedBesideOtherMarks =
-    (known next : Known) (e : c.Expression) (x : Typed) → CanBeErased as_value known e → expression e as_value known ≡ Goes x next
-    → (n : ℕ) (labels : List Label) (facts : List Fact)
-    → (y : Typed) × (m : ℕ) × (others : List Fact) × (expression (erased e) as_value (at known n labels facts) ≡ Goes y (at known m labels others))
-    × (own_type y ≡ own_type x)
-
--- So are expressions with string literals, where each object that has a name in scope is known: they find these and facts.
+-- and it finds nothing but facts, and objects of string literals and parameters of type names. So it does where other labels and facts are known, and nodes
+-- have other numbers. Each object that has a name in scope is to be known.
 abbrev pub LiteralsAreTypedWithoutMarks : Type 0
 LiteralsAreTypedWithoutMarks =
     (known next : Known) (e : c.Expression) (x : Typed) → NamesObjects known → CanBeErasedWith true as_value known e → expression e as_value known ≡ Goes x next
@@ -38,13 +24,6 @@ LiteralsAreTypedWithoutMarks =
     × (expression (erased e) as_value (at known n labels facts) ≡ Goes y (with_found known m objects labels others)) × (own_type y ≡ own_type x)
 
 -- The operands of an operator have their types without marks too.
-abbrev pub OperandsKeepTheirTypes : Type 0
-OperandsKeepTheirTypes =
-    (known next last : Known) (op : Op) (left right : c.Expression) (x y : Typed) → CanBeErased as_value known (c.Binary op left right)
-    → expression left as_value (entered known) ≡ Goes x next → expression right as_value next ≡ Goes y last
-    → (z w : Typed) (k j : Known) → expression (erased left) as_value (entered known) ≡ Goes z k → expression (erased right) as_value k ≡ Goes w j
-    → (own_type z ≡ own_type x) × (own_type w ≡ own_type y)
-
 abbrev pub OperandsWithLiteralsKeepTheirTypes : Type 0
 OperandsWithLiteralsKeepTheirTypes =
     (known next last : Known) (op : Op) (left right : c.Expression) (x y : Typed)
@@ -59,14 +38,10 @@ TruthsAreTypedAsValues = (known : Known) (e : c.Expression) → is_core e ≡ tr
 
 -- Marks can be taken off expressions that are plain.
 abbrev pub PlainExpressionsCanBeErased : Type 0
-PlainExpressionsCanBeErased = (known : Known) (e : c.Expression) → IsPlain known.frames e → CanBeErased as_value known e
+PlainExpressionsCanBeErased =
+    (known : Known) (e : c.Expression) → NamesObjects known → IsPlainWith true known.frames e → CanBeErasedWith true as_value known e
 
 -- Marks can be taken off what predicates copy: where such an expression is typed, its marks hide nothing from an operator.
-abbrev pub CopiesCanBeErased : Type 0
-CopiesCanBeErased =
-    (known next : Known) (e : c.Expression) (x : Typed) → can_be_copied e ≡ true → IsSimple known.frames e → expression e as_value known ≡ Goes x next
-    → CanBeErased as_value known e
-
 abbrev pub CopiesWithLiteralsCanBeErased : Type 0
 CopiesWithLiteralsCanBeErased =
     (known next : Known) (e : c.Expression) (x : Typed) → NamesObjects known → can_be_copied e ≡ true → IsSimpleWith true known.frames e

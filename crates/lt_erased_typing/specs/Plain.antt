@@ -13,9 +13,9 @@ MayTake unary.AddressOf operand = is_core operand ≡ true
 MayTake op operand = Unit {0}
 
 abbrev mutual
-  -- An expression where these names and tags are in scope: it has no assignment, `++`, `--` or call, and no string literal, unless these are allowed,
-  -- declares no struct, enum or parameter, has no marks around the operands of `.`, `&` and `sizeof`, and none around a cast that is an operand of `?:`. So
-  -- it is in predicates of marks.
+  -- An expression where these names and tags are in scope: it has no assignment, `++`, `--` or call, and no string literal and no parameter in a type name,
+  -- unless these are allowed, declares no struct or enum, has no marks around the operands of `.`, `&` and `sizeof`, and none around a cast that is an
+  -- operand of `?:`. So it is in predicates of marks. No tag is declared among parameters, so the same are in scope there.
   pub IsPlainWith : (texts : Bool) → List Frame → c.Expression → Type 0
   IsPlainWith texts frames (c.Name name) = Unit {0}
   IsPlainWith texts frames (c.Constant text) = Unit {0}
@@ -62,8 +62,14 @@ abbrev mutual
   ArePlainParts texts frames (c.Pointer qualifiers rest) = ArePlainParts texts frames rest
   ArePlainParts texts frames (c.Array c.absent rest) = ArePlainParts texts frames rest
   ArePlainParts texts frames (c.Array (c.present length) rest) = IsPlainWith texts frames length × ArePlainParts texts frames rest
-  ArePlainParts texts frames (c.Function parameters rest) = ⊥
+  ArePlainParts texts frames (c.Function them rest) = (texts ≡ true) × ArePlainParameters texts frames them × ArePlainParts texts frames rest
 
--- a plain expression without string literals
-abbrev pub IsPlain : List Frame → c.Expression → Type 0
-IsPlain frames e = IsPlainWith false frames e
+  pub ArePlainParameters : (texts : Bool) → List Frame → c.Parameters → Type 0
+  ArePlainParameters texts frames c.Unstated = Unit {0}
+  ArePlainParameters texts frames c.Void = Unit {0}
+  ArePlainParameters texts frames (c.Listed list) = IsPlainList texts frames list
+  ArePlainParameters texts frames (c.Open list) = IsPlainList texts frames list
+
+  pub IsPlainList : (texts : Bool) → List Frame → c.ParameterList → Type 0
+  IsPlainList texts frames c.no_parameters = Unit {0}
+  IsPlainList texts frames (c.a_parameter s d rest) = AreKnown frames s × IsPlainDeclarator texts frames d × IsPlainList texts frames rest

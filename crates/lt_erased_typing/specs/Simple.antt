@@ -1,13 +1,13 @@
 -- What is asked of the text of an expression that predicates copy, wherever its marks stand.
-use Rattle.std.specs.Prelude.{◌≡◌, Bool, true, false, List}
+use Rattle.std.specs.Prelude.{◌≡◌, Bool, true, List}
 use Rattle.lt_tree.specs.Tree as c
 use Rattle.lt_tree.specs.Typing.Entities.{Frame}
 use Rattle.lt_erased_typing.specs.Erasable.{AreKnown}
 
 abbrev mutual
-  -- An expression where these names and tags are in scope: it has no string literal, unless these are allowed, its type names have no parameters and
-  -- declare no struct or enum, its comma expressions have two parts or more, and behind labels stands one label or more. So it is in predicates of marks,
-  -- and in the integers that they bind. Nothing is asked of what is never copied.
+  -- An expression where these names and tags are in scope: it has no string literal and no parameter in a type name, unless these are allowed, its type
+  -- names declare no struct or enum, its comma expressions have two parts or more, and behind labels stands one label or more. So it is in predicates of
+  -- marks, and in the integers that they bind. Nothing is asked of what is never copied.
   pub IsSimpleWith : (texts : Bool) → List Frame → c.Expression → Type 0
   IsSimpleWith texts frames (c.Text bytes) = texts ≡ true
   IsSimpleWith texts frames (c.Index whole index) = IsSimpleWith texts frames whole × IsSimpleWith texts frames index
@@ -53,8 +53,14 @@ abbrev mutual
   AreSimpleParts texts frames (c.Pointer qualifiers rest) = AreSimpleParts texts frames rest
   AreSimpleParts texts frames (c.Array c.absent rest) = AreSimpleParts texts frames rest
   AreSimpleParts texts frames (c.Array (c.present length) rest) = IsSimpleWith texts frames length × AreSimpleParts texts frames rest
-  AreSimpleParts texts frames (c.Function parameters rest) = ⊥
+  AreSimpleParts texts frames (c.Function them rest) = (texts ≡ true) × AreSimpleParameters texts frames them × AreSimpleParts texts frames rest
 
--- a simple expression without string literals
-abbrev pub IsSimple : List Frame → c.Expression → Type 0
-IsSimple frames e = IsSimpleWith false frames e
+  pub AreSimpleParameters : (texts : Bool) → List Frame → c.Parameters → Type 0
+  AreSimpleParameters texts frames c.Unstated = Unit {0}
+  AreSimpleParameters texts frames c.Void = Unit {0}
+  AreSimpleParameters texts frames (c.Listed list) = IsSimpleList texts frames list
+  AreSimpleParameters texts frames (c.Open list) = IsSimpleList texts frames list
+
+  pub IsSimpleList : (texts : Bool) → List Frame → c.ParameterList → Type 0
+  IsSimpleList texts frames c.no_parameters = Unit {0}
+  IsSimpleList texts frames (c.a_parameter s d rest) = AreKnown frames s × IsSimpleDeclarator texts frames d × IsSimpleList texts frames rest

@@ -1,24 +1,15 @@
 //! Laws of the definitions; the functions do nothing.
 
 ghost use Rattle.lt_erased_typing.specs.Examples.{MarksHideOperands, MarksShowRegisters};
-ghost use Rattle.lt_erased_typing.specs.Laws.{CopiesCanBeErased, CopiesWithLiteralsCanBeErased, LiteralsAreTypedWithoutMarks, OperandsKeepTheirTypes, OperandsWithLiteralsKeepTheirTypes, PlainExpressionsCanBeErased, PureExpressionsAreTypedWithoutMarks, TheyAreTypedBesideOtherMarks, TruthsAreTypedAsValues};
+ghost use Rattle.lt_erased_typing.specs.Laws.{CopiesWithLiteralsCanBeErased, LiteralsAreTypedWithoutMarks, OperandsWithLiteralsKeepTheirTypes, PlainExpressionsCanBeErased, TruthsAreTypedAsValues};
 
-/// A pure expression is typed without its marks where it is typed with them, if they hide nothing from an operator.
-pub fn pure_expressions_are_typed_without_marks()
-    ensures here { PureExpressionsAreTypedWithoutMarks }
-    ensures beside_other_marks { TheyAreTypedBesideOtherMarks }
-{}
-
-/// So is one with string literals, if the objects of which names are in scope are known; it finds objects of string literals too.
+/// A pure expression is typed without its marks where it is typed with them, if they hide nothing from an operator, and the
+/// objects of which names are in scope are known; so are operands. Marks can be taken off expressions that predicates copy,
+/// where these are typed, whatever marks stand in them.
 pub fn literals_are_typed_without_marks()
     ensures whole { LiteralsAreTypedWithoutMarks }
     ensures operands { OperandsWithLiteralsKeepTheirTypes }
     ensures copies { CopiesWithLiteralsCanBeErased }
-{}
-
-/// The operands of an operator have the same types without their marks.
-pub fn operands_keep_their_types()
-    ensures { OperandsKeepTheirTypes }
 {}
 
 /// An expression that isn't behind marks is typed alike where its truth or its value is used.
@@ -29,11 +20,6 @@ pub fn truths_are_typed_as_values()
 /// Marks can be taken off expressions that show by their text that marks hide nothing.
 pub fn plain_expressions_can_be_erased()
     ensures { PlainExpressionsCanBeErased }
-{}
-
-/// Marks can be taken off expressions that predicates copy, where these are typed, whatever marks stand in them.
-pub fn copies_can_be_erased()
-    ensures { CopiesCanBeErased }
 {}
 
 /// Texts that are typed with marks, and not without them, or with another type.

@@ -4,7 +4,6 @@
 mod laws;
 
 pub use laws::{
-    copies_can_be_erased, literals_are_typed_without_marks, marks_hide_operands,
-    marks_show_registers, operands_keep_their_types, plain_expressions_can_be_erased,
-    pure_expressions_are_typed_without_marks, truths_are_typed_as_values,
+    literals_are_typed_without_marks, marks_hide_operands, marks_show_registers,
+    plain_expressions_can_be_erased, truths_are_typed_as_values,
 };

@@ -11,7 +11,6 @@ use Rattle.lt_facts.specs.Outside.{outside_from, places_from}
 use Rattle.lt_mark_typing.specs.Beside.{IsBeside}
 use Rattle.lt_mark_typing.specs.PlacedUnits as p
 use Rattle.lt_mark_typing.specs.PlacedUnits.{AddsToExternal, AddsToUnit}
-use Rattle.lt_mark_typing.proofs.Unchanged.{Same}
 use Rattle.lt_kept_facts.specs.Asked.{asked, kept, seen}
 use Rattle.lt_kept_facts.proofs.MarksEnd.{Ends}
 use Rattle.lt_kept_facts.proofs.KeptSteps.{went, Piece}
@@ -38,8 +37,8 @@ AreAligned xs ys = ⊥
 -- An external with marks added keeps what is noted of its nodes.
 abbrev pub ExternalsKeep : (F G : List Fact) → (ℕ → Bool) → Type 0
 ExternalsKeep F G new =
-    (ids last : List ℕ) (k l : Known) (x y : c.External) → AddsToExternal new ids last k x y → IsBeside new ids k l
-    → Piece F G new last (Same {A = Unit {0}}) k (in_external x) l (in_external y) (external x k) (external y l)
+    (ids last : List ℕ) (further : List Bool) (k l : Known) (x y : c.External) → AddsToExternal new ids last k x y → IsBeside new ids further k l
+    → Piece F G new last further (λ (u v : Unit {0}). Unit {0}) k (in_external x) l (in_external y) (external x k) (external y l)
 
 -- ---- how many are outside of marks
 
@@ -64,26 +63,27 @@ one_form : {new : ℕ → Bool} {used after : List ℕ} {known : Known} {x y : c
 one_form (p.Defines g h f) = tt
 one_form (p.Declared h) = tt
 
-module _ (new : ℕ → Bool) (last : List ℕ) (k l : Known) (xs ys : List Node) where
+module _ (new : ℕ → Bool) (last : List ℕ) (further : List Bool) (k l : Known) (xs ys : List Node) where
   abbrev Kept : (F G : List Fact) → Outcome (Unit {0}) → Outcome (Unit {0}) → Type 0
-  Kept F G o r = Piece F G new last (Same {A = Unit {0}}) k xs l ys o r
+  Kept F G o r = Piece F G new last further (λ (u v : Unit {0}). Unit {0}) k xs l ys o r
 
-  counted : (u v : Unit {0}) (m n : Known) → ((F G : List Fact) → Kept F G (Goes u m) (Goes v n)) → Kept [] [] (Goes u m) (Goes v n) → AsMany xs ys × IsBeside new last m n
-  counted u v m n whole (went r b p q h) = (
+  counted : (u v : Unit {0}) (m n : Known) → ((F G : List Fact) → Kept F G (Goes u m) (Goes v n)) → Kept [] [] (Goes u m) (Goes v n) → AsMany xs ys × (behind : List Bool) × IsBeside new last behind m n
+  counted u v m n whole (went {behind = behind} e r b p q h) = (
     record { first = p.ends; second = q.ends; same = at_any k.next l.next xs ys (as_many p.more q.more k.next l.next xs ys (seen_there (whole p.more q.more) p.noted q.noted)) },
+    behind,
     b,
   )
 
-  both_gone : (o r : Outcome (Unit {0})) (u v : Unit {0}) (m n : Known) → ((F G : List Fact) → Kept F G o r) → o ≡ Goes u m → r ≡ Goes v n → AsMany xs ys × IsBeside new last m n
+  both_gone : (o r : Outcome (Unit {0})) (u v : Unit {0}) (m n : Known) → ((F G : List Fact) → Kept F G o r) → o ≡ Goes u m → r ≡ Goes v n → AsMany xs ys × (behind : List Bool) × IsBeside new last behind m n
   both_gone o r u v m n whole e i =
       let there : (F G : List Fact) → Kept F G (Goes u m) (Goes v n) = λ F G. subst (λ o. Kept F G o (Goes v n)) e (subst (λ r. Kept F G o r) i (whole F G)) in
       counted u v m n there (there [] [])
 
-pub aligned : {new : ℕ → Bool} → ((F G : List Fact) → ExternalsKeep F G new) → {used after : List ℕ} {k : Known} {xs ys : List c.External} → AddsToUnit new used after k xs ys → (l : Known) → IsBeside new used k l
+pub aligned : {new : ℕ → Bool} → ((F G : List Fact) → ExternalsKeep F G new) → {used after : List ℕ} {further : List Bool} {k : Known} {xs ys : List c.External} → AddsToUnit new used after k xs ys → (l : Known) → IsBeside new used further k l
     → (u v : Unit {0}) (m n : Known) → externals xs k ≡ Goes u m → externals ys l ≡ Goes v n → AreAligned xs ys
 aligned keep p.no_externals l b u v m n goes others = tt
-aligned {new} keep (p.an_external {used} {between} {known = k} {x} {y} {xs} {ys} d f) l b u v m n goes others =
+aligned {new} keep {further = further} (p.an_external {used} {between} {known = k} {x} {y} {xs} {ys} d f) l b u v m n goes others =
     let first = some_rest (external x k) (λ w. externals xs) goes in
     let second = some_rest (external y l) (λ w. externals ys) others in
-    let here = both_gone new between k l (in_external x) (in_external y) (external x k) (external y l) first.0 second.0 first.1 second.1 (λ F G. keep F G used between k l x y d b) first.2 second.2 in
-    (one_form d, here.0, aligned keep (f first.0 first.1 first.2) second.1 here.1 u v m n first.3 second.3)
+    let here = both_gone new between further k l (in_external x) (in_external y) (external x k) (external y l) first.0 second.0 first.1 second.1 (λ F G. keep F G used between further k l x y d b) first.2 second.2 in
+    (one_form d, here.0, aligned keep (f first.0 first.1 first.2) second.1 here.2 u v m n first.3 second.3)

@@ -15,7 +15,7 @@ use Rattle.lt_objectives.specs.Mutants.{absolute_mutants, arithmetic_mutants, re
 use Rattle.lt_objectives.specs.Objectives.{at_start, in_front, Objective, all_at, parameters_among, parameters_at, domains_of_object, at_body, decided_at, at_test, left_type, right_type, mutants, differences, at_expression, at_node, objectives}
 use Rattle.lt_facts.proofs.OutsideMarks.{places_unit}
 use Rattle.lt_kept_facts.specs.Laws.{FactsAreFoundByEither}
-use Rattle.lt_kept_facts.specs.Known.{KnowTheSame}
+use Rattle.lt_kept_facts.specs.Known.{domains_at, KnowTheSame}
 use Rattle.lt_kept_facts.specs.Objectives.{ObjectivesAreFoundByEither}
 
 -- ---- lists
@@ -30,21 +30,22 @@ any_same f g h (x ∷ xs) = ap (λ b. b || list_any f xs) (h x) ∙ ap (λ b. g 
 
 -- ---- functions by the numbers of their definitions
 
-parameters_of : (ℕ → List ℕ) → Option ℕ → List ℕ
-parameters_of f None = []
-parameters_of f (Some n) = f n
+-- what is found by a number, if there is one
+found_by : {A : Type 0} → (ℕ → List A) → Option ℕ → List A
+found_by f None = []
+found_by f (Some n) = f n
 
-either_of : (f g : ℕ → List ℕ) (b : Bool) (m n : ℕ) (o p : Option ℕ) → f m ≡ g n → parameters_of f o ≡ parameters_of g p → parameters_of f (if b then Some m else o) ≡ parameters_of g (if b then Some n else p)
-unfolding parameters_of
-either_of f g true m n o p h i = h
-either_of f g false m n o p h i = i
+either_found : {A : Type 0} (f g : ℕ → List A) (b : Bool) (m n : ℕ) (o p : Option ℕ) → f m ≡ g n → found_by f o ≡ found_by g p → found_by f (if b then Some m else o) ≡ found_by g (if b then Some n else p)
+unfolding found_by
+either_found f g true m n o p h i = h
+either_found f g false m n o p h i = i
 
-corresponding_same : (f g : ℕ → List ℕ) (k : ℕ) (ms ns : List ℕ) → map f ms ≡ map g ns → parameters_of f (corresponding k ns ms) ≡ parameters_of g (corresponding k ns ns)
-unfolding parameters_of
+corresponding_same : {A : Type 0} (f g : ℕ → List A) (k : ℕ) (ms ns : List ℕ) → map f ms ≡ map g ns → found_by f (corresponding k ns ms) ≡ found_by g (corresponding k ns ns)
+unfolding found_by
 corresponding_same f g k [] [] h = refl
 corresponding_same f g k (m ∷ ms) [] h = refl
 corresponding_same f g k [] (n ∷ ns) h = absurd cc
-corresponding_same f g k (m ∷ ms) (n ∷ ns) h = either_of f g (eqb n k) m n (corresponding k ns ms) (corresponding k ns ns) (first h) (corresponding_same f g k ms ns (rest h))
+corresponding_same f g k (m ∷ ms) (n ∷ ns) h = either_found f g (eqb n k) m n (corresponding k ns ms) (corresponding k ns ns) (first h) (corresponding_same f g k ms ns (rest h))
   where
     first : f m ∷ map f ms ≡ g n ∷ map g ns → f m ≡ g n
     first h = cc
@@ -52,22 +53,24 @@ corresponding_same f g k (m ∷ ms) (n ∷ ns) h = either_of f g (eqb n k) m n (
     rest : f m ∷ map f ms ≡ g n ∷ map g ns → map f ms ≡ map g ns
     rest h = cc
 
-parameters_by : (f : ℕ → List ℕ) (o : Option ℕ) → elim (o) as (λ _. List ℕ) [ None ↦ [] | Some n ↦ f n ] ≡ parameters_of f o
-unfolding parameters_of
-parameters_by f None = refl
-parameters_by f (Some n) = refl
+domains_by : (program : Program) (o : Option ℕ) → flat_map (domains_of_object program) (elim (o) as (λ _. List ℕ) [ None ↦ [] | Some n ↦ parameters_among program.functions n ]) ≡ found_by (domains_at program) o
+unfolding found_by
+domains_by program None = refl
+domains_by program (Some n) = refl
 
-pub parameters_found : (program other : Program) → KnowTheSame program other → (k : ℕ) → parameters_at other.unit program k ≡ parameters_at other.unit other k
-parameters_found program other h k =
-    parameters_by (parameters_among program.functions) (corresponding k (unmarked_numbers other.unit) (unmarked_numbers program.unit))
-    ∙ corresponding_same (parameters_among program.functions) (parameters_among other.functions) k (unmarked_numbers program.unit) (unmarked_numbers other.unit)
-    (ap (map (parameters_among program.functions)) (sym (places_unit program.unit)) ∙ h.parameters ∙ ap (map (parameters_among other.functions)) (places_unit other.unit))
-    ∙ sym (parameters_by (parameters_among other.functions) (corresponding k (unmarked_numbers other.unit) (unmarked_numbers other.unit)))
+-- the domains of the parameters of the function that is defined at a node
+pub domains_found : (program other : Program) → KnowTheSame program other → (k : ℕ)
+    → flat_map (domains_of_object program) (parameters_at other.unit program k) ≡ flat_map (domains_of_object other) (parameters_at other.unit other k)
+domains_found program other h k =
+    domains_by program (corresponding k (unmarked_numbers other.unit) (unmarked_numbers program.unit))
+    ∙ corresponding_same (domains_at program) (domains_at other) k (unmarked_numbers program.unit) (unmarked_numbers other.unit)
+    (ap (map (domains_at program)) (sym (places_unit program.unit)) ∙ h.parameters ∙ ap (map (domains_at other)) (places_unit other.unit))
+    ∙ sym (domains_by other (corresponding k (unmarked_numbers other.unit) (unmarked_numbers other.unit)))
 
 -- ---- objectives
 
-module _ (unit : c.Unit) (p q : Program) (model : p.model ≡ q.model) (domains : (n : ℕ) → domains_of_object p n ≡ domains_of_object q n) (types : (k : ℕ) → type_at unit p k ≡ type_at unit q k)
-    (constants : (k : ℕ) → is_constant unit p k ≡ is_constant unit q k) (parameters : (k : ℕ) → parameters_at unit p k ≡ parameters_at unit q k) where
+module _ (unit : c.Unit) (p q : Program) (model : p.model ≡ q.model) (types : (k : ℕ) → type_at unit p k ≡ type_at unit q k) (constants : (k : ℕ) → is_constant unit p k ≡ is_constant unit q k)
+    (domains : (k : ℕ) → flat_map (domains_of_object p) (parameters_at unit p k) ≡ flat_map (domains_of_object q) (parameters_at unit q k)) where
   value_same : (k : ℕ) (node : Node) → closed_by_value unit p (record { number = k; node = node }) ≡ closed_by_value unit q (record { number = k; node = node })
   value_same k (an_expression e) = ap (λ b. if b then span k (length (in_expression e)) ∷ [] else []) (constants k)
   value_same k _ = refl
@@ -105,7 +108,7 @@ module _ (unit : c.Unit) (p q : Program) (model : p.model ≡ q.model) (domains 
       ∙ ap (λ (list : List Objective). if is_core e && is_open unit q k then at_test criterion (decided_at (decisions unit) k) (decided_at (clauses unit) k) k e ++ list else []) (differences_same criterion k e)
 
   body_same : (criterion : Criterion) (k : ℕ) → at_body unit p criterion k ≡ at_body unit q criterion k
-  body_same C.InputDomain k = each_same (domains_of_object p) (domains_of_object q) domains (parameters_at unit p k) ∙ ap (flat_map (domains_of_object q)) (parameters k)
+  body_same C.InputDomain k = domains k
   body_same _ k = refl
 
   node_same : (criterion : Criterion) (k : ℕ) (node : Node) → at_node unit p criterion (record { number = k; node = node }) ≡ at_node unit q criterion (record { number = k; node = node })
@@ -118,4 +121,4 @@ module _ (unit : c.Unit) (p q : Program) (model : p.model ≡ q.model) (domains 
 
 pub objectives_are_found : FactsAreFoundByEither → ObjectivesAreFoundByEither
 objectives_are_found facts program other h criterion =
-    all_same other.unit program other h.model h.objects (λ k. (facts program other h.facts k).0) (λ k. (facts program other h.facts k).1) (parameters_found program other h) criterion
+    all_same other.unit program other h.model (λ k. (facts program other h.facts k).0) (λ k. (facts program other h.facts k).1) (domains_found program other h) criterion

@@ -2,19 +2,26 @@
 use Rattle.std.proofs.Common.{◌≡◌, refl, sym, ap, ◌∙◌, subst, ℕ, zero, suc, ◌+◌, ◌-◌, ◌<◌, max, ◌≤◌, Bool, true, false, if◌then◌else◌, List, [], ◌∷◌, ◌++◌, length, map, arith}
 use Rattle.std.proofs.lemmas.Bool.{ne_eqb, eq-eqb}
 use Rattle.std.proofs.lemmas.List.{map-append}
-use Rattle.std.specs.List.{AllByRecursion}
+use Rattle.std.specs.Prelude.{◌==◌}
+use Rattle.std.specs.List.{AllByRecursion, flat_map}
 use Rattle.lt_tree.specs.Tree as c
 use Rattle.lt_tree.specs.Nodes.{Node, an_external, in_specifiers, in_declarator, in_items, in_external, nodes}
 use Rattle.lt_tree.specs.Typing.Entities.{Function}
 use Rattle.lt_sites.specs.Sites.{part_of}
 use Rattle.lt_facts.specs.Outside.{mark_size, outside_from, places_from}
-use Rattle.lt_objectives.specs.Objectives.{parameters_among}
+use Rattle.lt_tree.specs.Typing.Programs.{Program}
+use Rattle.lt_objectives.specs.Objectives.{parameters_among, domains_of_object}
 use Rattle.lt_mark_laws.specs.Added.{AddsFunctions}
+use Rattle.lt_object_laws.specs.Renamed.{function_with}
 use Rattle.lt_kept_facts.specs.Asked.{kept}
 use Rattle.lt_kept_facts.proofs.MarksEnd.{Ends}
 use Rattle.lt_kept_facts.proofs.SeenNodes.{kept_both}
-use Rattle.lt_kept_facts.specs.Known.{parameters_seen, StandAt}
+use Rattle.lt_kept_facts.specs.Known.{domains_seen, StandAt}
 use Rattle.lt_kept_facts.proofs.Aligned.{AreAligned}
+
+-- the objects of the parameters of the functions that are defined at the nodes outside of marks among these, where the first of these has this number
+abbrev pub parameters_seen : List Function → ℕ → List Node → List (List ℕ)
+parameters_seen functions k xs = map (parameters_among functions) (kept k xs)
 
 -- ---- numbers and functions apart
 
@@ -100,7 +107,7 @@ one_defined f fs k x xs ys is ends h =
 fewer : {m n : ℕ} → suc m ≡ suc n → m ≡ n
 fewer h = omega (arith, h)
 
-pub known_alike : (new : ℕ → Bool) (xs ys : List c.External) (k j : ℕ) (fs gs : List Function) → AreAligned xs ys → StandAt xs k fs → StandAt ys j gs → AddsFunctions new fs gs
+known_alike : (new : ℕ → Bool) (xs ys : List c.External) (k j : ℕ) (fs gs : List Function) → AreAligned xs ys → StandAt xs k fs → StandAt ys j gs → AddsFunctions new fs gs
     → parameters_seen fs k (nodes xs) ≡ parameters_seen gs j (nodes ys)
 known_alike new [] [] k j fs gs a h i same = refl
 known_alike new (c.Declared d ∷ xs) (c.Declared e ∷ ys) k j fs gs a h i same =
@@ -124,3 +131,50 @@ known_alike new (c.Declared d ∷ xs) (c.Defines t e js ∷ ys) k j fs gs a h i 
 known_alike new (c.Defines s d is ∷ xs) (c.Declared e ∷ ys) k j fs gs a h i same = absurd a.0
 known_alike new [] (y ∷ ys) k j fs gs a h i same = absurd a
 known_alike new (x ∷ xs) [] k j fs gs a h i same = absurd a
+
+-- ---- functions whose objects have other numbers
+
+module _ (r : ℕ → ℕ) where
+  stands_with : (xs : List c.External) (k : ℕ) (fs : List Function) → StandAt xs k fs → StandAt xs k (map (function_with r) fs)
+  stands_with [] k [] h = tt
+  stands_with [] k (f ∷ fs) h = absurd h
+  stands_with (c.Declared d ∷ xs) k fs h = stands_with xs (k + length (in_external (c.Declared d))) fs h
+  stands_with (c.Defines s d body ∷ xs) k [] h = absurd h
+  stands_with (c.Defines s d body ∷ xs) k (f ∷ fs) h = (h.0, stands_with xs (k + length (in_external (c.Defines s d body))) fs h.1)
+
+  among_with : (fs : List Function) (n : ℕ) → parameters_among (map (function_with r) fs) n ≡ map r (parameters_among fs n)
+  among_with [] n = refl
+  among_with (f ∷ fs) n = by (f.node == n) (among_with fs n)
+    where
+      by : (b : Bool) → parameters_among (map (function_with r) fs) n ≡ map r (parameters_among fs n) → (if b then map r f.parameters else parameters_among (map (function_with r) fs) n) ≡ map r (if b then f.parameters else parameters_among fs n)
+      by true h = refl
+      by false h = h
+
+  all_with : (fs : List Function) (ns : List ℕ) → map (parameters_among (map (function_with r) fs)) ns ≡ map (map r) (map (parameters_among fs) ns)
+  all_with fs [] = refl
+  all_with fs (n ∷ ns) = ap (λ it. it ∷ map (parameters_among (map (function_with r) fs)) ns) (among_with fs n) ∙ ap (λ l. map r (parameters_among fs n) ∷ l) (all_with fs ns)
+
+  module _ {A : Type 0} (f g : ℕ → List A) (same : (n : ℕ) → g (r n) ≡ f n) where
+    each_with : (ns : List ℕ) → flat_map g (map r ns) ≡ flat_map f ns
+    each_with [] = refl
+    each_with (n ∷ ns) = ap (λ l. l ++ flat_map g (map r ns)) (same n) ∙ ap (λ l. f n ++ l) (each_with ns)
+
+    lists_with : (ls : List (List ℕ)) → map (flat_map g) (map (map r) ls) ≡ map (flat_map f) ls
+    lists_with [] = refl
+    lists_with (ns ∷ ls) = ap (λ l. l ∷ map (flat_map g) (map (map r) ls)) (each_with ns) ∙ ap (λ ls. flat_map f ns ∷ ls) (lists_with ls)
+
+domains_by : (program : Program) (k : ℕ) (xs : List Node) → domains_seen program k xs ≡ map (flat_map (domains_of_object program)) (parameters_seen program.functions k xs)
+domains_by program k xs = by (kept k xs)
+  where
+    by : (ns : List ℕ) → map (λ n. flat_map (domains_of_object program) (parameters_among program.functions n)) ns ≡ map (flat_map (domains_of_object program)) (map (parameters_among program.functions) ns)
+    by [] = refl
+    by (n ∷ ns) = ap (λ l. flat_map (domains_of_object program) (parameters_among program.functions n) ∷ l) (by ns)
+
+-- the domains of parameters are the same, whatever numbers their objects have
+pub domains_alike : (new : ℕ → Bool) (r : ℕ → ℕ) (xs ys : List c.External) (program other : Program) → AreAligned xs ys → StandAt xs 0 program.functions → StandAt ys 0 other.functions
+    → AddsFunctions new (map (function_with r) program.functions) other.functions → ((n : ℕ) → domains_of_object other (r n) ≡ domains_of_object program n) → domains_seen program 0 (nodes xs) ≡ domains_seen other 0 (nodes ys)
+domains_alike new r xs ys program other a h i same domains =
+    domains_by program 0 (nodes xs)
+    ∙ sym (lists_with r (domains_of_object program) (domains_of_object other) domains (parameters_seen program.functions 0 (nodes xs)))
+    ∙ ap (map (flat_map (domains_of_object other))) (sym (all_with r program.functions (kept 0 (nodes xs))) ∙ known_alike new xs ys 0 0 (map (function_with r) program.functions) other.functions a (stands_with r xs 0 program.functions h) i same)
+    ∙ sym (domains_by other 0 (nodes ys))

@@ -27,15 +27,15 @@ cancel (x ∷ xs) ys zs h = cancel xs ys zs (rest h)
     rest h = cc
 
 -- what is asked of the nodes of a piece, where these facts are noted of them
-pub seen_there : {A B : Type 0} {F G : List Fact} {new : ℕ → Bool} {ids : List ℕ} {R : A → B → Type 0} {k j : ℕ} {facts others : List Fact} {xs ys : List Node} {a : A} {b : B} {m n : Known}
-    → Keeps F G new ids R k facts xs j others ys (Goes a m) (Goes b n) → m.facts ≡ facts ++ F → n.facts ≡ others ++ G → seen F k xs ≡ seen G j ys
-seen_there {F = F} {G = G} {facts = facts} {others = others} (went r s p q h) f g =
+pub seen_there : {A B : Type 0} {F G : List Fact} {new : ℕ → Bool} {ids : List ℕ} {further : List Bool} {R : A → B → Type 0} {k j : ℕ} {facts others : List Fact} {xs ys : List Node} {a : A} {b : B} {m n : Known}
+    → Keeps F G new ids further R k facts xs j others ys (Goes a m) (Goes b n) → m.facts ≡ facts ++ F → n.facts ≡ others ++ G → seen F k xs ≡ seen G j ys
+seen_there {F = F} {G = G} {facts = facts} {others = others} (went e r s p q h) f g =
     h (λ i low high. ap (λ l. fact_among l i) (cancel facts F p.more (sym f ∙ p.noted))) (λ i low high. ap (λ l. fact_among l i) (cancel others G q.more (sym g ∙ q.noted)))
 
 pub expressions_note : ((it : c.Mark) (known : Known) → GoesOver (in_mark it) known (mark it known)) → ((it : c.Mark) (known : Known) → NotesItsNodes known (mark it known)) → ExpressionsAreTypedAgain → ExpressionsNoteTheSame
-expressions_note numbered noting again new position used after known other it marked x y behind last d b q r more others f g =
-    seen_there (subst (λ o. Keeps more others new after (SeenIn (use_of position)) known.next known.facts (in_expression it) other.next other.facts (in_expression marked) (Goes x behind) o) r
-    (subst (λ o. Keeps more others new after (SeenIn (use_of position)) known.next known.facts (in_expression it) other.next other.facts (in_expression marked) o (expression marked (use_of position) other)) q
+expressions_note numbered noting again new position used after further known other it marked x y behind last d b q r more others f g =
+    seen_there (subst (λ o. Keeps more others new after further (SeenIn (use_of position)) known.next known.facts (in_expression it) other.next other.facts (in_expression marked) (Goes x behind) o) r
+    (subst (λ o. Keeps more others new after further (SeenIn (use_of position)) known.next known.facts (in_expression it) other.next other.facts (in_expression marked) o (expression marked (use_of position) other)) q
     (whole_to {F = more} {G = others} numbered noting (again new) d other b))) f g
 
 -- ---- numbers that correspond

@@ -13,13 +13,14 @@ use Rattle.lt_tree_laws.specs.Typing.NodeNumbers.{GoesOver}
 use Rattle.lt_typed_nodes.specs.Laws.{NotesItsNodes}
 use Rattle.lt_mark_typing.specs.Beside.{IsBeside, Follows, goes}
 use Rattle.lt_mark_typing.specs.Placed.{AreOld, IsNewId, AreNewLabels, joined as joined_labels, entered}
-use Rattle.lt_mark_typing.proofs.Unchanged.{Same, old_first, old_second, of_marks, of_mark}
+use Rattle.lt_mark_typing.proofs.Nodes.{old_first, old_second}
+use Rattle.lt_mark_typing.proofs.Unchanged.{of_marks, of_mark}
 use Rattle.lt_mark_typing.proofs.NewMarks.{new_labels, new_label_beside, numbered_alone}
 use Rattle.lt_kept_facts.proofs.MarksEnd.{mark_ends}
 use Rattle.lt_kept_facts.specs.Asked.{seen}
 use Rattle.lt_kept_facts.proofs.SeenNodes.{mark_unseen, marks_unseen}
 use Rattle.lt_kept_facts.proofs.SeenAlike.{SeenTruth, SeenIn, SameKind, values, same_type}
-use Rattle.lt_kept_facts.proofs.KeptSteps.{Part, nothing_more, part_then, Keeps, went, first_broke, second_broke, Piece, done, joined, after}
+use Rattle.lt_kept_facts.proofs.KeptSteps.{Part, nothing_more, part_then, Keeps, went, first_broke, second_broke, Piece, done, joined, after, since}
 use Rattle.lt_kept_facts.proofs.KeptNodes.{around_piece, front, finished_with, finished_alone}
 use Rattle.lt_kept_facts.proofs.KeptOperators.{Whole}
 
@@ -46,38 +47,38 @@ module _ (numbered : (it : c.Mark) (known : Known) → GoesOver (in_mark it) kno
       part_then (mark_part first known one.1 one.0 one.2) (subst (λ it. Part one.1.next one.1.facts (in_marks rest) it) (same_known more.3) (marks_part rest one.1 more.1 more.0 more.2))
 
 module _ {F G : List Fact} {new : ℕ → Bool} where
-  unseen_by : {A B : Type 0} {ids : List ℕ} {R : A → B → Type 0} {k j : ℕ} {facts others : List Fact} {xs ys : List Node} (o o' : Outcome A) (p p' : Outcome B) → o ≡ o' → p ≡ p' → Follows new ids R o' p'
-      → ((a : A) (m : Known) → o ≡ Goes a m → Part k facts xs m) → ((b : B) (n : Known) → p ≡ Goes b n → Part j others ys n) → seen F k xs ≡ [] → seen G j ys ≡ [] → Keeps F G new ids R k facts xs j others ys o' p'
-  unseen_by o (Goes a m) p (Goes b n) e i (goes r s) f g none others_none = went r s (f a m e) (g b n i) (λ h t. none ∙ sym others_none)
+  unseen_by : {A B : Type 0} {ids : List ℕ} {further : List Bool} {T : (ℕ → ℕ) → A → B → Type 0} {k j : ℕ} {facts others : List Fact} {xs ys : List Node} (o o' : Outcome A) (p p' : Outcome B) → o ≡ o' → p ≡ p' → Follows new ids further T o' p'
+      → ((a : A) (m : Known) → o ≡ Goes a m → Part k facts xs m) → ((b : B) (n : Known) → p ≡ Goes b n → Part j others ys n) → seen F k xs ≡ [] → seen G j ys ≡ [] → Keeps F G new ids further (λ (a : A) (b : B). Unit {0}) k facts xs j others ys o' p'
+  unseen_by o (Goes a m) p (Goes b n) e i (goes behind v t s) f g none others_none = went v tt s (f a m e) (g b n i) (λ h t. none ∙ sym others_none)
   unseen_by o (Goes a m) p (Breaks rule node) e i d f g none others_none = second_broke
   unseen_by o (Breaks rule node) p p' e i d f g none others_none = first_broke
 
   -- pieces of which nothing is asked
-  unseen : {A B : Type 0} {ids : List ℕ} {R : A → B → Type 0} {k j : ℕ} {facts others : List Fact} {xs ys : List Node} {o : Outcome A} {p : Outcome B} → Follows new ids R o p
-      → ((a : A) (m : Known) → o ≡ Goes a m → Part k facts xs m) → ((b : B) (n : Known) → p ≡ Goes b n → Part j others ys n) → seen F k xs ≡ [] → seen G j ys ≡ [] → Keeps F G new ids R k facts xs j others ys o p
+  unseen : {A B : Type 0} {ids : List ℕ} {further : List Bool} {T : (ℕ → ℕ) → A → B → Type 0} {k j : ℕ} {facts others : List Fact} {xs ys : List Node} {o : Outcome A} {p : Outcome B} → Follows new ids further T o p
+      → ((a : A) (m : Known) → o ≡ Goes a m → Part k facts xs m) → ((b : B) (n : Known) → p ≡ Goes b n → Part j others ys n) → seen F k xs ≡ [] → seen G j ys ≡ [] → Keeps F G new ids further (λ (a : A) (b : B). Unit {0}) k facts xs j others ys o p
   unseen {o = o} {p = p} d f g none others_none = unseen_by o o p p refl refl d f g none others_none
 
 module _ {F G : List Fact} {new : ℕ → Bool} (numbered : (it : c.Mark) (known : Known) → GoesOver (in_mark it) known (mark it known)) (noting : (it : c.Mark) (known : Known) → NotesItsNodes known (mark it known)) where
-  pub old_mark : {ids : List ℕ} (it : c.Mark) (k l : Known) → AreOld new (in_mark it) → IsBeside new ids k l → Piece F G new ids Same k (in_mark it) l (in_mark it) (mark it k) (mark it l)
+  pub old_mark : {ids : List ℕ} {further : List Bool} (it : c.Mark) (k l : Known) → AreOld new (in_mark it) → IsBeside new ids further k l → Piece F G new ids further (λ (t u : e.Mark). Unit {0}) k (in_mark it) l (in_mark it) (mark it k) (mark it l)
   old_mark it k l h b = unseen (of_mark it h b) (λ t m q. mark_part numbered noting it k m t q) (λ t n q. mark_part numbered noting it l n t q) (mark_unseen F k.next it) (mark_unseen G l.next it)
 
-  pub old_marks : {ids : List ℕ} (them : c.Marks) (k l : Known) → AreOld new (in_marks them) → IsBeside new ids k l → Piece F G new ids Same k (in_marks them) l (in_marks them) (marks them k) (marks them l)
+  pub old_marks : {ids : List ℕ} {further : List Bool} (them : c.Marks) (k l : Known) → AreOld new (in_marks them) → IsBeside new ids further k l → Piece F G new ids further (λ (ts us : e.Marks). Unit {0}) k (in_marks them) l (in_marks them) (marks them k) (marks them l)
   old_marks them k l h b = unseen (of_marks them h b) (λ t m q. marks_part numbered noting them k m t q) (λ t n q. marks_part numbered noting them l n t q) (marks_unseen F k.next them) (marks_unseen G l.next them)
 
   -- old marks and new ones behind them
-  pub joined_marks : {ids between : List ℕ} (labels them : c.Marks) (k l : Known) → AreOld new (in_marks them) → IsBeside new ids k l
+  pub joined_marks : {ids between : List ℕ} {further : List Bool} (labels them : c.Marks) (k l : Known) → AreOld new (in_marks them) → IsBeside new ids further k l
       → ((ts : e.Marks) (next : Known) → marks them k ≡ Goes ts next → (next.is_unmarked ≡ false) × AreNewLabels new ids between next labels)
-      → Piece F G new between (λ (ts us : e.Marks). Unit {0}) k (in_marks them) l (in_marks (joined_labels them labels)) (marks them k) (marks (joined_labels them labels) l)
-  joined_marks {between = between} labels c.no_marks k l h b f =
+      → Piece F G new between further (λ (ts us : e.Marks). Unit {0}) k (in_marks them) l (in_marks (joined_labels them labels)) (marks them k) (marks (joined_labels them labels) l)
+  joined_marks {between = between} {further} labels c.no_marks k l h b f =
       let those = f e.no_marks k refl in
       let found = new_labels labels those.0 those.1 b in
-      subst (λ o. Piece F G new between (λ (ts us : e.Marks). Unit {0}) k [] l (in_marks labels) (Goes e.no_marks k) o) (sym found.2)
-      (went tt found.4 (nothing_more k) (marks_part numbered noting labels l found.1 found.0 found.2) (λ g i. sym (marks_unseen G l.next labels)))
+      subst (λ o. Piece F G new between further (λ (ts us : e.Marks). Unit {0}) k [] l (in_marks labels) (Goes e.no_marks k) o) (sym found.4)
+      (went found.3 tt found.6 (nothing_more k) (marks_part numbered noting labels l found.1 found.0 found.4) (λ g i. sym (marks_unseen G l.next labels)))
   joined_marks labels (c.a_mark first rest) k l h b f =
-      joined (old_mark first k l (old_first new (in_mark first) (in_marks rest) h) b) (λ t u m n q q' r b.
+      joined (old_mark first k l (old_first new (in_mark first) (in_marks rest) h) b) (λ t u m n q q' r flags b.
       after (joined_marks labels rest m n (old_second new (in_mark first) (in_marks rest) h) b
       (λ ts last s. f (e.a_mark t ts) last (ap (λ it. goes_on it (λ m k. goes_on (marks rest k) (λ ms k. Goes (e.a_mark m ms) k))) q ∙ ap (λ it. goes_on it (λ ms k. Goes (e.a_mark t ms) k)) s)))
-      (λ ts us m n p p' r b. done tt b))
+      (λ ts us m n p p' r flags b. done tt b))
 
 -- ---- new labels in front of an expression
 
@@ -120,23 +121,23 @@ decide_seen x y when_true when_false tag k s = record { erased = s.erased; first
 
 module _ {F G : List Fact} {new : ℕ → Bool} (numbered : (it : c.Mark) (known : Known) → GoesOver (in_mark it) known (mark it known)) (noting : (it : c.Mark) (known : Known) → NotesItsNodes known (mark it known)) where
   -- an expression with new labels in front of it
-  pub front_kept : {ids between last : List ℕ} (role : Use) (labels : c.Marks) (it other : c.Expression) (k l : Known) → TakesLabels role → k.is_unmarked ≡ false
+  pub front_kept : {ids between last : List ℕ} {further : List Bool} (role : Use) (labels : c.Marks) (it other : c.Expression) (k l : Known) → TakesLabels role → k.is_unmarked ≡ false
       → ((x : Typed) (next : Known) → expression it role k ≡ Goes x next → IsValue role x) → AreNewLabels new ids between k labels
-      → ((j : Known) → IsBeside new between k j → Whole F G new last role k it j other) → IsBeside new ids k l → Whole F G new last role k it l (c.Marked labels other)
-  front_kept {last = last} role labels it other k l t u v are f b =
+      → ((j : Known) (behind : List Bool) → IsBeside new between behind k j → Whole F G new last behind role k it j other) → IsBeside new ids further k l → Whole F G new last further role k it l (c.Marked labels other)
+  front_kept {last = last} {further} role labels it other k l t u v are f b =
       let found = new_labels labels u are (numbered_alone (l.next + 1) l.facts b) in
-      subst (λ inner. Piece F G new last (SeenIn role) k (in_expression it) l (in_expression (c.Marked labels other)) (expression it role k)
+      subst (λ inner. Piece F G new last further (SeenIn role) k (in_expression it) l (in_expression (c.Marked labels other)) (expression it role k)
       (goes_on (marks labels (entered l)) (λ ts j. goes_on (expression other inner j) (λ y j. finish l.next role (judge_marked ts y) j)))) (sym (marks_inside role t))
-      (subst (λ o. Piece F G new last (SeenIn role) k (in_expression it) l (in_expression (c.Marked labels other)) (expression it role k)
-      (goes_on o (λ ts j. goes_on (expression other role j) (λ y j. finish l.next role (judge_marked ts y) j)))) (sym found.2)
+      (subst (λ o. Piece F G new last further (SeenIn role) k (in_expression it) l (in_expression (c.Marked labels other)) (expression it role k)
+      (goes_on o (λ ts j. goes_on (expression other role j) (λ y j. finish l.next role (judge_marked ts y) j)))) (sym found.4)
       (around_piece (an_expression (c.Marked labels other)) refl (λ whole n zs. refl)
-      (front (marks_part numbered noting labels (entered l) found.1 found.0 found.2) (marks_unseen G (l.next + 1) labels) (f found.1 found.4))
-      (λ x y m n q q' s b. finished_alone l.next role (judge_marked found.0 y) m n (front_seen role x y found.0 t (v x m q) s) (numbered_alone n.next (n.facts ++ fact_of l.next (judge_marked found.0 y).typed ∷ []) b))))
+      (since found.3 (front (marks_part numbered noting labels (entered l) found.1 found.0 found.4) (marks_unseen G (l.next + 1) labels) (f found.1 found.2 found.6)))
+      (λ x y m n q q' s flags b. finished_alone l.next role (judge_marked found.0 y) m n (front_seen role x y found.0 t (v x m q) s) (numbered_alone n.next (n.facts ++ fact_of l.next (judge_marked found.0 y).typed ∷ []) b))))
 
   -- an expression with a new `pc_decide` around it
-  pub around_kept : {after : List ℕ} (it other : c.Expression) (when_true when_false tag : List ℕ) (k l : Known) → IsNewId new after when_true → IsNewId new (number_of_id when_true ∷ after) when_false
-      → Whole F G new after as_truth k it (entered l) other → Whole F G new (number_of_id when_false ∷ number_of_id when_true ∷ after) as_truth k it l (c.Decide other when_true when_false tag)
+  pub around_kept : {after : List ℕ} {further : List Bool} (it other : c.Expression) (when_true when_false tag : List ℕ) (k l : Known) → IsNewId new after when_true → IsNewId new (number_of_id when_true ∷ after) when_false
+      → Whole F G new after further as_truth k it (entered l) other → Whole F G new (number_of_id when_false ∷ number_of_id when_true ∷ after) further as_truth k it l (c.Decide other when_true when_false tag)
   around_kept it other when_true when_false tag k l i j o = around_piece (an_expression (c.Decide other when_true when_false tag)) refl (λ whole n zs. refl) o
-      (λ x y m n q q' s b. finished_with l.next as_truth (judge_decide as_truth y when_true when_false tag n) (λ (n : Known). n.labels ++ label_of when_true tag [] ∷ [] ++ label_of when_false tag [] ∷ []) m n
+      (λ x y m n q q' s flags b. finished_with l.next as_truth (judge_decide as_truth y when_true when_false tag n) (λ (n : Known). n.labels ++ label_of when_true tag [] ∷ [] ++ label_of when_false tag [] ∷ []) m n
       (decide_seen x y when_true when_false tag n s)
       (new_label_beside (label_of when_false tag []) j.1 refl (new_label_beside (label_of when_true tag []) i.1 refl (numbered_alone n.next (n.facts ++ fact_of l.next (judge_decide as_truth y when_true when_false tag n).typed ∷ []) b))))

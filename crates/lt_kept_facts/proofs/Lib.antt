@@ -4,6 +4,7 @@ pub mod SeenBinaryOperators
 pub mod MarksEnd
 pub mod SeenNodes
 pub mod KeptSteps
+pub mod KeptNoted
 pub mod KeptPieces
 pub mod KeptNodes
 pub mod KeptOperators

@@ -1,5 +1,5 @@
 -- The program of a marked unit knows the same as that of the unit.
-use Rattle.std.proofs.Common.{◌≡◌, refl, sym, ap, ◌∙◌, subst, ℕ, zero, suc, Bool, List, [], ◌∷◌, Some, None}
+use Rattle.std.proofs.Common.{◌≡◌, refl, sym, ap, ◌∙◌, subst, ℕ, zero, suc, Bool, List, [], Some, None}
 use Rattle.std.specs.Prelude.{filter_map, slice_get}
 use Rattle.lt_model.specs.declared.scalar.DataModel.{DataModel}
 use Rattle.lt_tree.specs.Tree as c
@@ -9,32 +9,35 @@ use Rattle.lt_tree.specs.Typing.Steps.{Outcome, Goes, Breaks}
 use Rattle.lt_tree.specs.Typing.UnitTyping.{externals, defined_in, answer, typing_to, IsProgramTo}
 use Rattle.lt_tree.specs.Typing.Programs.{Program, typed}
 use Rattle.lt_objectives.specs.Objectives.{domains, domains_of_object}
-use Rattle.lt_mark_laws.specs.Added.{AreSameObjects, AddsProgram}
-use Rattle.lt_mark_typing.specs.Beside.{IsBeside, no_labels}
+use Rattle.lt_object_laws.specs.Renamed.{renumbered}
+use Rattle.lt_mark_typing.specs.Further.{HasObjects, no_objects, an_object, a_further_object}
+use Rattle.lt_mark_typing.specs.MarkedPrograms.{AddsBeside}
 use Rattle.lt_mark_typing.specs.Laws.{UnitsAreTypedAgain}
 use Rattle.lt_mark_typing.specs.PlacedUnits.{AddsToUnit}
 use Rattle.lt_kept_facts.specs.Asked.{seen}
-use Rattle.lt_kept_facts.specs.Known.{parameters_seen}
+use Rattle.lt_kept_facts.specs.Known.{domains_seen}
 use Rattle.lt_kept_facts.specs.Laws.{UnitsNoteTheSame}
 use Rattle.lt_kept_facts.specs.Objectives.{MarkedUnitsKnowTheSame}
 use Rattle.lt_kept_facts.proofs.Aligned.{AreAligned, ExternalsKeep, aligned}
-use Rattle.lt_kept_facts.proofs.Functions.{known_alike}
+use Rattle.lt_kept_facts.proofs.KeptUnits.{starts_beside}
+use Rattle.lt_kept_facts.proofs.Functions.{domains_alike}
 
 -- ---- objects
 
-domains_same : (model : DataModel) (xs ys : List Object) → AreSameObjects xs ys → (n : ℕ)
-    → elim (slice_get xs n) as (λ _. List c.Expression) [ None ↦ [] | Some object ↦ domains model object.type (c.Name object.name) ]
-    ≡ elim (slice_get ys n) as (λ _. List c.Expression) [ None ↦ [] | Some object ↦ domains model object.type (c.Name object.name) ]
-domains_same model [] [] h n = refl
-domains_same model (x ∷ xs) (y ∷ ys) h zero = ap (λ (object : Object). domains model object.type (c.Name object.name)) h.0
-domains_same model (x ∷ xs) (y ∷ ys) h (suc n) = domains_same model xs ys h.1 n
-domains_same model [] (y ∷ ys) h n = absurd h
-domains_same model (x ∷ xs) [] h n = absurd h
+domains_same : (model : DataModel) {r : ℕ → ℕ} {further : List Bool} {xs ys : List Object} → HasObjects r further xs ys → (n : ℕ)
+    → elim (slice_get ys (renumbered further n)) as (λ _. List c.Expression) [ None ↦ [] | Some object ↦ domains model object.type (c.Name object.name) ]
+    ≡ elim (slice_get xs n) as (λ _. List c.Expression) [ None ↦ [] | Some object ↦ domains model object.type (c.Name object.name) ]
+domains_same model no_objects n = refl
+domains_same model (an_object object node h) zero = refl
+domains_same model (an_object object node h) (suc n) = domains_same model h n
+domains_same model (a_further_object object i h) n = domains_same model h n
 
-objects_same : (program other : Program) → program.model ≡ other.model → AreSameObjects program.objects other.objects → (n : ℕ) → domains_of_object program n ≡ domains_of_object other n
-objects_same program other model same n =
-    ap (λ (m : DataModel). elim (slice_get program.objects n) as (λ _. List c.Expression) [ None ↦ [] | Some object ↦ domains m object.type (c.Name object.name) ]) model
-    ∙ domains_same other.model program.objects other.objects same n
+-- an object has the same domains by its number in the other program
+objects_same : {r : ℕ → ℕ} {further : List Bool} (program other : Program) → program.model ≡ other.model → HasObjects r further program.objects other.objects → (n : ℕ)
+    → domains_of_object other (renumbered further n) ≡ domains_of_object program n
+objects_same {further = further} program other model objects n =
+    ap (λ (m : DataModel). elim (slice_get other.objects (renumbered further n)) as (λ _. List c.Expression) [ None ↦ [] | Some object ↦ domains m object.type (c.Name object.name) ]) (sym model)
+    ∙ domains_same program.model objects n
 
 -- ---- programs
 
@@ -67,22 +70,20 @@ unfolding typing_to
 units_aligned {new} keep greatest model unit marked after program other adds names is its =
     let first = went_over unit (externals unit (starting greatest model (filter_map defined_in unit))) program is in
     let second = went_over marked (externals marked (starting greatest_label_id model (filter_map defined_in marked))) other its in
-    let beside : IsBeside new [] (starting greatest model (filter_map defined_in unit)) (starting greatest_label_id model (filter_map defined_in marked)) =
-    record { same = ap (λ defined. starting greatest_label_id model defined) names; objects = tt; functions = tt; labels = no_labels } in
-    aligned keep adds (starting greatest_label_id model (filter_map defined_in marked)) beside first.0 second.0 first.1 second.1 first.2 second.2
+    aligned keep adds (starting greatest_label_id model (filter_map defined_in marked)) (starts_beside greatest model unit marked names) first.0 second.0 first.1 second.1 first.2 second.2
 
 pub marked_units_know : UnitsNoteTheSame → UnitsAreTypedAgain → ((new : ℕ → Bool) (F G : List Fact) → ExternalsKeep F G new) → MarkedUnitsKnowTheSame
 marked_units_know note again keep new greatest model unit marked after program other adds names is its stands stand =
     let found = again new greatest model unit marked after program adds names is in
-    let it : AddsProgram new (record program { types = other.types }) other =
-    subst (λ (q : Program). AddsProgram new (record program { types = q.types }) q) (one_program greatest_label_id model marked found.0 other found.1 its) found.2 in
+    let further = found.1 in
+    let it : AddsBeside new further program other =
+    subst (λ (q : Program). AddsBeside new further program q) (one_program greatest_label_id model marked found.0 other found.2 its) found.3 in
     let first : program.unit ≡ unit = unit_of greatest model unit program is in
     let second : other.unit ≡ marked = unit_of greatest_label_id model marked other its in
     let facts : seen program.facts 0 (nodes unit) ≡ seen other.facts 0 (nodes marked) = note new greatest model unit marked after program other adds names is its in
-    let parameters = known_alike new unit marked 0 0 program.functions other.functions (units_aligned (keep new) greatest model unit marked after program other adds names is its) stands stand it.functions in
+    let parameters = domains_alike new (renumbered further) unit marked program other (units_aligned (keep new) greatest model unit marked after program other adds names is its) stands stand it.functions (objects_same program other it.model it.objects) in
     record {
       model = it.model;
-      objects = objects_same program other it.model it.objects;
       facts = ap (λ u. seen program.facts 0 (nodes u)) first ∙ facts ∙ sym (ap (λ u. seen other.facts 0 (nodes u)) second);
-      parameters = ap (λ u. parameters_seen program.functions 0 (nodes u)) first ∙ parameters ∙ sym (ap (λ u. parameters_seen other.functions 0 (nodes u)) second);
+      parameters = ap (λ u. domains_seen program 0 (nodes u)) first ∙ parameters ∙ sym (ap (λ u. domains_seen other 0 (nodes u)) second);
     }

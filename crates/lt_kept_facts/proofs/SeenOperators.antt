@@ -1,7 +1,7 @@
 -- What operators make of operands that are seen alike is seen alike: C11 6.5.1 to 6.5.4.
-use Rattle.std.proofs.Common.{◌≡◌, refl, sym, ap, ◌∙◌, subst, inl, inr, ℕ, ℤ, pos, negsuc, List, [], ◌∷◌, Option, Some, None, Bool, true, false, if◌then◌else◌}
+use Rattle.std.proofs.Common.{◌≡◌, refl, sym, ap, ◌∙◌, subst, inr, ℕ, ℤ, pos, negsuc, List, [], ◌∷◌, Option, Some, None, Bool, true, false, if◌then◌else◌}
 use Rattle.std.proofs.lemmas.Bool.{false≢true}
-use Rattle.std.specs.Prelude.{◌⊎◌, ◌&&◌, ◌||◌, not, nat_le, ◌-ℤ◌, option_and_then, unwrap_or}
+use Rattle.std.specs.Prelude.{◌&&◌, ◌||◌, not, nat_le, ◌-ℤ◌, option_and_then, unwrap_or}
 use Rattle.lt_model.specs.declared.scalar.DataModel.{DataModel}
 use Rattle.lt_model.specs.declared.scalar.Scalar.{Scalar}
 use Rattle.lt_model.specs.declared.scalar.Scalar.TheVariants as S
@@ -118,13 +118,9 @@ module _ {x y : Typed} (s : SeenAlike x y) where
   address_there (a_place p) h a = a
   address_there (a_designator name t) h a = absurd (false≢true h)
 
-  at_most_none : (y.constancy ≡ x.constancy) ⊎ (y.constancy ≡ varying) → is_form x.constancy ≡ false → is_form y.constancy ≡ false
-  at_most_none (inl q) h = ap is_form q ∙ h
-  at_most_none (inr q) h = ap is_form q
-
-  pub address_of_seen : (y.constancy ≡ x.constancy) ⊎ (y.constancy ≡ varying) → (judge_address_of x).faults ≡ [] → SeenAlike (judge_address_of x).typed (judge_address_of y).typed
+  pub address_of_seen : (is_form x.constancy ≡ false → is_form y.constancy ≡ false) → (judge_address_of x).faults ≡ [] → SeenAlike (judge_address_of x).typed (judge_address_of y).typed
   unfolding judge_address_of
-  address_of_seen most h = record { kind = values (ap Pointer (same_type x y s.kind)); erased = inr (none, at_most_none most none); integer = λ i. absurd (false≢true i); address = tt }
+  address_of_seen too h = record { kind = values (ap Pointer (same_type x y s.kind)); erased = inr (none, too none); integer = λ i. absurd (false≢true i); address = tt }
     where
       lvalue_by : (b r : Bool) → unless (b && not r) bad_address ≡ [] → b ≡ true
       lvalue_by true r q = refl

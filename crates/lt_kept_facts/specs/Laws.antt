@@ -19,8 +19,8 @@ use Rattle.lt_kept_facts.specs.Asked.{seen}
 -- integer constants or not.
 abbrev pub ExpressionsNoteTheSame : Type 0
 ExpressionsNoteTheSame =
-    (new : ℕ → Bool) (position : Position) (used after : List ℕ) (known other : Known) (it marked : c.Expression) (x y : Typed) (behind last : Known)
-    → AddsTo new position used after known it marked → IsBeside new used known other
+    (new : ℕ → Bool) (position : Position) (used after : List ℕ) (further : List Bool) (known other : Known) (it marked : c.Expression) (x y : Typed) (behind last : Known)
+    → AddsTo new position used after known it marked → IsBeside new used further known other
     → expression it (use_of position) known ≡ Goes x behind → expression marked (use_of position) other ≡ Goes y last
     → (more others : List Fact) → behind.facts ≡ known.facts ++ more → last.facts ≡ other.facts ++ others
     → seen more known.next (in_expression it) ≡ seen others other.next (in_expression marked)

@@ -26,6 +26,7 @@ pub fn units_note_the_same()
 {
     nodes_are_numbered();
     parts_note_their_nodes();
+    expressions_are_typed_again();
 }
 
 /// What is the same of the nodes outside of marks is found by either program.
@@ -46,6 +47,7 @@ pub fn marked_units_know_the_same()
 {
     nodes_are_numbered();
     parts_note_their_nodes();
+    expressions_are_typed_again();
     units_note_the_same();
     units_are_typed_again();
 }

@@ -2,4 +2,3 @@ pub use Rattle.lt_meaning.specs.Runs
 pub mod Added
 pub mod TypeLists
 pub mod Laws
-pub mod MarkedRuns

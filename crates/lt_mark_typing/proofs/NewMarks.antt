@@ -1,8 +1,8 @@
 -- New marks are typed where they stand.
 use Rattle.std.proofs.Common.{◌≡◌, ℕ, ◌+◌, List, [], ◌∷◌, Option, Some, None, Bool, true, false, refl, sym, ap, ◌∙◌, subst}
 use Rattle.std.proofs.lemmas.Bool.{false≢true, eqb-true, eq-eqb}
-use Rattle.std.specs.Prelude.{◌++◌, ◌==◌, ◌||◌, ◌&&◌, nat_le, not, is_some, unwrap_or}
-use Rattle.std.specs.List.{list_any}
+use Rattle.std.specs.Prelude.{◌++◌, ◌==◌, ◌||◌, ◌&&◌, nat_le, not, map, is_some, unwrap_or}
+use Rattle.std.specs.List.{AllByRecursion, list_any}
 use Rattle.lt_tree.specs.Tree as c
 use Rattle.lt_tree.specs.Purity.{is_pure}
 use Rattle.lt_tree.specs.Typing.Types.{CType, is_scalar}
@@ -11,16 +11,20 @@ use Rattle.lt_tree.specs.Typing.Rules.{unless, bad_mark, broken_if, floating_typ
 use Rattle.lt_tree.specs.Typing.TypedTree as e
 use Rattle.lt_tree.specs.Typing.TypedTree.{Value, Marks, type_of}
 use Rattle.lt_tree.specs.Typing.Operands.{holds}
-use Rattle.lt_tree.specs.Typing.Entities.{Known, Label, Fact, greatest_label_id}
+use Rattle.lt_tree.specs.Typing.Entities.{Known, Object, Label, Fact, greatest_label_id}
 use Rattle.lt_tree.specs.Typing.Steps.{Goes, goes_on, settle, adds_label, gives, ◌>>◌}
 use Rattle.lt_tree.specs.Typing.Expressions.{Typed, own_type, value_in, has_floating, has_pointer_to_function}
 use Rattle.lt_tree.specs.Typing.MarkRules.{is_new_id, is_good_id, id_of, number_of_id, is_tag, is_good_mark, label_of}
 use Rattle.lt_tree.specs.Typing.NodeEnds.{end_of_mark}
 use Rattle.lt_tree.specs.Typing.ExpressionTyping.{marks, mark}
 use Rattle.lt_mark_laws.specs.Added.{AreNew}
+use Rattle.lt_object_laws.specs.Renamed.{renumbered}
+use Rattle.lt_object_laws.specs.Further.{IsFurther}
+use Rattle.lt_mark_typing.specs.Further.{Extends, Agrees, HasObjects, no_objects, an_object, a_further_object}
 use Rattle.lt_mark_typing.specs.Beside.{AddsLabels, no_labels, kept, added, is_used, IsBeside}
 use Rattle.lt_mark_typing.specs.Placed.{IsNewId, IsPredicateAt, AreNewLabels, is_good_type}
-use Rattle.lt_mark_typing.proofs.Going.{same_of}
+use Rattle.lt_mark_typing.proofs.Numbers.{extends_itself, extends_with, extends_on, agrees_before, agrees_so_far}
+use Rattle.lt_mark_typing.proofs.Labels.{unmarked_same}
 use Rattle.lt_mark_typing.proofs.GoodIds.{both_hold, id_small}
 
 apart_by : (new : ℕ → Bool) (n id : ℕ) (b : Bool) → (n == id) ≡ b → new n ≡ false → new id ≡ true → b ≡ false
@@ -36,6 +40,22 @@ good_by : (known : Known) (text : List ℕ) (found : Option ℕ) → id_of text 
 good_by known text None e all h g = h
 good_by known text (Some n) e all h g = both_hold (nat_le n known.greatest_id) (is_new_id known n) (ap (nat_le n) all ∙ id_small text n e) g
 
+-- ---- further objects
+
+-- as many flags of further objects
+abbrev pub marked_further : List Object → List Bool
+marked_further more = map (λ object. true) more
+
+only_more : (r : ℕ → ℕ) (more : List Object) → AllByRecursion IsFurther more → HasObjects r (marked_further more) [] more
+only_more r [] h = no_objects
+only_more r (object ∷ more) h = a_further_object object h.0 (only_more r more h.1)
+
+more_objects : (r : ℕ → ℕ) {further : List Bool} {xs ys : List Object} (more : List Object) → AllByRecursion IsFurther more → HasObjects r further xs ys
+    → HasObjects r (further ++ marked_further more) xs (ys ++ more)
+more_objects r more h no_objects = only_more r more h
+more_objects r more h (an_object object node d) = an_object object node (more_objects r more h d)
+more_objects r more h (a_further_object object f d) = a_further_object object f (more_objects r more h d)
+
 module _ {new : ℕ → Bool} where
   -- ---- labels
 
@@ -46,8 +66,8 @@ module _ {new : ℕ → Bool} where
   none_among {used} id h g (added {label} {xs} {ys} is_new is_in free d) =
       ap (λ b. b || list_any (λ label. label.id == id) ys) (unused_by used label.id id (label.id == id) refl is_in g) ∙ none_among id h g d
 
-  pub new_id : {used : List ℕ} {k l : Known} (id : List ℕ) → IsNewId new used id → IsBeside new used k l → is_good_id l id ≡ true
-  new_id {used} {k} {l} id h b = good_by l id (id_of id) refl (ap (λ (it : Known). it.greatest_id) b.same) h.0 (ap not (none_among (number_of_id id) h.1 h.2 b.labels))
+  pub new_id : {used : List ℕ} {further : List Bool} {k l : Known} (id : List ℕ) → IsNewId new used id → IsBeside new used further k l → is_good_id l id ≡ true
+  new_id {used} {further} {k} {l} id h b = good_by l id (id_of id) refl (ap (λ (it : Known). it.greatest_id) (b.same (renumbered further) (agrees_so_far further))) h.0 (ap not (none_among (number_of_id id) h.1 h.2 b.labels))
 
   more_used : {used : List ℕ} {xs ys : List Label} (n : ℕ) → AddsLabels new used xs ys → AddsLabels new (n ∷ used) xs ys
   more_used n no_labels = no_labels
@@ -67,48 +87,78 @@ module _ {new : ℕ → Bool} where
       either true h = refl
       either false h = h
 
-  pub new_label_beside : {used : List ℕ} {k l : Known} (label : Label) → new label.id ≡ true → label.bound ≡ [] → IsBeside new used k l
-      → IsBeside new (label.id ∷ used) k (record l { labels = l.labels ++ label ∷ [] })
-  new_label_beside {used} {k} {l} label h free b = record { same = ap (λ (it : Known). record it { labels = l.labels ++ label ∷ [] }) b.same; objects = b.objects; functions = b.functions; labels = one_more label h free b.labels }
+  pub new_label_beside : {used : List ℕ} {further : List Bool} {k l : Known} (label : Label) → new label.id ≡ true → label.bound ≡ [] → IsBeside new used further k l
+      → IsBeside new (label.id ∷ used) further k (record l { labels = l.labels ++ label ∷ [] })
+  new_label_beside {used} {further} {k} {l} label h free b = record {
+    same = λ r a. ap (λ (it : Known). record it { labels = l.labels ++ label ∷ [] }) (b.same r a);
+    objects = b.objects;
+    functions = b.functions;
+    labels = one_more label h free b.labels;
+  }
 
   -- nodes and facts of the second text alone
-  pub numbered_alone : {used : List ℕ} {k l : Known} (n : ℕ) (facts : List Fact) → IsBeside new used k l → IsBeside new used k (record l { next = n; facts = facts })
-  numbered_alone {used} {k} {l} n facts b = record { same = ap (λ (it : Known). record it { next = n; facts = facts }) b.same; objects = b.objects; functions = b.functions; labels = b.labels }
+  pub numbered_alone : {used : List ℕ} {further : List Bool} {k l : Known} (n : ℕ) (facts : List Fact) → IsBeside new used further k l → IsBeside new used further k (record l { next = n; facts = facts })
+  numbered_alone {used} {further} {k} {l} n facts b = record {
+    same = λ r a. ap (λ (it : Known). record it { next = n; facts = facts }) (b.same r a);
+    objects = b.objects;
+    functions = b.functions;
+    labels = b.labels;
+  }
 
-  pub unmarked_there : {used : List ℕ} {k l : Known} → IsBeside new used k l → l.is_unmarked ≡ k.is_unmarked
-  unmarked_there b = same_of (λ (it : Known). it.is_unmarked) b (λ n os fs ls facts h. refl)
+  -- objects of the second text alone, which are further ones
+  pub more_alone : {used : List ℕ} {further : List Bool} {k l : Known} (more : List Object) → AllByRecursion IsFurther more → IsBeside new used further k l
+      → IsBeside new used (further ++ marked_further more) k (record l { objects = l.objects ++ more })
+  more_alone {used} {further} {k} {l} more h b =
+      let before : (r : ℕ → ℕ) → Agrees r (further ++ marked_further more) → Agrees r further = λ r a. agrees_before (extends_with further (marked_further more)) a in
+      record {
+        same = λ r a. ap (λ (it : Known). record it { objects = l.objects ++ more }) (b.same r (before r a));
+        objects = λ r a. more_objects r more h (b.objects r (before r a));
+        functions = λ r a. b.functions r (before r a);
+        labels = b.labels;
+      }
 
-  good_new_mark : {used : List ℕ} {k l : Known} (written : c.Expression) (x : Typed) (id tag : List ℕ) → k.is_unmarked ≡ false → is_scalar (own_type x) ≡ true → is_pure written ≡ true → IsNewId new used id
-      → is_tag tag ≡ true → IsBeside new used k l → is_good_mark l written x id tag [] ≡ true
-  good_new_mark {used} {k} {l} written x id tag u s p i t b = rw (unmarked_there b ∙ u) (rw s (rw p (rw (new_id id i b) (rw t refl))))
+  -- what is found behind a predicate
+  pub behind_alone : {used : List ℕ} {further : List Bool} {k l : Known} (n : ℕ) (more : List Object) (facts : List Fact) → AllByRecursion IsFurther more → IsBeside new used further k l
+      → IsBeside new used (further ++ marked_further more) k (record l { next = n; objects = l.objects ++ more; facts = facts })
+  behind_alone n more facts h b = numbered_alone n facts (more_alone more h b)
 
-  pub new_mark : {used : List ℕ} {k l : Known} (predicate : c.Expression) (id tag : List ℕ) → k.is_unmarked ≡ false → IsNewId new used id → is_tag tag ≡ true → IsPredicateAt new used k predicate → IsBeside new used k l
-      → (v : Value) × (later : Known) × (mark (c.mark predicate id tag c.no_bindings) l ≡ Goes (e.mark v (number_of_id id) e.no_bindings) later) × IsBeside new (number_of_id id ∷ used) k later
-  new_mark {used} {k} {l} predicate id tag u i t p b =
-      let here = numbered_alone (l.next + 1) l.facts b in
-      let scalar = p.1 (record l { next = l.next + 1 }) here in
+  good_new_mark : {used : List ℕ} {further : List Bool} {k l : Known} (written : c.Expression) (x : Typed) (id tag : List ℕ) → k.is_unmarked ≡ false → is_scalar (own_type x) ≡ true → is_pure written ≡ true → IsNewId new used id
+      → is_tag tag ≡ true → IsBeside new used further k l → is_good_mark l written x id tag [] ≡ true
+  good_new_mark written x id tag u s p i t b = rw (unmarked_same b ∙ u) (rw s (rw p (rw (new_id id i b) (rw t refl))))
+
+  pub new_mark : {used : List ℕ} {further : List Bool} {k l : Known} (predicate : c.Expression) (id tag : List ℕ) → k.is_unmarked ≡ false → IsNewId new used id → is_tag tag ≡ true → IsPredicateAt new used k predicate
+      → IsBeside new used further k l
+      → (v : Value) × (later : Known) × (behind : List Bool) × Extends further behind × (mark (c.mark predicate id tag c.no_bindings) l ≡ Goes (e.mark v (number_of_id id) e.no_bindings) later)
+      × IsBeside new (number_of_id id ∷ used) behind k later
+  new_mark {used} {further} {k} {l} predicate id tag u i t p b =
+      let scalar = p.1 further (record l { next = l.next + 1 }) (numbered_alone (l.next + 1) l.facts b) in
       let x = scalar.0 in
-      let later : Known = record l { next = scalar.1; facts = scalar.2 } in
-      let there : IsBeside new used k later = numbered_alone scalar.1 scalar.2 b in (
+      let more = scalar.3 in
+      let later : Known = record l { next = scalar.1; objects = l.objects ++ more; facts = scalar.2 } in
+      let there : IsBeside new used (further ++ marked_further more) k later = behind_alone scalar.1 more scalar.2 scalar.4 b in (
         value_in x,
         record later { labels = later.labels ++ label_of id tag [] ∷ [] },
-        ap (λ o. goes_on o (λ x k. end_of_mark l.next predicate x id tag [] k)) scalar.3
+        further ++ marked_further more,
+        extends_with further (marked_further more),
+        ap (λ o. goes_on o (λ x k. end_of_mark l.next predicate x id tag [] k)) scalar.5
             ∙ ap (λ good. goes_on (settle l.next (unless good bad_mark) later) (λ u. adds_label (label_of id tag []) >> gives (e.mark (value_in x) (number_of_id id) e.no_bindings)))
-            (good_new_mark predicate x id tag u scalar.4 p.0 i t there),
+            (good_new_mark predicate x id tag u scalar.6 p.0 i t there),
         new_label_beside (label_of id tag []) i.1 refl there,
       )
 
-  pub new_labels : (labels : c.Marks) {used after : List ℕ} {k l : Known} → k.is_unmarked ≡ false → AreNewLabels new used after k labels → IsBeside new used k l
-      → (ms : Marks) × (later : Known) × (marks labels l ≡ Goes ms later) × AreNew new ms × IsBeside new after k later
-  new_labels c.no_marks {used} {after} {k} {l} u h b = (e.no_marks, l, refl, tt, subst (λ it. IsBeside new it k l) (sym h) b)
-  new_labels (c.a_mark (c.mark predicate id tag c.no_bindings) rest) {used} {after} {k} {l} u h b =
+  pub new_labels : (labels : c.Marks) {used after : List ℕ} {further : List Bool} {k l : Known} → k.is_unmarked ≡ false → AreNewLabels new used after k labels → IsBeside new used further k l
+      → (ms : Marks) × (later : Known) × (behind : List Bool) × Extends further behind × (marks labels l ≡ Goes ms later) × AreNew new ms × IsBeside new after behind k later
+  new_labels c.no_marks {used} {after} {further} {k} {l} u h b = (e.no_marks, l, further, extends_itself further, refl, tt, subst (λ it. IsBeside new it further k l) (sym h) b)
+  new_labels (c.a_mark (c.mark predicate id tag c.no_bindings) rest) {used} {after} {further} {k} {l} u h b =
       let first = new_mark predicate id tag u h.0 h.1 h.2 b in
-      let others = new_labels rest u h.3 first.3 in (
+      let others = new_labels rest u h.3 first.5 in (
         e.a_mark (e.mark first.0 (number_of_id id) e.no_bindings) others.0,
         others.1,
-        ap (λ o. goes_on o (λ m k. goes_on (marks rest k) (λ ms k. Goes (e.a_mark m ms) k))) first.2 ∙ ap (λ o. goes_on o (λ ms k. Goes (e.a_mark (e.mark first.0 (number_of_id id) e.no_bindings) ms) k)) others.2,
-        (h.0.1, others.3),
-        others.4,
+        others.2,
+        extends_on first.3 others.3,
+        ap (λ o. goes_on o (λ m k. goes_on (marks rest k) (λ ms k. Goes (e.a_mark m ms) k))) first.4 ∙ ap (λ o. goes_on o (λ ms k. Goes (e.a_mark (e.mark first.0 (number_of_id id) e.no_bindings) ms) k)) others.4,
+        (h.0.1, others.5),
+        others.6,
       )
   new_labels (c.a_mark (c.mark predicate id tag (c.a_binding name value bound)) rest) u h b = absurd h
 

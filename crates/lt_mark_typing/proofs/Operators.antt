@@ -17,14 +17,13 @@ use Rattle.lt_tree.specs.Typing.TypedTree as e
 use Rattle.lt_tree.specs.Typing.TypedTree.{Value, Values, Place, When, type_of}
 use Rattle.lt_tree.specs.Typing.Entities.{Known}
 use Rattle.lt_tree.specs.Typing.Operands.{points_to, are_integers, are_structs_alike, are_pointers_assignable, is_truth_type, is_assignable, can_be_cast}
-use Rattle.lt_tree.specs.Typing.Expressions.{Form, Typed, varies, placed, nothing, own_type, value_in, place_in, is_lvalue, judgement, converted_to, constancy_to, constancy_as_number, scalar_in, has_floating, has_pointer_to_function}
+use Rattle.lt_tree.specs.Typing.Expressions.{Form, a_value, a_place, a_designator, Typed, varies, placed, nothing, own_type, value_in, place_in, is_lvalue, Judged, judgement, converted_to, constancy_to, constancy_as_number, scalar_in, has_floating, has_pointer_to_function}
 use Rattle.lt_tree.specs.Typing.Operations.{judge_plus, judge_minus, judge_complement, judge_not, judge_address_of, judge_dereference, judge_step, judge_member, judge_arrow, judge_part, judge_index, judge_call, judge_function, judge_cast, constant_address, target_in, member_in, pointer_among, other_among, element_size, object_size, fits, counts_as_null, all_fit, is_right_number, can_be_run, takes_or_gives, passed, promoted_argument, promoted_value}
 use Rattle.lt_tree.specs.Typing.NodeEnds.{judge_unary}
 use Rattle.lt_mark_laws.specs.Added as a
 use Rattle.lt_mark_laws.specs.Added.{Adds, AddsAll, AddsPlace, AddsTruth}
 use Rattle.lt_mark_typing.specs.Beside.{AddsForm, values, places, designators, IsAtMost, AddsMade, AddsTyped, AddsTest, AddsEach, none_added, one_added, AddsAt}
 use Rattle.lt_mark_typing.specs.Placed.{position_of}
-use Rattle.lt_mark_typing.proofs.Knowing.{call_of}
 use Rattle.lt_mark_typing.proofs.Operands.{cast_adds, converted_adds, type_same, value_adds, place_adds, lvalue_same, AddsJudged, made, made_itself, valued_adds, varies_adds}
 
 -- ---- constants
@@ -51,8 +50,14 @@ conversion_varies m _ = refl
 turned_varies : (m : DataModel) (s : Scalar) → applied m O.Xor s (converted m s (number (pos 0 -ℤ pos 1))) (converted m s varying) ≡ varying
 turned_varies m s = refl
 
+-- a call of what a form is
+abbrev pub call_of : List Typed → Known → Form → Judged
+call_of xs known (a_value v) = judgement (bad_call ∷ []) nothing
+call_of xs known (a_place place) = judgement (bad_call ∷ []) nothing
+call_of xs known (a_designator w t) = judge_function known w t xs
+
 -- of a member, where the constancy of its struct is known
-abbrev behind : Placed → Constancy → Constancy
+abbrev pub behind : Placed → Constancy → Constancy
 behind member (address object offset) = address object (offset + member.offset)
 behind member _ = varying
 

@@ -1,5 +1,5 @@
 -- What typing knows, and what it makes of expressions, in a text with marks added, beside what it does in the text without them.
-use Rattle.std.specs.Prelude.{◌≡◌, ◌⊎◌, ℕ, ◌==◌, Bool, true, false, List, [], ◌∷◌}
+use Rattle.std.specs.Prelude.{◌≡◌, ◌⊎◌, ℕ, ◌==◌, Bool, true, false, List, [], ◌∷◌, map}
 use Rattle.std.specs.List.{list_any}
 use Rattle.lt_model.specs.declared.scalar.Scalar.TheVariants as S
 use Rattle.lt_tree.specs.Typing.Types.{Num}
@@ -11,7 +11,10 @@ use Rattle.lt_tree.specs.Typing.Entities.{Known, Label, greatest_label_id}
 use Rattle.lt_tree.specs.Typing.Steps.{Outcome, Goes, Breaks}
 use Rattle.lt_tree.specs.Typing.Expressions.{Form, a_value, a_place, a_designator, Typed, Use, as_truth, own_type, value_in}
 use Rattle.lt_tree.specs.Typing.Operations.{counts_as_null}
-use Rattle.lt_mark_laws.specs.Added.{Adds, AddsTruth, AddsPlace, AddsFunctions, AreSameObjects}
+use Rattle.lt_mark_laws.specs.Added.{Adds, AddsTruth, AddsPlace, AddsFunctions}
+use Rattle.lt_object_laws.specs.Renamed.{function_with}
+use Rattle.lt_mark_typing.specs.Renumbered.{frames_with, typed_with}
+use Rattle.lt_mark_typing.specs.Further.{Extends, Agrees, HasObjects}
 
 -- ---- what is known
 
@@ -26,12 +29,13 @@ pub data AddsLabels (new : ℕ → Bool) (used : List ℕ) : List Label → List
   added : {label : Label} {xs ys : List Label}
       → new label.id ≡ true → is_used label.id used ≡ true → label.bound ≡ [] → AddsLabels new used xs ys → AddsLabels new used xs (label ∷ ys)
 
--- The same is known at a place of both texts, but for the numbers of nodes, facts, added labels, and marks in bodies of functions. In the second text a label
--- may have any id that a label can have.
-pub record IsBeside (new : ℕ → Bool) (used : List ℕ) (known other : Known) : Type 0 where
-  pub same : other ≡ record known { next = other.next; greatest_id = greatest_label_id; objects = other.objects; functions = other.functions; labels = other.labels; facts = other.facts }
-  pub objects : AreSameObjects known.objects other.objects
-  pub functions : AddsFunctions new known.functions other.functions
+-- The same is known at a place of both texts, but for the numbers of nodes and of objects, further objects, facts, added labels, and marks in bodies of functions.
+-- In the second text a label may have any id that a label can have.
+pub record IsBeside (new : ℕ → Bool) (used : List ℕ) (further : List Bool) (known other : Known) : Type 0 where
+  pub same : (r : ℕ → ℕ) → Agrees r further
+      → other ≡ record known { next = other.next; greatest_id = greatest_label_id; frames = frames_with r known.frames; objects = other.objects; functions = other.functions; labels = other.labels; facts = other.facts }
+  pub objects : (r : ℕ → ℕ) → Agrees r further → HasObjects r further known.objects other.objects
+  pub functions : (r : ℕ → ℕ) → Agrees r further → AddsFunctions new (map (function_with r) known.functions) other.functions
   pub labels : AddsLabels new used known.labels other.labels
 
 -- ---- typed expressions
@@ -88,9 +92,15 @@ AddsAt new (in_use as_truth) x y = AddsMade new x y
 AddsAt new (in_use role) x y = AddsTyped new x y
 AddsAt new in_test x y = AddsTest new x y
 
+-- so where the first one's objects have the numbers that r gives
+abbrev pub AddsWith : (ℕ → Bool) → Position → (ℕ → ℕ) → Typed → Typed → Type 0
+AddsWith new position r x y = AddsAt new position (typed_with r x) y
+
 -- ---- outcomes
 
--- Where going over the text goes on, it does so over the text with marks added, to something that is related, with the same known behind it.
-pub data Follows {A B : Type 0} (new : ℕ → Bool) (used : List ℕ) (relation : A → B → Type 0) : Outcome A → Outcome B → Type 0 where
-  goes : {a : A} {b : B} {known other : Known} → relation a b → IsBeside new used known other → Follows new used relation (Goes a known) (Goes b other)
-  breaks : {rule : Rule} {node : ℕ} {outcome : Outcome B} → Follows new used relation (Breaks rule node) outcome
+-- Where going over the text goes on, it does so over the text with marks added, to something that is related, with the same known behind it. Objects that are found
+-- on the way have flags behind those that were there; what is found is related for all numbers that objects may have in the end.
+pub data Follows {A B : Type 0} (new : ℕ → Bool) (used : List ℕ) (further : List Bool) (relation : (ℕ → ℕ) → A → B → Type 0) : Outcome A → Outcome B → Type 0 where
+  goes : {a : A} {b : B} {known other : Known} (behind : List Bool) → Extends further behind → ((r : ℕ → ℕ) → Agrees r behind → relation r a b) → IsBeside new used behind known other
+      → Follows new used further relation (Goes a known) (Goes b other)
+  breaks : {rule : Rule} {node : ℕ} {outcome : Outcome B} → Follows new used further relation (Breaks rule node) outcome

@@ -1,6 +1,11 @@
+pub use Rattle.lt_meaning.specs.Runs
+pub mod Renumbered
+pub mod Further
 pub mod Beside
 pub mod Placed
 pub mod PlacedInitialisers
 pub mod PlacedItems
 pub mod PlacedUnits
+pub mod MarkedPrograms
+pub mod MarkedRuns
 pub mod Laws

@@ -1,5 +1,6 @@
 -- Expressions with marks added, each where it may stand: predicates and conditions are those of the place, as the walk comes to it.
-use Rattle.std.specs.Prelude.{◌≡◌, ℕ, ◌+◌, not, ◌&&◌, Bool, true, false, List, [], ◌∷◌, Option, is_some}
+use Rattle.std.specs.Prelude.{◌≡◌, ℕ, ◌+◌, not, ◌&&◌, Bool, true, false, List, [], ◌∷◌, ◌++◌, Option, is_some}
+use Rattle.std.specs.List.{AllByRecursion}
 use Rattle.lt_model.specs.declared.operator.Op.{Op}
 use Rattle.lt_tree.specs.declared.expression.LogicalOp.{LogicalOp}
 use Rattle.lt_tree.specs.declared.expression.UnaryOp.{UnaryOp}
@@ -10,7 +11,7 @@ use Rattle.lt_tree.specs.Nodes.{Node, an_expression as expression_node, a_mark a
 use Rattle.lt_tree.specs.Typing.Types.{CType, is_scalar}
 use Rattle.lt_tree.specs.Typing.Extents.{Structs, has_too_many_cells}
 use Rattle.lt_tree.specs.Typing.TypedTree.{Value, Marks as TypedMarks}
-use Rattle.lt_tree.specs.Typing.Entities.{Known, Fact}
+use Rattle.lt_tree.specs.Typing.Entities.{Known, Object, Fact}
 use Rattle.lt_tree.specs.Typing.Steps.{Goes}
 use Rattle.lt_tree.specs.Typing.Expressions.{a_value, Typed, as_value, as_truth, as_place, as_callee, own_type, has_floating, has_pointer_to_function}
 use Rattle.lt_tree.specs.Typing.Operations.{counts_as_null}
@@ -20,6 +21,7 @@ use Rattle.lt_tree.specs.Typing.Declarators.{Built, Declares, type_name_faults}
 use Rattle.lt_tree.specs.Typing.Rules.{Rule}
 use Rattle.lt_tree.specs.Typing.ExpressionTyping.{expression, marks, specifiers, declarator}
 use Rattle.lt_mark_laws.specs.Added.{can_be_marked}
+use Rattle.lt_object_laws.specs.Further.{IsFurther}
 use Rattle.lt_mark_typing.specs.Beside.{is_used, IsBeside, Position, in_use, in_test, use_of}
 
 -- ---- marks that the text has
@@ -42,15 +44,16 @@ AreOld new (node ∷ nodes) = IsOld new node × AreOld new nodes
 abbrev pub IsNewId : (ℕ → Bool) → List ℕ → List ℕ → Type 0
 IsNewId new used id = (is_some (id_of id) ≡ true) × (new (number_of_id id) ≡ true) × (is_used (number_of_id id) used ≡ false)
 
--- where this is known an expression has a type that passes a test, and going over it finds nothing but facts
+-- Where this is known an expression has a type that passes a test, and going over it finds nothing but facts and further objects: string literals, and
+-- parameters of its type names.
 abbrev pub IsAt : (CType → Bool) → Known → c.Expression → Type 0
 IsAt test known it =
-    (x : Typed) × (next : ℕ) × (facts : List Fact)
-    × (expression it as_value known ≡ Goes x (record known { next = next; facts = facts })) × (test (own_type x) ≡ true)
+    (x : Typed) × (next : ℕ) × (facts : List Fact) × (more : List Object) × AllByRecursion IsFurther more
+    × (expression it as_value known ≡ Goes x (record known { next = next; objects = known.objects ++ more; facts = facts })) × (test (own_type x) ≡ true)
 
 -- a pure one that does so here in the text with marks added
 abbrev pub IsThere : (CType → Bool) → (ℕ → Bool) → List ℕ → Known → c.Expression → Type 0
-IsThere test new used known it = (is_pure it ≡ true) × ((other : Known) → IsBeside new used known other → IsAt test other it)
+IsThere test new used known it = (is_pure it ≡ true) × ((further : List Bool) (other : Known) → IsBeside new used further known other → IsAt test other it)
 
 abbrev pub IsPredicateAt : (ℕ → Bool) → List ℕ → Known → c.Expression → Type 0
 IsPredicateAt new used known it = IsThere is_scalar new used known it

@@ -1,15 +1,20 @@
 //! Laws of the definitions; the functions do nothing.
 
-ghost use Rattle.lt_mark_typing.specs.Laws.{ExpressionsAreTypedAgain, MarkedUnitsRunAlike, MarkedUnitsRunTheSame, OthersAreTypedAlike, PredicatesAreMade, PureExpressionsAreThere, StatementsAreTypedAgain, UnitsAreTypedAgain};
+ghost use Rattle.lt_mark_typing.specs.Laws.{ExpressionsAreTypedAgain, NamedObjectsAreKnown, OthersAreTypedAlike, PredicatesAreMade, PureExpressionsAreThere, StatementsAreTypedAgain, UnitsAreTypedAgain};
 
 /// An expression with marks added, each where it may stand, is typed as the typed expression with these marks added.
 pub fn expressions_are_typed_again()
     ensures { ExpressionsAreTypedAgain }
 {}
 
-/// An expression in which no mark is added is typed as it was.
+/// An expression in which no mark is added is typed as it was, but for the numbers of objects.
 pub fn others_are_typed_alike()
     ensures { OthersAreTypedAlike }
+{}
+
+/// Each object that a name stands for is known there.
+pub fn named_objects_are_known()
+    ensures { NamedObjectsAreKnown }
 {}
 
 /// Statements and items with marks added, each where it may stand, are typed as the typed ones with these marks added.
@@ -17,20 +22,10 @@ pub fn statements_are_typed_again()
     ensures { StatementsAreTypedAgain }
 {}
 
-/// A unit with marks added, each where it may stand, is typed as the unit's program with these marks added.
+/// A unit with marks added, each where it may stand, is typed as the unit's program with these marks added, which may have
+/// objects of their own.
 pub fn units_are_typed_again()
     ensures { UnitsAreTypedAgain }
-{}
-
-/// A unit with marks added, each where it may stand, runs as the unit does where types have the same numbers, new marks
-/// aside.
-pub fn marked_units_run_alike()
-    ensures { MarkedUnitsRunAlike }
-{}
-
-/// It runs as the unit does, new marks aside, on inputs whose blocks have cells of the types of objects.
-pub fn marked_units_run_the_same()
-    ensures { MarkedUnitsRunTheSame }
 {}
 
 /// What negations, `&&`, `||`, `-`, `?:` and operators on integers make of predicates is one.
@@ -38,7 +33,7 @@ pub fn predicates_are_made()
     ensures { PredicatesAreMade }
 {}
 
-/// A pure expression that declares nothing is typed alike where labels are put in front of it.
+/// A pure expression that finds nothing but facts and further objects is typed alike where labels are put in front of it.
 pub fn pure_expressions_are_there()
     ensures { PureExpressionsAreThere }
 {}

@@ -4,7 +4,7 @@
 mod laws;
 
 pub use laws::{
-    expressions_are_typed_again, marked_units_run_alike, marked_units_run_the_same,
-    others_are_typed_alike, predicates_are_made, pure_expressions_are_there,
-    statements_are_typed_again, units_are_typed_again,
+    expressions_are_typed_again, named_objects_are_known, others_are_typed_alike,
+    predicates_are_made, pure_expressions_are_there, statements_are_typed_again,
+    units_are_typed_again,
 };

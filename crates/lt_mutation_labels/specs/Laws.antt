@@ -71,7 +71,8 @@ abbrev pub AreQuietlyToldApart : Known → c.Expression → c.Expression → Typ
 AreQuietlyToldApart known it other =
     (z : Typed) (next : ℕ) (facts : List Fact) → expression (inequality it other) as_value known ≡ Goes z (record known { next = next; facts = facts }) → IsDifference known it other z
 
--- So each mutant is told apart from its expression where typing finds nothing but facts in the predicate that they differ, as in each that a label has.
+-- So each mutant is told apart from its expression where typing finds nothing but facts in the predicate that they differ, as where they have no string literal
+-- and no parameter in a type name.
 abbrev pub PredicatesTellMutantsApart : Type 0
 PredicatesTellMutantsApart =
     (known : Known) (it : c.Expression) (model : DataModel) (t u : CType) → is_pure it ≡ true → (is_integer t && is_integer u ≡ true → TakesIntegers (entered known) it)

@@ -1,11 +1,10 @@
 -- Answers of a run and of two others with further blocks, and steps that give such answers in such states.
-use Rattle.std.proofs.Common.{◌≡◌, ℕ, List, [], ◌∷◌, ◌++◌, map, Option, Some, None, Bool, true, false, refl, sym, ap, ◌∙◌, subst, append_assoc}
+use Rattle.std.proofs.Common.{◌≡◌, ℕ, List, [], ◌∷◌, ◌++◌, map, Option, Some, None, Bool, true, false, refl, sym, ap, ◌∙◌, subst}
 use Rattle.std.proofs.lemmas.List.{map-append}
-use Rattle.std.specs.Prelude.{◌==◌, ◌&&◌, ◌||◌, nat_eq, if◌then◌else◌, Result, Ok, Err}
+use Rattle.std.specs.Prelude.{◌&&◌, ◌||◌, nat_eq, if◌then◌else◌, Result, Ok, Err}
 use Rattle.std.specs.List.{list_any}
 use Rattle.lt_model.specs.declared.cell.Address.{Address}
 use Rattle.lt_model.specs.declared.cell.Content.{Content}
-use Rattle.lt_model.specs.declared.cell.Content.TheVariants as content
 use Rattle.lt_model.specs.declared.operator.Ub.{Ub}
 use Rattle.lt_model.specs.Memory.{Memory}
 use Rattle.lt_model.specs.State.{CellName, Footprint, Valued, Gives, Ends, same_cell, meets, clash, joined, settle}
@@ -13,12 +12,12 @@ use Rattle.lt_model.specs.declared.run.End.{End}
 use Rattle.lt_model.specs.declared.run.End.TheVariants.{Undefined, Cells}
 use Rattle.lt_ir.specs.declared.variable.Variable.{Variable}
 use Rattle.lt_ir.specs.declared.variable.Variable.TheVariants.{Parameter, Local, Static as StaticObject}
-use Rattle.lt_ir.specs.Running.{Bound, At, Answer, Step, ◌>>=◌, gives, over, defined, absurdity, asked, changed, quietly, block_among}
-use Rattle.lt_ir.specs.Evaluation.{valued, grown, settled_in}
+use Rattle.lt_ir.specs.Running.{Bound, At, Answer, Step, ◌>>=◌, gives, over, defined, block_among}
+use Rattle.lt_ir.specs.Evaluation.{grown, settled_in}
 use Rattle.lt_object_laws.specs.Renamed.{renumbered}
 use Rattle.lt_object_laws.specs.Beside.{address_with, content_with, HasFurtherBlocks}
 use Rattle.lt_object_laws.proofs.Numbers.{tests_same, flag_at}
-use Rattle.lt_object_laws.proofs.Memory.{result_with, option_with, Changes}
+use Rattle.lt_object_laws.proofs.Memory.{result_with}
 
 -- a run with further blocks: which of its blocks are further ones, and which of its objects that are there from the start
 pub record Other : Type 0 where
@@ -97,13 +96,13 @@ pub record Stands (o : Other) (cells : ℕ) (at : At) (scope : List Bound) (memo
 -- ---- answers
 
 module _ (seen : Comparison) where
-  -- Both others give the same, renamed, or end in the same way; or there is no room for the cells of both.
+  -- Both others give the same, renamed, or end in the same way; or there is no room for the cells of both, which are some.
   pub data Alike {A : Type 0} (with : Other → A → A) : Answer A → Answer A → Answer A → Type 0 where
     all_give : {a : A} {at : At} {s1 s2 : List Bound} {m1 m2 : Memory} → Stands seen.one seen.cells at s1 m1 → Stands seen.two seen.cells at s2 m2
         → Alike with (Gives a at) (Gives (with seen.one a) (beside at s1 m1)) (Gives (with seen.two a) (beside at s2 m2))
     all_end : {end : End} {at : At} {s1 s2 : List Bound} {m1 m2 : Memory} → Stands seen.one seen.cells at s1 m1 → Stands seen.two seen.cells at s2 m2
         → Alike with (Ends end at) (Ends end (beside at s1 m1)) (Ends end (beside at s2 m2))
-    no_room : {m : Answer A} {at1 at2 : At} → Alike with m (Ends Cells at1) (Ends Cells at2)
+    no_room : {m : Answer A} {at1 at2 : At} → (seen.cells ≡ 0 → ⊥) → Alike with m (Ends Cells at1) (Ends Cells at2)
 
   -- three steps that give such answers in such states
   pub record Same {A : Type 0} (with : Other → A → A) (s r1 r2 : Step A) : Type 0 where
@@ -116,7 +115,7 @@ module _ (seen : Comparison) where
       → Alike on (elim (m) [ Gives x at ↦ f x at | Ends end at ↦ Ends end at ]) (elim (n1) [ Gives x at ↦ g1 x at | Ends end at ↦ Ends end at ]) (elim (n2) [ Gives x at ↦ g2 x at | Ends end at ↦ Ends end at ])
   alike_then m n1 n2 f g1 g2 (all_give {a} {at} {s1} {s2} {m1} {m2} h1 h2) k = (k a).alike at s1 s2 m1 m2 h1 h2
   alike_then m n1 n2 f g1 g2 (all_end h1 h2) k = all_end h1 h2
-  alike_then m n1 n2 f g1 g2 no_room k = no_room
+  alike_then m n1 n2 f g1 g2 (no_room some) k = no_room some
 
   pub then_same : {A B : Type 0} {with : Other → A → A} {on : Other → B → B} (s r1 r2 : Step A) (f g1 g2 : A → Step B) → Same with s r1 r2
       → ((a : A) → Same on (f a) (g1 (with seen.one a)) (g2 (with seen.two a))) → Same on (s >>= f) (r1 >>= g1) (r2 >>= g2)

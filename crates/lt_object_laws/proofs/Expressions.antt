@@ -1,20 +1,15 @@
 -- Expressions do the same beside further objects.
-use Rattle.std.proofs.Common.{◌≡◌, ℕ, ℤ, pos, negsuc, List, [], ◌∷◌, ◌++◌, map, Option, Some, None, Bool, true, false, refl, sym, ap, ◌∙◌, subst}
+use Rattle.std.proofs.Common.{◌≡◌, ℕ, pos, negsuc, List, [], ◌∷◌, Option, Some, None, Bool, true, false, refl, sym, ap, ◌∙◌, subst}
 use Rattle.std.proofs.lemmas.Bool.{false≢true}
 use Rattle.std.specs.Prelude.{not, if◌then◌else◌}
 use Rattle.lt_model.specs.declared.cell.Address.{Address}
-use Rattle.lt_model.specs.declared.cell.CellType.{CellType}
 use Rattle.lt_model.specs.declared.cell.Content.{Content}
 use Rattle.lt_model.specs.declared.cell.Content.TheVariants as content
-use Rattle.lt_model.specs.declared.cell.ShapeCell.{ShapeCell}
 use Rattle.lt_model.specs.declared.operator.Op.{Op}
 use Rattle.lt_model.specs.declared.operator.Op.TheVariants as O
-use Rattle.lt_model.specs.declared.scalar.Scalar.{Scalar}
 use Rattle.lt_model.specs.Scalar.{convert_of}
-use Rattle.lt_model.specs.declared.run.End.{End}
 use Rattle.lt_model.specs.Memory.{Memory}
-use Rattle.lt_model.specs.State.{Made, Binding, Footprint, Valued, untouched, Gives, Ends}
-use Rattle.lt_tree.specs.declared.expression.LogicalOp.{LogicalOp}
+use Rattle.lt_model.specs.State.{Binding, Footprint, Valued, untouched, Gives, Ends}
 use Rattle.lt_tree.specs.Tree.{Unit as SourceUnit}
 use Rattle.lt_tree.specs.Typing.Types.{CType, Void, Num, Pointer, Array, Struct, Function as FunctionType, Floating, Qualified, is_struct}
 use Rattle.lt_tree.specs.Typing.TypedTree as e
@@ -22,13 +17,13 @@ use Rattle.lt_tree.specs.Typing.TypedTree.{Value, Values, Place, Marks, Mark, Bi
 use Rattle.lt_tree.specs.Typing.Entities.{Function, Label, Fact, Declared, Frame, Object}
 use Rattle.lt_tree.specs.Typing.Programs.{Program}
 use Rattle.lt_ir.specs.declared.variable.Variable.{Variable}
-use Rattle.lt_ir.specs.Running.{Bound, At, Answer, Step, ◌>>=◌, ◌>>◌, gives, place, marks, one_more, marked_with, quietly}
-use Rattle.lt_ir.specs.Evaluation.{valued, number_in, address_in, used, truth_in, of_truth, settled_in, grown, apart, aimed, one_cell, loaded, stored, copied, with_reads, moved, member_at, applied, counted, compared}
-use Rattle.lt_meaning.specs.Expressions.{is_pure, pure_only, Around, Calls, Fate, wanted, unconverted, dropped, dropped_branch, untaken, takes, inside, of_branch, of_last, fate_of_part, tracking, converted, converted_here, late, passed, called, with_argument, taken, assigned, updated, kept, cells_of, cell_type, shape, scalar_in, in_type, pointer_of, count_of, decides, second_truth, comma_from, eval, place_of, arguments_of, parts_of, bound_at, marked, marked_all}
+use Rattle.lt_ir.specs.Running.{Bound, At, Answer, Step, ◌>>=◌, gives, place, one_more, marked_with, quietly}
+use Rattle.lt_ir.specs.Evaluation.{valued, number_in, truth_in, of_truth, settled_in, grown, aimed, one_cell, loaded, stored, with_reads, moved}
+use Rattle.lt_meaning.specs.Expressions.{is_pure, pure_only, Around, Calls, Fate, wanted, unconverted, dropped, dropped_branch, untaken, takes, inside, of_branch, of_last, converted, converted_here, late, passed, called, with_argument, taken, assigned, updated, kept, cells_of, cell_type, shape, scalar_in, in_type, pointer_of, count_of, decides, second_truth, eval, place_of, arguments_of, parts_of, bound_at, marked, marked_all}
 use Rattle.lt_object_laws.specs.Renamed.{value_with, values_with, place_with, marks_with, mark_with, bindings_with}
-use Rattle.lt_object_laws.proofs.Alike.{Other, Comparison, as_it_is, block_in, pointer_in, content_in, contents_in, footprint_in, valued_in, variable_in, beside, Stands, Alike, all_give, all_end, no_room, Same, then_same, gives_same, gives_as, over_same, if_same, grown_in, settled_as, behind_settled, by_settled}
+use Rattle.lt_object_laws.proofs.Alike.{Other, Comparison, as_it_is, pointer_in, content_in, contents_in, footprint_in, valued_in, variable_in, beside, Stands, Alike, all_give, all_end, no_room, Same, then_same, gives_same, gives_as, if_same, grown_in, settled_as, behind_settled, by_settled}
 use Rattle.lt_object_laws.proofs.Machine.{number_same, address_same, used_same, truth_same, apart_same, aimed_same, reads_same, loaded_same, stored_same, copied_same, moved_same, member_same, applied_same, counted_same, compared_same, place_same}
-use Rattle.lt_object_laws.proofs.Pure.{parts_behind, HasRoom, IsRoomy, then_roomy, value_roomy, number_roomy, truth_roomy}
+use Rattle.lt_object_laws.proofs.Pure.{parts_behind, HasRoom, then_roomy, value_roomy, number_roomy, truth_roomy}
 use Rattle.lt_object_laws.proofs.Trees.{type_with, pure_with}
 
 -- what comes quietly is the same, where there is room
@@ -36,13 +31,13 @@ quiet_one : {seen : Comparison} {A : Type 0} (m n1 n2 : Answer A) → Alike seen
     → elim (m) as (λ _. Option A) [ Gives a at ↦ Some a | Ends end at ↦ None ] ≡ elim (n1) as (λ _. Option A) [ Gives a at ↦ Some a | Ends end at ↦ None ]
 quiet_one m n1 n2 (all_give h1 h2) g = refl
 quiet_one m n1 n2 (all_end h1 h2) g = refl
-quiet_one m n1 n2 no_room g = absurd (false≢true (sym g))
+quiet_one m n1 n2 (no_room some) g = absurd (false≢true (sym g))
 
 quiet_two : {seen : Comparison} {A : Type 0} (m n1 n2 : Answer A) → Alike seen as_it_is m n1 n2 → HasRoom n2
     → elim (m) as (λ _. Option A) [ Gives a at ↦ Some a | Ends end at ↦ None ] ≡ elim (n2) as (λ _. Option A) [ Gives a at ↦ Some a | Ends end at ↦ None ]
 quiet_two m n1 n2 (all_give h1 h2) g = refl
 quiet_two m n1 n2 (all_end h1 h2) g = refl
-quiet_two m n1 n2 no_room g = absurd (false≢true (sym g))
+quiet_two m n1 n2 (no_room some) g = absurd (false≢true (sym g))
 
 -- what is asked of a pure expression alone
 if_pure : {A : Type 0} (b c : Bool) (x y : Option A) → c ≡ b → (b ≡ true → x ≡ y) → pure_only b x ≡ pure_only c y

@@ -1,15 +1,15 @@
-mod Numbers
+pub mod Numbers
 mod Memory
 mod Alike
 mod Machine
 mod Pure
-mod Trees
+pub mod Trees
 mod Expressions
 mod Statements
 mod Filling
+mod Room
 mod Beginning
 mod Objects
 mod Calls
 mod Starting
-mod Room
 pub mod Runs

@@ -14,17 +14,17 @@ use Rattle.lt_model.specs.declared.scalar.Scalar.{Scalar}
 use Rattle.lt_model.specs.declared.operator.Op.{Op}
 use Rattle.lt_model.specs.declared.operator.Ub.{Ub}
 use Rattle.lt_model.specs.declared.operator.Ub.TheVariants as U
-use Rattle.lt_model.specs.declared.run.End.TheVariants.{Stopped, Undefined, NoInput, Steps, Deep, Cells}
+use Rattle.lt_model.specs.declared.run.End.TheVariants.{Stopped, Undefined, Deep, Cells}
 use Rattle.lt_model.specs.Operators.{is_value, value_of}
-use Rattle.lt_model.specs.Memory.{Memory, Block, load, store, copy_struct, create_shaped, create, new_block, cells_alive, most_cells, held_at, offset_of, object_at, then_result, not_null, move_by, compare, subtract, checked_address, end_block, seal_block}
+use Rattle.lt_model.specs.Memory.{Memory, Block, load, store, copy_struct, create_shaped, create, new_block, cells_alive, most_cells, held_at, offset_of, object_at, then_result, not_null, move_by, compare, subtract, checked_address}
 use Rattle.lt_model.specs.State.{CellName, Left, Footprint, Valued, clash, joined, meets, untouched, Gives, Ends}
 use Rattle.lt_ir.specs.declared.variable.Variable.{Variable}
 use Rattle.lt_ir.specs.declared.variable.Variable.TheVariants.{Parameter, Local, Static as StaticObject}
-use Rattle.lt_ir.specs.Running.{Bound, At, Answer, Step, ◌>>=◌, ◌>>◌, gives, over, defined, absurdity, asked, changed, tick, spent, one_deeper, most_calls, same_variable, block_among, without, is_alive, if_living, living_block, with_block, place, created, bound_to, begins, is_begun, ends, seals, stub_value, next_value, took, is_static, statics_of, with_scope, begin_parameters, end_parameters}
+use Rattle.lt_ir.specs.Running.{Bound, At, Answer, Step, ◌>>=◌, gives, defined, absurdity, asked, changed, tick, spent, one_deeper, most_calls, same_variable, block_among, without, is_alive, if_living, living_block, with_block, place, created, bound_to, begins, is_begun, ends, seals, stub_value, next_value, took, is_static, statics_of, with_scope, begin_parameters, end_parameters}
 use Rattle.lt_ir.specs.Evaluation.{valued, number_in, address_in, used, is_some_address, truth_in, apart, aimed, is_met, cell_at, further, cells_met, lies_at, with_reads, reads, loaded, written, is_content_of, stored, copied, is_integer, is_right_operand, signed_count, moved, member_at, applied, counted, compared, one_cell, grown, writes, store_one, store_parameters}
 use Rattle.lt_object_laws.specs.Renamed.{renumbered}
-use Rattle.lt_object_laws.specs.Beside.{address_with, content_with, block_with, HasFurtherBlocks}
-use Rattle.lt_object_laws.proofs.Numbers.{tests_same, flag_at, none_of_the_others, no_further_one}
+use Rattle.lt_object_laws.specs.Beside.{block_with, HasFurtherBlocks}
+use Rattle.lt_object_laws.proofs.Numbers.{tests_same, flag_at, no_further_one}
 use Rattle.lt_object_laws.proofs.Memory as memory
 use Rattle.lt_object_laws.proofs.Memory.{result_with, option_with, then_with, Changes}
 use Rattle.lt_object_laws.proofs.Alike.{Other, Comparison, names_in, as_it_is, block_in, pointer_in, content_in, contents_in, name_in, footprint_in, valued_in, variable_in, bound_in, IsFurtherBlock, AreThere, HasFurtherBounds, no_bounds, a_bound, a_further_bound, beside, Stands, Alike, all_give, all_end, no_room, Same, then_same, gives_same, gives_as, over_same, if_same, defined_same, meets_in, clash_in, joined_in, grown_in}
@@ -225,6 +225,9 @@ pub room_without : (alive cells n most : ℕ) → nat_le ((alive + cells) + n) m
 room_without alive cells n most h =
     let le = leb-true ((alive + cells) + n) most h in
     le-leb (alive + n) most (omega (arith, le))
+
+pub no_more : (alive cells : ℕ) → cells ≡ 0 → alive + cells ≡ alive
+no_more alive cells h = omega (arith, h)
 
 module _ (seen : Comparison) where
   abbrev S : {A : Type 0} → (Other → A → A) → Step A → Step A → Step A → Type 0
@@ -439,28 +442,32 @@ module _ (seen : Comparison) where
   pub place_same : (v : Variable) → S pointer_in (place v) (place (variable_in seen.one v)) (place (variable_in seen.two v))
   place_same v = block_same pointer_in v _ _ _ (λ n. gives_same seen pointer_in (Some (record { block = n; offset = 0 })))
 
-  -- one more object, where there is room for it in this run if there is in the others
-  created_by : (shape : Shape) (zeroed : Bool) (b b1 b2 : Bool) → b1 ≡ b2 → (b1 ≡ true → b ≡ true) → (at : At) (s1 s2 : List Bound) (m1 m2 : Memory) → Stands seen.one seen.cells at s1 m1 → Stands seen.two seen.cells at s2 m2
+  -- one more object, where there is room for it in this run if there is in the others, and only if where those have no more cells
+  created_by : (shape : Shape) (zeroed : Bool) (b b1 b2 : Bool) → b1 ≡ b2 → (b1 ≡ true → b ≡ true) → (seen.cells ≡ 0 → b1 ≡ b) → (at : At) (s1 s2 : List Bound) (m1 m2 : Memory) → Stands seen.one seen.cells at s1 m1 → Stands seen.two seen.cells at s2 m2
       → Alike seen block_in (elim (if b then Some (create at.memory (new_block shape zeroed true)) else None) as (λ _. Answer ℕ) [ None ↦ Ends Cells at | Some memory ↦ Gives (length at.memory) (record at { memory = memory }) ])
       (elim (if b1 then Some (create m1 (new_block shape zeroed true)) else None) as (λ _. Answer ℕ) [ None ↦ Ends Cells (beside at s1 m1) | Some memory ↦ Gives (length m1) (record (beside at s1 m1) { memory = memory }) ])
       (elim (if b2 then Some (create m2 (new_block shape zeroed true)) else None) as (λ _. Answer ℕ) [ None ↦ Ends Cells (beside at s2 m2) | Some memory ↦ Gives (length m2) (record (beside at s2 m2) { memory = memory }) ])
-  created_by shape zeroed true true true e f at s1 s2 m1 m2 h1 h2 =
+  created_by shape zeroed true true true e f g at s1 s2 m1 m2 h1 h2 =
       let made : Other → Memory → Type 0 = λ o m. HasFurtherBlocks (names_in o) o.blocks [] seen.cells (create at.memory (new_block shape zeroed true)) m in
       subst (λ n. Alike seen block_in (Gives (length at.memory) (record at { memory = create at.memory (new_block shape zeroed true) })) (Gives n (record (beside at s1 m1) { memory = create m1 (new_block shape zeroed true) })) (Gives (length m2) (record (beside at s2 m2) { memory = create m2 (new_block shape zeroed true) }))) (sym (memory.next_with (names_in seen.one) h1.blocks))
       (subst (λ n. Alike seen block_in (Gives (length at.memory) (record at { memory = create at.memory (new_block shape zeroed true) })) (Gives (block_in seen.one (length at.memory)) (record (beside at s1 m1) { memory = create m1 (new_block shape zeroed true) })) (Gives n (record (beside at s2 m2) { memory = create m2 (new_block shape zeroed true) }))) (sym (memory.next_with (names_in seen.two) h2.blocks))
       (all_give
       (record { bounds = h1.bounds; there = h1.there; blocks = subst (λ block. made seen.one (m1 ++ block ∷ [])) (memory.new_with (names_in seen.one) seen.one.blocks [] seen.cells shape zeroed true) (memory.more_with (names_in seen.one) h1.blocks (new_block shape zeroed true)) })
       (record { bounds = h2.bounds; there = h2.there; blocks = subst (λ block. made seen.two (m2 ++ block ∷ [])) (memory.new_with (names_in seen.two) seen.two.blocks [] seen.cells shape zeroed true) (memory.more_with (names_in seen.two) h2.blocks (new_block shape zeroed true)) })))
-  created_by shape zeroed b false false e f at s1 s2 m1 m2 h1 h2 = no_room
-  created_by shape zeroed false true true e f at s1 s2 m1 m2 h1 h2 = absurd (true_false (f refl))
+  created_by shape zeroed true false false e f g at s1 s2 m1 m2 h1 h2 = no_room (λ none. true_false (g none))
     where
       true_false : false ≡ true → ⊥
       true_false e = cc
-  created_by shape zeroed b true false e f at s1 s2 m1 m2 h1 h2 = absurd (true_false e)
+  created_by shape zeroed false false false e f g at s1 s2 m1 m2 h1 h2 = all_end h1 h2
+  created_by shape zeroed false true true e f g at s1 s2 m1 m2 h1 h2 = absurd (true_false (f refl))
+    where
+      true_false : false ≡ true → ⊥
+      true_false e = cc
+  created_by shape zeroed b true false e f g at s1 s2 m1 m2 h1 h2 = absurd (true_false e)
     where
       true_false : true ≡ false → ⊥
       true_false e = cc
-  created_by shape zeroed b false true e f at s1 s2 m1 m2 h1 h2 = absurd (true_false e)
+  created_by shape zeroed b false true e f g at s1 s2 m1 m2 h1 h2 = absurd (true_false e)
     where
       true_false : false ≡ true → ⊥
       true_false e = cc
@@ -474,6 +481,7 @@ module _ (seen : Comparison) where
         created_by shape zeroed (nat_le (cells_alive at.memory + length shape.cells) most_cells) (nat_le (cells_alive m1 + length shape.cells) most_cells) (nat_le (cells_alive m2 + length shape.cells) most_cells)
         (ap (λ n. nat_le (n + length shape.cells) most_cells) (e1 ∙ sym e2))
         (λ h. room_without (cells_alive at.memory) seen.cells (length shape.cells) most_cells (ap (λ n. nat_le (n + length shape.cells) most_cells) (sym e1) ∙ h))
+        (λ none. ap (λ n. nat_le (n + length shape.cells) most_cells) (e1 ∙ no_more (cells_alive at.memory) seen.cells none))
         at s1 s2 m1 m2 h1 h2;
   }
 

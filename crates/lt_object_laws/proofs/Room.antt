@@ -1,6 +1,5 @@
--- There is room for the objects that are there from the start, where all their cells together fit.
-use Rattle.std.proofs.Common.{◌≡◌, ◌≤◌, ℕ, zero, suc, List, [], ◌∷◌, ◌++◌, map, length, Option, Some, None, Bool, true, false, refl, sym, ap, ◌∙◌, subst, arith, le-leb}
-use Rattle.std.proofs.lemmas.Bool.{false≢true}
+-- There is room for the objects that are there from the start, where all their cells together fit; and so many alone are made as there is room for.
+use Rattle.std.proofs.Common.{◌≡◌, ◌≤◌, ℕ, zero, suc, List, [], ◌∷◌, ◌++◌, length, Option, Some, None, Bool, true, false, refl, sym, ap, ◌∙◌, subst, arith, le-leb, leb-true}
 use Rattle.std.proofs.lemmas.List.{length-map}
 use Rattle.std.proofs.lemmas.List.Sums.{sum_by-cons, sum_by-append}
 use Rattle.std.specs.Prelude.{◌==◌, ◌+◌, ◌&&◌, nat_le, if◌then◌else◌, Result, Ok, Err, slice_get, slice_set}
@@ -18,12 +17,11 @@ use Rattle.lt_model.specs.Memory.{Memory, Block, corresponds, as_type, if_alive,
 use Rattle.lt_model.specs.State.{untouched, Gives, Ends}
 use Rattle.lt_ir.specs.declared.variable.Variable.TheVariants.{Static as StaticObject}
 use Rattle.lt_ir.specs.declared.code.Static.{Static}
-use Rattle.lt_ir.specs.Running.{At, Answer, Step, ◌>>=◌, ◌>>◌, gives, absurdity, bound_to}
-use Rattle.lt_ir.specs.Evaluation.{stored, written, is_content_of, one_cell}
+use Rattle.lt_ir.specs.Running.{At, Answer, Step, ◌>>◌, gives, absurdity, bound_to}
+use Rattle.lt_ir.specs.Evaluation.{written, is_content_of, one_cell}
 use Rattle.lt_ir.specs.Starting.{put, fill, start_static, start_statics}
-use Rattle.lt_object_laws.specs.Further.{cells_in, further_cells_in}
+use Rattle.lt_object_laws.specs.Further.{cells_in}
 use Rattle.lt_object_laws.proofs.Pure.{is_no_room}
-use Rattle.lt_object_laws.proofs.Beginning.{StaticsWith, no_statics, a_static, a_further_static}
 
 abbrev ok : {A : Type 0} → A → Result A Ub
 ok a = Ok a
@@ -138,6 +136,30 @@ static_leaves model k n it at h g =
         elim (elim (if b then Some (create at.memory (new_block it.block.shape true true)) else None) as (λ _. Answer ℕ) [ None ↦ Ends Cells at | Some memory ↦ Gives (length at.memory) (record at { memory = memory }) ]) as (λ _. Answer (Unit {0}))
         [ Gives m at1 ↦ (fill model m it.block.shape.cells it.cells >> bound_to (StaticObject k) m) at1 | Ends end at1 ↦ Ends end at1 ]
 
+-- an object that is made leaves no more alive than may be
+abbrev pub Fits : Answer (Unit {0}) → Type 0
+Fits (Gives a at) = cells_alive at.memory ≤ most_cells
+Fits (Ends end at) = Unit {0}
+
+fits_as : (n : ℕ) (m : Answer (Unit {0})) → n ≤ most_cells → Leaves n m → Fits m
+fits_as n (Gives a at) h e = subst (λ k. k ≤ most_cells) (sym e) h
+fits_as n (Ends end at) h e = tt
+
+pub static_fits : (model : DataModel) (k : ℕ) (it : Static) (at : At) → Fits (start_static model k it at)
+unfolding create_shaped
+static_fits model k it at = by (nat_le (cells_alive at.memory + length it.block.shape.cells) most_cells) refl
+  where
+    made : Bool → Answer (Unit {0})
+    made b =
+        elim (elim (if b then Some (create at.memory (new_block it.block.shape true true)) else None) as (λ _. Answer ℕ) [ None ↦ Ends Cells at | Some memory ↦ Gives (length at.memory) (record at { memory = memory }) ]) as (λ _. Answer (Unit {0}))
+        [ Gives m at1 ↦ (fill model m it.block.shape.cells it.cells >> bound_to (StaticObject k) m) at1 | Ends end at1 ↦ Ends end at1 ]
+
+    by : (b : Bool) → nat_le (cells_alive at.memory + length it.block.shape.cells) most_cells ≡ b → Fits (made (nat_le (cells_alive at.memory + length it.block.shape.cells) most_cells))
+    by false e = subst (λ b. Fits (made b)) (sym e) tt
+    by true e =
+        let fit : cells_alive at.memory + length it.block.shape.cells ≤ most_cells = leb-true (cells_alive at.memory + length it.block.shape.cells) most_cells e in
+        fits_as (cells_alive at.memory + length it.block.shape.cells) (start_static model k it at) fit (static_leaves model k (cells_alive at.memory) it at refl fit)
+
 first_fits : (n a b most : ℕ) → n + (a + b) ≤ most → n + a ≤ most
 first_fits n a b most h = omega (arith, h)
 
@@ -157,16 +179,3 @@ statics_leave model k n (it ∷ its) at h g =
     (then_leaves (n + length it.block.shape.cells) ((n + length it.block.shape.cells) + cells_in its) (start_static model k it at) (start_statics model (suc k) its)
     (static_leaves model k n it at h (first_fits n (length it.block.shape.cells) (cells_in its) most_cells g))
     (λ at1 e. statics_leave model (suc k) (n + length it.block.shape.cells) its at1 e (rest_fits n (length it.block.shape.cells) (cells_in its) most_cells g)))
-
--- ---- all cells together
-
-a_static_in : (n its all fc : ℕ) → all ≡ its + fc → n + all ≡ (n + its) + fc
-a_static_in n its all fc h = omega (arith, h)
-
-a_further_in : (n its all fc : ℕ) → all ≡ its + fc → n + all ≡ its + (n + fc)
-a_further_in n its all fc h = omega (arith, h)
-
-pub cells_together : {r : ℕ → ℕ} {model : DataModel} {further : List Bool} {its others : List Static} → StaticsWith r model further its others → cells_in others ≡ cells_in its + further_cells_in further others
-cells_together no_statics = refl
-cells_together (a_static {further} {its} {others} it d) = a_static_in (length it.block.shape.cells) (cells_in its) (cells_in others) (further_cells_in further others) (cells_together d)
-cells_together (a_further_static {further} {its} {others} it name g d) = a_further_in (length it.block.shape.cells) (cells_in its) (cells_in others) (further_cells_in further others) (cells_together d)

@@ -1,43 +1,39 @@
 -- Runs of a program with further objects.
-use Rattle.std.proofs.Common.{◌≡◌, ◌≤◌, ◌<◌, ◌⊎◌, inl, inr, ⊎_elim, ℕ, zero, suc, List, [], ◌∷◌, ◌++◌, map, length, Option, Some, None, Bool, true, false, refl, sym, ap, ◌∙◌, subst, arith, append-nil}
+use Rattle.std.proofs.Common.{◌≡◌, ◌≤◌, ◌<◌, ◌⊎◌, inl, inr, ⊎_elim, ℕ, zero, suc, List, [], ◌∷◌, ◌++◌, map, length, Some, None, Bool, true, false, refl, sym, ap, ◌∙◌, subst, arith, append-nil}
 use Rattle.std.proofs.lemmas.Bool.{false≢true}
 use Rattle.std.proofs.lemmas.List.{length-map}
 use Rattle.std.specs.Prelude.{◌+◌, nat_le, if◌then◌else◌}
 use Rattle.std.specs.List.{AllByRecursion}
-use Rattle.lt_model.specs.declared.cell.Content.{Content}
 use Rattle.lt_model.specs.declared.cell.Shape.{Shape}
 use Rattle.lt_model.specs.declared.input.Input.{Input}
 use Rattle.lt_model.specs.declared.input.CellSet.{CellSet}
 use Rattle.lt_model.specs.declared.scalar.DataModel.{DataModel}
-use Rattle.lt_model.specs.declared.run.End.{End}
-use Rattle.lt_model.specs.declared.run.End.TheVariants.{Returned, Cells}
+use Rattle.lt_model.specs.declared.run.End.TheVariants.{Cells}
 use Rattle.lt_model.specs.Memory.{Memory, Block, create, create_shaped, new_block, new_cell, cells_alive, living_cells, most_cells}
 use Rattle.lt_model.specs.State.{Gives, Ends}
 use Rattle.lt_tree.specs.Tree.{Unit as SourceUnit}
 use Rattle.lt_tree.specs.Typing.Entities.{Function, Label, Fact, Declared, Frame, Object}
 use Rattle.lt_tree.specs.Typing.Programs.{Program}
-use Rattle.lt_ir.specs.declared.variable.Variable.TheVariants.{Static as StaticObject}
 use Rattle.lt_ir.specs.declared.code.Static.{Static}
-use Rattle.lt_ir.specs.Running.{Bound, At, Answer, Step, Over, ◌>>=◌, ◌>>◌, gives, block_among}
-use Rattle.lt_ir.specs.Starting.{Root, start_statics, start_blocks, start_parameters, sets, seal_statics, static_roots, started, nowhere}
+use Rattle.lt_ir.specs.Running.{Bound, At, Answer, Step, ◌>>=◌, ◌>>◌, gives}
+use Rattle.lt_ir.specs.Starting.{Root, start_statics, start_blocks, start_parameters, sets, seal_statics, started, nowhere}
 use Rattle.lt_meaning.specs.Statements.{Flow, parts_in}
 use Rattle.lt_meaning.specs.Runs.{run, begun, body_of, invoke, initials, shapes_of, name_of_object, over_by}
 use Rattle.lt_object_laws.specs.Renamed.{renumbered, function_with}
-use Rattle.lt_object_laws.specs.Beside.{content_with, HasFurtherBlocks, not_yet}
+use Rattle.lt_object_laws.specs.Beside.{HasFurtherBlocks, not_yet}
 use Rattle.lt_object_laws.specs.Further.{HasFurther, HasFurtherObjects, IsThere, further_statics, further_cells_in, blocks_of, further_cells, cells_in}
-use Rattle.lt_object_laws.specs.Laws.{IsBeside, IsNamed, AreNamed, bytes_from, spare_block, with_spare, HasRoom, FurtherObjectsTakeRoomAlone, FurtherObjectsChangeNothing}
+use Rattle.lt_object_laws.specs.Laws.{IsBeside, AreNamed, bytes_from, spare_block, HasRoom, HasRoomFor, FurtherObjectsTakeRoomAlone, FurtherObjectsChangeNothing}
 use Rattle.lt_object_laws.proofs.Numbers.{flag_at}
 use Rattle.lt_object_laws.proofs.Memory as mem
-use Rattle.lt_object_laws.proofs.Alike.{Other, Comparison, names_in, as_it_is, IsFurtherBlock, HasFurtherBounds, no_bounds, beside, Stands, Alike, all_give, all_end, no_room, Same, then_same}
+use Rattle.lt_object_laws.proofs.Alike.{Other, Comparison, names_in, as_it_is, no_bounds, beside, Stands, Alike, all_give, all_end, no_room, Same, then_same}
 use Rattle.lt_object_laws.proofs.Statements.{flow_in}
 use Rattle.lt_object_laws.proofs.Objects.{names_same, shapes_same, initials_with, statics_low}
 use Rattle.lt_object_laws.proofs.Beginning as begin
-use Rattle.lt_object_laws.proofs.Beginning.{StaticsWith, StandsSoFar, BeginAlike, both_give, both_end, statics_same}
+use Rattle.lt_object_laws.proofs.Beginning.{StaticsWith, StandsSoFar, BeginAlike, both_give, both_end, statics_same, cells_together}
 use Rattle.lt_object_laws.proofs.Starting as start
 use Rattle.lt_object_laws.proofs.Starting.{RootsWith, a_nameless_root, roots_in, all_roots, blocks_same, parameters_same, sets_same, seal_all_same}
 use Rattle.lt_object_laws.proofs.Pure.{is_no_room}
-use Rattle.lt_object_laws.proofs.Room.{Leaves, statics_leave, cells_together}
-use Rattle.lt_object_laws.proofs.Calls as calls
+use Rattle.lt_object_laws.proofs.Room.{Leaves, statics_leave}
 use Rattle.lt_object_laws.proofs.Calls.{body_same, invoke_same}
 
 -- ---- numbers
@@ -89,7 +85,7 @@ itself o model rest cells j m n at (both_give {at = at1} {scope} {memory} h) e f
     subst (λ x. StandsSoFar o model rest cells j at x at.memory) (ap (λ a. a.scope) (ap state_of f))
     (subst (λ x. StandsSoFar o model rest cells j at scope x) (ap (λ a. a.memory) (ap state_of f)) (subst (λ x. StandsSoFar o model rest cells j x scope memory) (ap state_of e) h))
 itself o model rest cells j m n at (both_end left held h) e f = absurd (false≢true (ap goes_on e))
-itself o model rest cells j m n at begin.no_room e f = absurd (false≢true (ap goes_on f))
+itself o model rest cells j m n at (begin.no_room some) e f = absurd (false≢true (ap goes_on f))
 
 -- whether an answer ends for want of room
 abbrev is_no_room_of : Answer (Unit {0}) → Bool
@@ -108,14 +104,14 @@ rest_with m statics names shapes its roots = start_parameters 0 shapes >>= (λ _
 abbrev spare_root : ℕ → ℕ → Root
 spare_root k n = record { name = []; block = n; cells = (spare_block k).shape.cells }
 
--- ends of all three
+-- ends of all three; only further cells can lack room
 ended : {further : List Bool} (seen : Comparison) → seen.one.blocks ≡ further → (m n1 n2 : Answer Flow) → Alike seen flow_in m n1 n2
-    → IsBeside further (over_by m) (over_by n1) ⊎ (((over_by n1).end ≡ Cells) × ((over_by n2).end ≡ Cells))
+    → IsBeside further (over_by m) (over_by n1) ⊎ ((seen.cells ≡ 0 → ⊥) × ((over_by n1).end ≡ Cells) × ((over_by n2).end ≡ Cells))
 ended {further} seen e m n1 n2 (all_give {at = at} {m1 = memory} h1 h2) =
     inl (record { end = refl; ticks = refl; stubs = refl; marks = refl; not_made = []; cells = seen.cells; memory = subst (λ blocks. HasFurtherBlocks (renumbered blocks) blocks [] seen.cells at.memory memory) e h1.blocks })
 ended {further} seen e m n1 n2 (all_end {at = at} {m1 = memory} h1 h2) =
     inl (record { end = refl; ticks = refl; stubs = refl; marks = refl; not_made = []; cells = seen.cells; memory = subst (λ blocks. HasFurtherBlocks (renumbered blocks) blocks [] seen.cells at.memory memory) e h1.blocks })
-ended seen e m n1 n2 no_room = inr (refl, refl)
+ended seen e m n1 n2 (no_room some) = inr (some, refl, refl)
 
 module _ (P : Program) (u : SourceUnit) (ds : List Declared) (fs : List Function) (fr : Frame) (ls : List Label) (xs : List Fact) (os : List Object) (further : List Bool) (objects_with : HasFurther (renumbered further) further P.objects os)
     (functions_with : fs ≡ map (function_with (renumbered further)) P.functions) (addresses : AllByRecursion (λ (object : Object). AllByRecursion (IsThere P) (parts_in object.start)) P.objects)
@@ -192,14 +188,17 @@ module _ (P : Program) (u : SourceUnit) (ds : List Declared) (fs : List Function
   abbrev there : Answer (Unit {0})
   there = start_statics P.model 0 others nothing
 
+  none_alive : cells_alive [] ≤ most_cells
+  none_alive = omega arith
+
   begins_one : BeginAlike seen.one P.model [] (0 + cells) (0 + length flags) here there
   begins_one =
-      statics_same seen.one P.model with_one [] 0 0 0 (λ n. ap (renumbered flags) (sym (from_zero n)) ∙ from_zero (renumbered flags n)) (λ n. ap (flag_at flags) (sym (from_zero n))) nothing [] []
+      statics_same seen.one P.model with_one [] 0 0 0 (λ n. ap (renumbered flags) (sym (from_zero n)) ∙ from_zero (renumbered flags n)) (λ n. ap (flag_at flags) (sym (from_zero n))) nothing [] [] none_alive
       (record { bounds = no_bounds; so_far = λ k lt flag. absurd (omega (arith, lt)); blocks = subst (λ them. HasFurtherBlocks (names_in seen.one) flags them 0 [] []) (sym (append-nil flags)) not_yet })
 
   begins_two : BeginAlike seen.two P.model (true ∷ []) (0 + further_cells_in (map (λ _. false) statics) statics) (0 + length (map (λ _. false) statics)) here here
   begins_two =
-      statics_same seen.two P.model with_two (true ∷ []) 0 0 0 (λ n. sym (from_zero n) ∙ sym (no_renumbering statics n) ∙ from_zero (renumbered (map (λ _. false) statics) n)) (λ n. sym (no_flags statics n)) nothing [] []
+      statics_same seen.two P.model with_two (true ∷ []) 0 0 0 (λ n. sym (from_zero n) ∙ sym (no_renumbering statics n) ∙ from_zero (renumbered (map (λ _. false) statics) n)) (λ n. sym (no_flags statics n)) nothing [] [] none_alive
       (record { bounds = no_bounds; so_far = λ k lt flag. absurd (omega (arith, lt)); blocks = not_yet })
 
   abbrev spare : Block
@@ -234,21 +233,21 @@ module _ (P : Program) (u : SourceUnit) (ds : List Declared) (fs : List Function
   goes R g next m = elim (elim (m) as (λ _. Answer (Unit {0})) [ Gives a at ↦ next at | Ends end at ↦ Ends end at ]) as (λ _. Answer Flow) [ Gives a at ↦ body_of R (invoke R (suc ticks)) g at | Ends end at ↦ Ends end at ]
 
   abbrev Outcome : Answer Flow → Answer Flow → Type 0
-  Outcome m n = IsBeside flags (over_by m) (over_by n) ⊎ ((over_by n).end ≡ Cells)
+  Outcome m n = IsBeside flags (over_by m) (over_by n) ⊎ ((cells ≡ 0 → ⊥) × ((over_by n).end ≡ Cells))
 
   run_by : (X Y : Answer (Unit {0})) → here ≡ X → BeginAlike seen.one P.model [] (0 + cells) (0 + length flags) X Y
       → Outcome (goes P f (after statics (λ roots. roots)) X) (goes Q (function_with r f) (after others (λ roots. roots)) Y)
   run_by X Y e (both_give {at} {scope} {memory} h) =
-      ⊎_elim (λ x. inl x) (λ x. inr x.0) (ended {further = flags} seen refl _ _ _ ((whole_same (spare_root cells 0) refl).alike at scope at.scope memory (at.memory ++ spare ∷ []) (stands_one at scope memory h) (stands_two at e)))
+      ⊎_elim (λ x. inl x) (λ x. inr (x.0, x.1)) (ended {further = flags} seen refl _ _ _ ((whole_same (spare_root cells 0) refl).alike at scope at.scope memory (at.memory ++ spare ∷ []) (stands_one at scope memory h) (stands_two at e)))
   run_by X Y e (both_end left held h) = inl (record { end = refl; ticks = refl; stubs = refl; marks = refl; not_made = left; cells = held; memory = h })
-  run_by X Y e begin.no_room = inr refl
+  run_by X Y e (begin.no_room some) = inr ((λ none. some (sym (from_zero cells) ∙ none)), refl)
 
   begun_q : begun Q (function_with r f) input ≡ started P.model others parameter_names shapes input
   begun_q =
       ap (λ names. started P.model others names (shapes_of Q (map r f.parameters)) input) (names_same P u ds fs fr ls xs os further objects_with f.parameters)
       ∙ ap (λ them. started P.model others parameter_names them input) (shapes_same P u ds fs fr ls xs os further objects_with f.parameters)
 
-  pub run_same : IsBeside flags (run P f input ticks) (run Q (function_with r f) input ticks) ⊎ ((run Q (function_with r f) input ticks).end ≡ Cells)
+  pub run_same : IsBeside flags (run P f input ticks) (run Q (function_with r f) input ticks) ⊎ ((cells ≡ 0 → ⊥) × ((run Q (function_with r f) input ticks).end ≡ Cells))
   run_same =
       subst (λ (first : Step (Unit {0})). Outcome ((begun P f input >> body_of P (invoke P (suc ticks)) f) nothing) ((first >> body_of Q (invoke Q (suc ticks)) (function_with r f)) nothing)) (sym begun_q)
       (run_by here there refl begins_one)
@@ -299,15 +298,19 @@ module _ (P : Program) (u : SourceUnit) (ds : List Declared) (fs : List Function
   room_by : ((over_by (goes P f after_spare here)).end ≡ Cells → ⊥) → is_no_room_of there ≡ false → (X Y : Answer (Unit {0})) → here ≡ X → there ≡ Y → BeginAlike seen.one P.model [] (0 + cells) (0 + length flags) X Y
       → IsSame (goes P f (after statics (λ roots. roots)) X) (goes Q (function_with r f) (after others (λ roots. roots)) Y)
   room_by room fits X Y e1 e2 (both_give {at} {scope} {memory} h) =
-      ⊎_elim (λ x. x) (λ x. absurd (room (ap (λ m. (over_by (goes P f after_spare m)).end) e1 ∙ spared at x.1)))
+      ⊎_elim (λ x. x) (λ x. absurd (room (ap (λ m. (over_by (goes P f after_spare m)).end) e1 ∙ spared at x.2)))
       (ended {further = flags} seen refl _ _ _ ((whole_same (spare_root cells (length at.memory)) refl).alike at scope at.scope memory (at.memory ++ spare ∷ []) (stands_one at scope memory h) (stands_two at e1)))
   room_by room fits X Y e1 e2 (both_end left held h) = record { end = refl; ticks = refl; stubs = refl; marks = refl; not_made = left; cells = held; memory = h }
-  room_by room fits X Y e1 e2 begin.no_room = absurd (false≢true (sym fits ∙ ap is_no_room_of e2))
+  room_by room fits X Y e1 e2 (begin.no_room some) = absurd (false≢true (sym fits ∙ ap is_no_room_of e2))
 
   pub run_with_room : HasRoom cells P f input ticks → IsBeside flags (run P f input ticks) (run Q (function_with r f) input ticks)
   run_with_room room =
       subst (λ (first : Step (Unit {0})). IsSame ((begun P f input >> body_of P (invoke P (suc ticks)) f) nothing) ((first >> body_of Q (invoke Q (suc ticks)) (function_with r f)) nothing)) (sym begun_q)
       (room_by room.throughout (fits_first (0 + cells_in others) there (statics_leave P.model 0 0 others nothing refl (subst (λ n. n ≤ most_cells) (sym (cells_together with_one) ∙ from_zero (cells_in others)) room.first))) here there refl refl begins_one)
+
+  run_as_roomy : (k : ℕ) → cells ≡ k → HasRoomFor k P f input ticks → IsBeside flags (run P f input ticks) (run Q (function_with r f) input ticks)
+  run_as_roomy zero e room = ⊎_elim (λ x. x) (λ x. absurd (x.0 e)) run_same
+  run_as_roomy (suc k) e room = run_with_room (subst (λ n. HasRoom n P f input ticks) (sym e) room)
 
 -- ---- the laws
 
@@ -317,9 +320,9 @@ as_record further p q h = ap (λ x. record q { model = x; structs = p.structs; t
 pub room_alone : FurtherObjectsTakeRoomAlone
 room_alone further p q f input ticks h named =
     subst (λ q. IsBeside (blocks_of further q) (run p f input ticks) (run q (function_with (renumbered further) f) input ticks) ⊎ ((run q (function_with (renumbered further) f) input ticks).end ≡ Cells)) (as_record further p q h)
-    (run_same p q.unit q.declared q.functions q.file q.labels q.facts q.objects further h.objects h.functions h.addresses f input ticks named)
+    (⊎_elim (λ x. inl x) (λ x. inr x.1) (run_same p q.unit q.declared q.functions q.file q.labels q.facts q.objects further h.objects h.functions h.addresses f input ticks named))
 
 pub nothing_changes : FurtherObjectsChangeNothing
 nothing_changes further p q f input ticks h named room =
-    subst (λ q. HasRoom (further_cells further q) p f input ticks → IsBeside (blocks_of further q) (run p f input ticks) (run q (function_with (renumbered further) f) input ticks)) (as_record further p q h)
-    (run_with_room p q.unit q.declared q.functions q.file q.labels q.facts q.objects further h.objects h.functions h.addresses f input ticks named) room
+    subst (λ q. HasRoomFor (further_cells further q) p f input ticks → IsBeside (blocks_of further q) (run p f input ticks) (run q (function_with (renumbered further) f) input ticks)) (as_record further p q h)
+    (run_as_roomy p q.unit q.declared q.functions q.file q.labels q.facts q.objects further h.objects h.functions h.addresses f input ticks named _ refl) room

@@ -64,6 +64,11 @@ pub record HasRoom (k : ℕ) (p : Program) (f : Function) (input : Input) (ticks
   pub first : cells_in (initials p p.objects) + k ≤ most_cells
   pub throughout : (run p f (with_spare k input) ticks).end ≡ Cells → ⊥
 
+-- So it has for what has no cells, whatever it does.
+abbrev pub HasRoomFor : ℕ → Program → Function → Input → ℕ → Type 0
+HasRoomFor zero p f input ticks = Unit {0}
+HasRoomFor (suc k) p f input ticks = HasRoom (suc k) p f input ticks
+
 -- ---- the laws
 
 -- A program with further objects runs as it does without them, or there is no room for their cells.
@@ -78,5 +83,5 @@ FurtherObjectsTakeRoomAlone =
 abbrev pub FurtherObjectsChangeNothing : Type 0
 FurtherObjectsChangeNothing =
     (further : List Bool) (p q : Program) (f : Function) (input : Input) (ticks : ℕ)
-    → HasFurtherObjects further p q → AreNamed input → HasRoom (further_cells further q) p f input ticks
+    → HasFurtherObjects further p q → AreNamed input → HasRoomFor (further_cells further q) p f input ticks
     → IsBeside (blocks_of further q) (run p f input ticks) (run q (function_with (renumbered further) f) input ticks)

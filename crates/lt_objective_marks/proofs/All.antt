@@ -22,5 +22,5 @@ others g s = record {
 }
 
 pub all_added : Given → ObjectivesAreAddedToExpressions
-all_added g new unit program criterion id s role position used known e isin fits is_open comes taken no_truth no_callee unused =
-    whole g s (markable g s) role position used known e (record { isin = isin; fits = fits; marked = is_open; comes = comes; taken = taken }) no_truth no_callee (inner g s (markable g s) (others g s) e) unused
+all_added g new unit program criterion id s role position used known e isin fits is_open comes reached taken no_truth no_callee unused =
+    whole g s (markable g s) role position used known e (record { isin = isin; fits = fits; marked = is_open; comes = comes; reached = reached; taken = taken }) no_truth no_callee (inner g s (markable g s) (others g s) e) unused

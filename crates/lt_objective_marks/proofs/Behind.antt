@@ -19,8 +19,10 @@ use Rattle.lt_objective_places.specs.Pieces.{an_expression, IsIn, a_piece}
 use Rattle.lt_mark_typing.specs.Beside.{Position, in_use, in_test, use_of}
 use Rattle.lt_mark_typing.specs.Placed.{AddsTo, AddsToParts, AreNewLabels, behind_marks, takes_labels, is_good_type}
 use Rattle.lt_mark_typing.specs.Placed as placed
-use Rattle.lt_mark_typing.proofs.Unchanged.{old_first}
+use Rattle.lt_mark_typing.proofs.Nodes.{old_first}
 use Rattle.lt_typed_nodes.specs.Coming.{ComesToIt, entered}
+use Rattle.lt_typed_nodes.specs.Reaching as place
+use Rattle.lt_typed_nodes.specs.Reaching.{IsReached, a_part}
 use Rattle.lt_objective_marks.specs.Settings.{Setting, Fits, a_test, a_truth, a_value, a_switch, a_callee, a_place, a_marked_place, IsTaken}
 use Rattle.lt_objective_marks.proofs.Given.{Given}
 use Rattle.lt_objective_marks.proofs.Ends.{part_goes, same_found, same_behind, good_scalar}
@@ -40,26 +42,28 @@ module _ (g : Given) {new : ℕ → Bool} {unit : c.Unit} {program : Program} {c
 
   behind_here : {role : Role} {position : Position} (known next : Known) (ms : c.Marks) (d : c.Expression) (typed : Marks) → marks ms (entered known) ≡ Goes typed next
       → Fits role position → IsIn unit next.next (an_expression role d) → next.is_unmarked ≡ false → (whole : ComesToIt program.facts known (use_of position) (c.Marked ms d)) → IsTaken role position known (c.Marked ms d)
-      → ComesToIt program.facts next (inside_mark (use_of position)) d → Here g s role (behind_marks position) next d
-  behind_here known next ms d typed goes a_test isin marked whole taken comes = record {
+      → ComesToIt program.facts next (inside_mark (use_of position)) d → IsReached s.greatest s.model unit (place.an_expression (inside_mark (use_of position)) d) next → Here g s role (behind_marks position) next d
+  behind_here known next ms d typed goes a_test isin marked whole taken comes reached = record {
     isin = isin;
     fits = a_test;
     marked = marked;
     comes = comes;
+    reached = reached;
     taken = λ x j there. ap is_scalar (sym (behind_marks_type ms d as_truth known next j whole.behind typed x whole.found goes there whole.goes).0) ∙ taken whole.found whole.behind whole.goes;
   }
-  behind_here known next ms d typed goes a_truth isin marked whole taken comes = record {
+  behind_here known next ms d typed goes a_truth isin marked whole taken comes reached = record {
     isin = isin;
     fits = a_truth;
     marked = marked;
     comes = comes;
+    reached = reached;
     taken = λ x j there. ap is_scalar (sym (behind_marks_type ms d as_truth known next j whole.behind typed x whole.found goes there whole.goes).0) ∙ taken whole.found whole.behind whole.goes;
   }
-  behind_here known next ms d typed goes a_value isin marked whole taken comes = record { isin = isin; fits = a_value; marked = marked; comes = comes; taken = tt }
-  behind_here known next ms d typed goes a_switch isin marked whole taken comes = record { isin = isin; fits = a_switch; marked = marked; comes = comes; taken = tt }
-  behind_here known next ms d typed goes a_callee isin marked whole taken comes = record { isin = isin; fits = a_value; marked = marked; comes = comes; taken = tt }
-  behind_here known next ms d typed goes a_place isin marked whole taken comes = record { isin = isin; fits = a_marked_place; marked = marked; comes = comes; taken = tt }
-  behind_here known next ms d typed goes a_marked_place isin marked whole taken comes = record { isin = isin; fits = a_marked_place; marked = marked; comes = comes; taken = tt }
+  behind_here known next ms d typed goes a_value isin marked whole taken comes reached = record { isin = isin; fits = a_value; marked = marked; comes = comes; reached = reached; taken = tt }
+  behind_here known next ms d typed goes a_switch isin marked whole taken comes reached = record { isin = isin; fits = a_switch; marked = marked; comes = comes; reached = reached; taken = tt }
+  behind_here known next ms d typed goes a_callee isin marked whole taken comes reached = record { isin = isin; fits = a_value; marked = marked; comes = comes; reached = reached; taken = tt }
+  behind_here known next ms d typed goes a_place isin marked whole taken comes reached = record { isin = isin; fits = a_marked_place; marked = marked; comes = comes; reached = reached; taken = tt }
+  behind_here known next ms d typed goes a_marked_place isin marked whole taken comes reached = record { isin = isin; fits = a_marked_place; marked = marked; comes = comes; reached = reached; taken = tt }
 
   not_called : {role : Role} {position : Position} → Fits role position → behind_marks position ≡ in_use as_callee → ⊥
   not_called a_test is = cc
@@ -83,7 +87,7 @@ module _ (g : Given) {new : ℕ → Bool} {unit : c.Unit} {program : Program} {c
       let j = known.next + 1 + length (in_marks ms) in
       let number : next.next ≡ j = omega (arith, ends, number_behind g s e (use_of position) known h.comes, number_behind g s d (inside_mark (use_of position)) next comes, size) in
       let is_open = g.unmarked.marks ms (entered known) typed next goes.2 ∙ h.marked in
-      let here = behind_here known next ms d typed goes.2 h.fits (subst (λ n. IsIn unit n (an_expression role d)) (sym number) (a_piece h.isin (inl refl))) is_open h.comes h.taken comes in
+      let here = behind_here known next ms d typed goes.2 h.fits (subst (λ n. IsIn unit n (an_expression role d)) (sym number) (a_piece h.isin (inl refl))) is_open h.comes h.taken comes (a_part h.reached (place.behind_marks goes.2)) in
       let fits : next.next + length (in_expression d) ≤ known.next + length (in_expression e) = omega (arith, size, number) in
       let it = split g s role (behind_marks position) used next d here (not_called h.fits) inner_d
       (unused_of (new_marks g s) used known.next (length (in_expression e)) next.next (length (in_expression d)) (omega (arith, number)) fits unused) in
@@ -160,28 +164,28 @@ module _ (g : Given) {new : ℕ → Bool} {unit : c.Unit} {program : Program} {c
       by a_test h unused =
           let comes = g.operands.0 program.facts known as_truth whole h.comes in
           in_truth e number tag in_test stands.in_test used known refl refl h unused
-          (record { isin = a_piece h.isin (inl refl); fits = a_truth; marked = h.marked; comes = comes; taken = λ x next goes. scalar x next h.comes (h.taken h.comes.found h.comes.behind h.comes.goes) goes }) inner_e
+          (record { isin = a_piece h.isin (inl refl); fits = a_truth; marked = h.marked; comes = comes; reached = a_part h.reached place.in_after; taken = λ x next goes. scalar x next h.comes (h.taken h.comes.found h.comes.behind h.comes.goes) goes }) inner_e
       by a_truth h unused =
           let comes = g.operands.0 program.facts known as_truth whole h.comes in
           in_truth e number tag (in_use as_truth) stands.in_truth used known refl refl h unused
-          (record { isin = a_piece h.isin (inl refl); fits = a_truth; marked = h.marked; comes = comes; taken = λ x next goes. scalar x next h.comes (h.taken h.comes.found h.comes.behind h.comes.goes) goes }) inner_e
+          (record { isin = a_piece h.isin (inl refl); fits = a_truth; marked = h.marked; comes = comes; reached = a_part h.reached place.in_after; taken = λ x next goes. scalar x next h.comes (h.taken h.comes.found h.comes.behind h.comes.goes) goes }) inner_e
       by a_value h unused =
           one g s markable stands.as_value (in_use as_value) used known whole e stands.as_value (in_use as_value) refl h unused
-          (first_in g s markable stands.as_value (in_use as_value) used known whole e stands.as_value (in_use as_value) h (a_piece h.isin (inl refl)) a_value (g.operands.0 program.facts known as_value whole h.comes) tt)
+          (first_in g s markable stands.as_value (in_use as_value) used known whole e stands.as_value (in_use as_value) h (a_piece h.isin (inl refl)) a_value (g.operands.0 program.facts known as_value whole h.comes) place.in_after tt)
           value_no_truth value_no_callee inner_e (λ last a. placed.After (old_here g s known.next whole h.isin).0 a)
       by a_switch h unused =
           one g s markable stands.as_value (in_use as_truth) used known whole e stands.as_value (in_use as_truth) refl h unused
-          (first_in g s markable stands.as_value (in_use as_truth) used known whole e stands.as_value (in_use as_truth) h (a_piece h.isin (inl refl)) a_switch (g.operands.0 program.facts known as_truth whole h.comes) tt)
+          (first_in g s markable stands.as_value (in_use as_truth) used known whole e stands.as_value (in_use as_truth) h (a_piece h.isin (inl refl)) a_switch (g.operands.0 program.facts known as_truth whole h.comes) place.in_after tt)
           value_no_truth truth_no_callee inner_e (λ last a. placed.After (old_here g s known.next whole h.isin).0 a)
       by a_callee h unused =
           one g s markable stands.as_value (in_use as_callee) used known whole e stands.as_value (in_use as_value) refl h unused
-          (first_in g s markable stands.as_value (in_use as_callee) used known whole e stands.as_value (in_use as_value) h (a_piece h.isin (inl refl)) a_value (g.operands.0 program.facts known as_callee whole h.comes) tt)
+          (first_in g s markable stands.as_value (in_use as_callee) used known whole e stands.as_value (in_use as_value) h (a_piece h.isin (inl refl)) a_value (g.operands.0 program.facts known as_callee whole h.comes) place.in_after tt)
           value_no_truth value_no_callee inner_e (λ last a. placed.After (old_here g s known.next whole h.isin).0 a)
       by a_place h unused =
           one g s markable stands.as_place (in_use as_place) used known whole e stands.as_place (in_use as_place) refl h unused
-          (first_in g s markable stands.as_place (in_use as_place) used known whole e stands.as_place (in_use as_place) h (a_piece h.isin (inl refl)) a_place (g.operands.0 program.facts known as_place whole h.comes) tt)
+          (first_in g s markable stands.as_place (in_use as_place) used known whole e stands.as_place (in_use as_place) h (a_piece h.isin (inl refl)) a_place (g.operands.0 program.facts known as_place whole h.comes) place.in_after tt)
           place_no_truth place_no_callee inner_e (λ last a. placed.After (old_here g s known.next whole h.isin).0 a)
       by a_marked_place h unused =
           one g s markable stands.as_place (in_use as_value) used known whole e stands.as_place (in_use as_value) refl h unused
-          (first_in g s markable stands.as_place (in_use as_value) used known whole e stands.as_place (in_use as_value) h (a_piece h.isin (inl refl)) a_marked_place (g.operands.0 program.facts known as_value whole h.comes) tt)
+          (first_in g s markable stands.as_place (in_use as_value) used known whole e stands.as_place (in_use as_value) h (a_piece h.isin (inl refl)) a_marked_place (g.operands.0 program.facts known as_value whole h.comes) place.in_after tt)
           place_no_truth value_no_callee inner_e (λ last a. placed.After (old_here g s known.next whole h.isin).0 a)

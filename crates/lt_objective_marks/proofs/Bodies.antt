@@ -35,13 +35,15 @@ use Rattle.lt_mark_typing.specs.PlacedItems.{AddsToItems}
 use Rattle.lt_mark_typing.specs.PlacedUnits as units
 use Rattle.lt_mark_typing.specs.PlacedUnits.{in_body, AddsToExternal}
 use Rattle.lt_mark_typing.proofs.Predicates.{integer_there, constant_there}
-use Rattle.lt_mark_typing.proofs.Unchanged.{old_first, old_second}
+use Rattle.lt_mark_typing.proofs.Nodes.{old_first, old_second}
 use Rattle.lt_objective_typing.specs.Laws.{ArePredicates, LabelsOfObjectivesAreNew}
 use Rattle.lt_typed_nodes.specs.Coming.{ComesTo}
+use Rattle.lt_typed_nodes.specs.Reaching as place
+use Rattle.lt_typed_nodes.specs.Reaching.{IsReached, a_part, behind_label, a_body}
 use Rattle.lt_typed_nodes.proofs.ComingToItems.{statements_are_come_to, externals_are_come_to}
 use Rattle.lt_objective_marks.specs.Settings.{marks_of, Setting, IsIdAt, AreUnused, AddsIdsOf, IsAdded}
 use Rattle.lt_objective_marks.specs.Laws.{ObjectivesAreAddedToExpressions}
-use Rattle.lt_objective_marks.specs.Bodies.{IsReached, begins_with_mark, IsBehindMarks, no_mark, a_mark, DomainsAreThere}
+use Rattle.lt_objective_marks.specs.Bodies.{begins_with_mark, IsBehindMarks, no_mark, a_mark, DomainsAreThere}
 use Rattle.lt_objective_marks.proofs.Ids.{next_from, next_both, numbered_both, fewer_unused, more_added, then_added, behind, next_of_all, id_of_all}
 use Rattle.lt_objective_marks.proofs.Keeping as kept
 use Rattle.lt_objective_marks.proofs.Keeping.{Lies}
@@ -111,13 +113,13 @@ module _ {new : ℕ → Bool} {unit : c.Unit} {program : Program} {criterion : C
         (behind : Known) → IsBehindMarks list known behind → (used : List ℕ) → AreUnused marks used at 1 → (between : List ℕ) × AreNewLabels new used between behind ls × AddsIdsOf marks used between at 1
 
     of_rest : {deep : ℕ} (at total : ℕ) (ls : c.Marks) (used : List ℕ) (around : Around) (known : Known) (list : c.Items) (k : ℕ) → known.next ≡ k → IsIn unit k (the_items list) → Lies false (suc (suc deep)) known
-        → ComesTo program.facts known (items list around known) → at + 1 ≤ k → k + length (in_items list) ≤ at + total → AreUnused marks used at total → begins_with_mark list ≡ false → AreThere at ls list known
+        → ComesTo program.facts known (items list around known) → IsReached setting.greatest setting.model unit (place.items around list) known → at + 1 ≤ k → k + length (in_items list) ≤ at + total → AreUnused marks used at total → begins_with_mark list ≡ false → AreThere at ls list known
         → IsAdded marks used at total (λ after. AddsToItems new used after around known list (labels_before ls (items_with_marks marks k list)))
-    of_rest at total ls used around known list k is_at is lies comes low high unused none there =
+    of_rest at total ls used around known list k is_at is lies comes reached low high unused none there =
         let them : List Objective = objectives unit program criterion in
         let first = there known (no_mark none) used (fewer_unused marks used at total at 1 (omega arith) (omega (arith, low, high)) unused) in
         let left = fewer_unused marks used at total k (length (in_items list)) (omega (arith, low)) high unused in
-        let rest = of_items setting numbered_parts added first.0 around known list k is_at is lies comes (behind id them used first.0 at 1 k (length (in_items list)) low first.2 left) in
+        let rest = of_items setting numbered_parts added first.0 around known list k is_at is lies comes reached (behind id them used first.0 at 1 k (length (in_items list)) low first.2 left) in
         record {
           after = rest.after;
           added = before_items new ls used first.0 rest.after around known list (items_with_marks marks k list) lies.0 first.1 rest.added;
@@ -126,21 +128,21 @@ module _ {new : ℕ → Bool} {unit : c.Unit} {program : Program} {criterion : C
         }
 
     of_body : {deep : ℕ} (at total : ℕ) (ls : c.Marks) (used : List ℕ) (around : Around) (known : Known) (list : c.Items) (k : ℕ) → known.next ≡ k → IsIn unit k (the_items list) → Lies false (suc (suc deep)) known
-        → ComesTo program.facts known (items list around known) → at + 1 ≤ k → k + length (in_items list) ≤ at + total → AreUnused marks used at total → AreThere at ls list known
+        → ComesTo program.facts known (items list around known) → IsReached setting.greatest setting.model unit (place.items around list) known → at + 1 ≤ k → k + length (in_items list) ≤ at + total → AreUnused marks used at total → AreThere at ls list known
         → IsAdded marks used at total (λ after. AddsToItems new used after around known list (after_leading ls (items_with_marks marks k list)))
-    of_body at total ls used around known c.no_items k is_at is lies comes low high unused there = of_rest at total ls used around known c.no_items k is_at is lies comes low high unused refl there
-    of_body at total ls used around known (c.a_declaration d list) k is_at is lies comes low high unused there =
-        of_rest at total ls used around known (c.a_declaration d list) k is_at is lies comes low high unused refl there
-    of_body at total ls used around known (c.a_statement x list) k is_at is lies comes low high unused there =
-        of_rest at total ls used around known (c.a_statement x list) k is_at is lies comes low high unused refl there
-    of_body at total ls used around known (c.a_label m list) k is_at is lies comes low high unused there =
+    of_body at total ls used around known c.no_items k is_at is lies comes reached low high unused there = of_rest at total ls used around known c.no_items k is_at is lies comes reached low high unused refl there
+    of_body at total ls used around known (c.a_declaration d list) k is_at is lies comes reached low high unused there =
+        of_rest at total ls used around known (c.a_declaration d list) k is_at is lies comes reached low high unused refl there
+    of_body at total ls used around known (c.a_statement x list) k is_at is lies comes reached low high unused there =
+        of_rest at total ls used around known (c.a_statement x list) k is_at is lies comes reached low high unused refl there
+    of_body at total ls used around known (c.a_label m list) k is_at is lies comes reached low high unused there =
         let goes = went_on (mark m (entered known)) _ comes.goes in
         let j : ℕ = k + 1 + length (in_mark m) in
         let size = length-append (in_mark m) (in_items list) in
         let old = (old_there new (in_items (c.a_label m list)) setting.old (all_stand unit k (the_items (c.a_label m list)) is).there).1 in
         let it = of_body at total ls used around goes.1 list j
         (numbering.behind goes.0 goes.1 (numbering.of_mark numbered_parts m (entered known)) goes.2 ∙ ap (λ n. n + 1 + length (in_mark m)) is_at) (a_piece is (inl refl))
-        (lies_behind (kept.of_mark m (entered known) lies) goes.2) (statements_are_come_to.1 program.facts known around (c.a_label m list) comes goes.0 goes.1 goes.2)
+        (lies_behind (kept.of_mark m (entered known) lies) goes.2) (statements_are_come_to.1 program.facts known around (c.a_label m list) comes goes.0 goes.1 goes.2) (a_part reached (behind_label goes.2))
         (omega (arith, low)) (omega (arith, high, size)) unused (λ behind it used unused. there behind (a_mark goes.2 it) used unused) in
         record {
           after = it.after;
@@ -152,11 +154,12 @@ module _ {new : ℕ → Bool} {unit : c.Unit} {program : Program} {criterion : C
     module _ (one_node : MarksAreOfOneNode) where
       -- a function, the labels at the start of whose body have predicates
       pub of_definition : (used : List ℕ) (known : Known) (s : c.Specifiers) (d : c.Declarator) (body : c.Items) (k : ℕ) → known.next ≡ k → IsIn unit k (an_external (c.Defines s d body)) → Lies false 1 known
-          → ComesTo program.facts known (external (c.Defines s d body) known) → AreUnused marks used k (length (in_external (c.Defines s d body)))
+          → ComesTo program.facts known (external (c.Defines s d body) known) → IsReached setting.greatest setting.model unit (place.an_external (c.Defines s d body)) known
+          → AreUnused marks used k (length (in_external (c.Defines s d body)))
           → ((it : Specified) (next : Known) (declared : Declares) (last : Known) → specifiers s elsewhere (entered known) ≡ Goes it next → declarator d it true (definition_faults it.storage) next ≡ Goes declared last
           → (behind : Known) → IsBehindMarks body (in_body declared last) behind → (used : List ℕ) → ArePredicates new used behind (at_body unit program criterion k))
           → IsAdded marks used k (length (in_external (c.Defines s d body))) (λ after. AddsToExternal new used after known (c.Defines s d body) (external_with_marks marks k (c.Defines s d body)))
-      of_definition used known s d body k at is lies comes unused predicates =
+      of_definition used known s d body k at is lies comes reached unused predicates =
           let rest : Specified → Known → Outcome (Unit {0}) =
           λ it k. goes_on (declarator d it true (definition_faults it.storage) k) (λ declared. defines known.next (unwrap_or declared.name []) declared body) in
           let first = went_on (specifiers s elsewhere (entered known)) rest comes.goes in
@@ -176,7 +179,7 @@ module _ {new : ℕ → Bool} {unit : c.Unit} {program : Program} {criterion : C
           (a_piece is (inl refl))
           (body_lies name declared.type (frame_of declared.parameters) second.1
           (lies_behind (kept.of_declarator d first.0 true (definition_faults first.0.storage) first.1 (lies_behind (kept.of_specifiers s elsewhere (entered known) lies) first.2)) second.2))
-          (externals_are_come_to.1 program.facts known (c.Defines s d body) comes first.0 first.1 first.2 declared second.1 second.2)
+          (externals_are_come_to.1 program.facts known (c.Defines s d body) comes first.0 first.1 first.2 declared second.1 second.2) (a_part reached (a_body first.2 second.2))
           (omega arith) (body_inside k (in_specifiers s) (in_declarator d) (in_items body)) unused
           (λ behind there used unused.
           let found = start_labels k (at_body unit program criterion k) labelled.together behind used (predicates first.0 first.1 declared second.1 first.2 second.2 behind there) unused in
@@ -194,7 +197,8 @@ module _ {new : ℕ → Bool} {unit : c.Unit} {program : Program} {criterion : C
 -- ---- the predicates at the start of a body
 
 pub predicates_at_body : DomainsAreThere → (new : ℕ → Bool) (unit : c.Unit) (program : Program) (criterion : Criterion) (id : ℕ) (setting : Setting new unit program criterion id)
-    → (s : c.Specifiers) (d : c.Declarator) (body : c.Items) (xs : List c.External) (known : Known) → IsReached setting.greatest setting.model unit (c.Defines s d body ∷ xs) known → IsIn unit known.next (an_external (c.Defines s d body)) → ComesTo program.facts known (external (c.Defines s d body) known)
+    → (s : c.Specifiers) (d : c.Declarator) (body : c.Items) (xs : List c.External) (known : Known) → IsReached setting.greatest setting.model unit (place.externals (c.Defines s d body ∷ xs)) known
+    → IsIn unit known.next (an_external (c.Defines s d body)) → ComesTo program.facts known (external (c.Defines s d body) known)
     → (it : Specified) (next : Known) (declared : Declares) (last : Known)
     → specifiers s elsewhere (entered known) ≡ Goes it next → declarator d it true (definition_faults it.storage) next ≡ Goes declared last
     → (behind : Known) → IsBehindMarks body (in_body declared last) behind → (used : List ℕ) → ArePredicates new used behind (at_body unit program criterion known.next)

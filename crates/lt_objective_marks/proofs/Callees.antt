@@ -72,12 +72,12 @@ module _ (g : Given) {new : ℕ → Bool} {unit : c.Unit} {program : Program} {c
   bare : (used : List ℕ) (known : Known) (f : c.Expression) → Here g s stands.as_value (in_use as_callee) known f → AreUnused (new_marks g s) used known.next (length (in_expression f)) → labels in_front (new_marks g s) known.next ≡ c.no_marks
   bare used known f h unused =
       let some = some_nodes f in
-      by (own_labels g s stands.as_value f known h.isin used (λ it may. absurd (not_markable known f h.comes h.taken it may))
+      by (own_labels g s stands.as_value f known h.isin as_callee h.reached used (λ it may. absurd (not_markable known f h.comes h.taken it may))
       (fewer_unused (new_marks g s) used known.next (length (in_expression f)) known.next 1 (omega arith) (omega (arith, some)) unused))
     where
       by : Labelled g s used known stands.as_value f → labels in_front (new_marks g s) known.next ≡ c.no_marks
       by (unlabelled none) = none
-      by (labelled between fresh ids it may erasable) = absurd (not_markable known f h.comes h.taken it may)
+      by (labelled between fresh ids it may simple) = absurd (not_markable known f h.comes h.taken it may)
 
   whole_callee : (used : List ℕ) (known : Known) (f : c.Expression) → Here g s stands.as_value (in_use as_callee) known f → Inner g s f → AreUnused (new_marks g s) used known.next (length (in_expression f))
       → IsAdded (new_marks g s) used known.next (length (in_expression f)) (λ after. AddsTo new (in_use as_callee) used after known f (with_marks (new_marks g s) known.next f))

@@ -18,8 +18,10 @@ use Rattle.lt_objective_places.specs.Pieces.{a_piece}
 use Rattle.lt_mark_typing.specs.Beside.{in_use, use_of}
 use Rattle.lt_mark_typing.specs.Placed.{AreOld, AddsTo, any_type_name}
 use Rattle.lt_mark_typing.specs.Placed as placed
-use Rattle.lt_mark_typing.proofs.Unchanged.{old_first, old_second}
+use Rattle.lt_mark_typing.proofs.Nodes.{old_first, old_second}
 use Rattle.lt_typed_nodes.specs.Coming.{entered}
+use Rattle.lt_typed_nodes.specs.Reaching as place
+use Rattle.lt_typed_nodes.specs.Reaching.{a_part}
 use Rattle.lt_objective_marks.specs.Settings.{Setting, a_value}
 use Rattle.lt_objective_marks.proofs.Given.{Given}
 use Rattle.lt_objective_marks.proofs.Ends.{ended, through, part_goes, same_found, same_behind}
@@ -58,7 +60,7 @@ module _ (g : Given) {new : ℕ → Bool} {unit : c.Unit} {program : Program} {c
       let is_open = g.unmarked.declarator d a.0 false (λ name known b. type_name_faults b) a.1 b.0 b.1 b.2 ∙ g.unmarked.specifiers types elsewhere (entered known) a.0 a.1 a.2 ∙ h.marked in
       let fits : n + length (in_expression operated) ≤ known.next + length (in_expression e) = omega (arith, size) in
       let it = operand g s markable stands.as_value (in_use as_value) used b.1 operated n
-      (record { number = number; isin = a_piece h.isin (inl refl); fits = a_value; marked = is_open; comes = comes; taken = tt }) no_truth no_callee inner_e
+      (record { number = number; isin = a_piece h.isin (inl refl); fits = a_value; marked = is_open; comes = comes; reached = a_part h.reached (place.a_cast a.2 b.2); taken = tt }) no_truth no_callee inner_e
       (unused_of (new_marks g s) used known.next (length (in_expression e)) n (length (in_expression operated)) (omega arith) fits unused) in
       let old = (old_here g s known.next e h.isin).1 in
       let front = old_first new (in_specifiers types ++ in_declarator d) (in_expression operated) old in

@@ -31,8 +31,10 @@ use Rattle.lt_objective_places.proofs.Going.{all_stand}
 use Rattle.lt_mark_typing.specs.Placed.{AreOld, entered}
 use Rattle.lt_mark_typing.specs.PlacedInitialisers as adds
 use Rattle.lt_mark_typing.specs.PlacedInitialisers.{AddsToObject, AddsToStartOf, AddsToDeclarators, AddsToDeclaration}
-use Rattle.lt_mark_typing.proofs.Unchanged.{old_first, old_second}
+use Rattle.lt_mark_typing.proofs.Nodes.{old_first, old_second}
 use Rattle.lt_typed_nodes.specs.Coming.{ComesTo}
+use Rattle.lt_typed_nodes.specs.Reaching as place
+use Rattle.lt_typed_nodes.specs.Reaching.{IsReached, a_part, its_declarators, its_start, more_declarators}
 use Rattle.lt_typed_nodes.proofs.ComingToItems.{declarations_are_come_to}
 use Rattle.lt_objective_marks.specs.Settings.{marks_of, Setting, AreUnused, IsAdded}
 use Rattle.lt_objective_marks.specs.Laws.{ObjectivesAreAddedToExpressions}
@@ -196,16 +198,19 @@ module _ {new : ℕ → Bool} {unit : c.Unit} {program : Program} {criterion : C
   -- the initialiser of an automatic object, behind its declarator
   starts : {deep : ℕ} (used : List ℕ) (it : Specified) (declared : Declares) (known : Known) (i : c.Initialiser) (k : ℕ) → known.next ≡ k → IsIn unit k (an_initialiser i)
       → Lies false (suc (suc deep)) known → IsAutomatic it.storage → ((e : c.Expression) → i ≡ c.Value e → text_in e ≡ None) → ComesTo program.facts known (declare_named it declared (Some i) known)
+      → (before : Known) (d : c.Declarator) (ds : List c.InitDeclarator) → declarator d it false (declaration_faults it.storage true) before ≡ Goes declared known
+      → IsReached setting.greatest setting.model unit (place.declarators it (record { declarator = d; initialiser = Some i } ∷ ds)) before
       → AreUnused (marks_of unit program criterion id) used k (length (in_initialiser i))
       → IsAdded (marks_of unit program criterion id) used k (length (in_initialiser i)) (λ after. AddsToStartOf new used after it declared known i (initialiser_with_marks (marks_of unit program criterion id) k i))
-  starts used it declared known i k at is lies is_automatic none comes unused =
+  starts used it declared known i k at is lies is_automatic none comes before d ds here reached unused =
       let object = automatic_of it declared i known comes.found comes.behind lies is_automatic comes.goes in
       let there = declarations_are_come_to.3 program.facts known it declared i comes object.name automatic object.is_register object.named object.kind in
       let goes = went_on (declare_object automatic object.is_register declared.node object.name declared.type known) (λ n. started_object automatic n (Some i)) (declared_goes object) in
       let next : Known = goes.1 in
       let made = of_object setting numbered added used next (type_of_object next goes.0) length_faults i k
       (numbering.behind goes.0 next (numbering.of_declare_object numbered automatic object.is_register declared.node object.name declared.type known) goes.2 ∙ no_more known.next ∙ at) is
-      (lies_behind (keeping.of_declare_object automatic object.is_register declared.node object.name declared.type known lies) goes.2) none (there goes.0 next goes.2) unused in
+      (lies_behind (keeping.of_declare_object automatic object.is_register declared.node object.name declared.type known lies) goes.2) none (there goes.0 next goes.2)
+      (a_part reached (its_start here object.named object.kind goes.2)) unused in
       record {
         after = made.after;
         added = (
@@ -232,47 +237,51 @@ module _ {new : ℕ → Bool} {unit : c.Unit} {program : Program} {criterion : C
       nothing id (objectives unit program criterion) used k (length (in_declarator d ++ in_optional_initialiser i))
       (subst (λ j. AddsToOne new used used it known d i j) (sym same) (λ ds es after f. adds.a_declarator old f))
 
-  of_initialised : {deep : ℕ} (used : List ℕ) (known : Known) (it : Specified) (d : c.Declarator) (i : c.Initialiser) (k : ℕ) → known.next ≡ k
+  of_initialised : {deep : ℕ} (used : List ℕ) (known : Known) (it : Specified) (d : c.Declarator) (i : c.Initialiser) (ds : List c.InitDeclarator) (k : ℕ) → known.next ≡ k
       → IsIn unit (k + length (in_declarator d)) (an_initialiser i) → AreOld new (in_declarator d ++ in_initialiser i) → Lies false (suc (suc deep)) known → IsAutomatic it.storage
       → ComesTo program.facts known (init_declarator it (record { declarator = d; initialiser = Some i }) known)
+      → IsReached setting.greatest setting.model unit (place.declarators it (record { declarator = d; initialiser = Some i } ∷ ds)) known
       → AreUnused (marks_of unit program criterion id) used k (length (in_declarator d ++ in_initialiser i)) → Literal i → DeclaredOne used known it d (Some i) k
-  of_initialised used known it d _ k at is old lies is_automatic comes unused (literal bytes) =
+  of_initialised used known it d _ ds k at is old lies is_automatic comes reached unused (literal bytes) =
       as_it_is used known it d (Some (c.Value (c.Text bytes))) k old (ap (λ e. Some (c.Value e)) (text_alone unit program criterion id (k + length (in_declarator d) + 1) bytes (a_piece is (inl refl))))
-  of_initialised used known it d i k at is old lies is_automatic comes unused (no_literal none) =
+  of_initialised used known it d i ds k at is old lies is_automatic comes reached unused (no_literal none) =
       let o = declarator d it false (declaration_faults it.storage true) known in
       let goes = went_on o (λ declared. declare_named it declared (Some i)) comes.goes in
       let there = declarations_are_come_to.2 program.facts known it (record { declarator = d; initialiser = Some i }) comes goes.0 goes.1 goes.2 in
       second_alone id (objectives unit program criterion) used k (in_declarator d) (in_initialiser i) unused
       (starts used it goes.0 goes.1 i (k + length (in_declarator d))
       (numbering.behind goes.0 goes.1 (numbering.of_declarator numbered d it false (declaration_faults it.storage true) known) goes.2 ∙ ap (λ n. n + length (in_declarator d)) at) is
-      (lies_behind (kept.of_declarator d it false (declaration_faults it.storage true) known lies) goes.2) is_automatic none there)
+      (lies_behind (kept.of_declarator d it false (declaration_faults it.storage true) known lies) goes.2) is_automatic none there known d ds goes.2 reached)
       (λ between p ds es after f. adds.an_initialised (old_first new (in_declarator d) (in_initialiser i) old)
       (only_way (λ declared next. AddsToStartOf new used between it declared next i (initialiser_with_marks (marks_of unit program criterion id) (k + length (in_declarator d)) i)) goes.2 p) f)
 
   of_declarator : {deep : ℕ} (used : List ℕ) (known : Known) (it : Specified) (d : c.Declarator) (i : Option c.Initialiser) (ds : List c.InitDeclarator) (k : ℕ) → known.next ≡ k
       → IsIn unit k (declarators (record { declarator = d; initialiser = i } ∷ ds)) → AreOld new (in_declarator d ++ in_optional_initialiser i) → Lies false (suc (suc deep)) known → IsAutomatic it.storage
       → ComesTo program.facts known (init_declarator it (record { declarator = d; initialiser = i }) known)
+      → IsReached setting.greatest setting.model unit (place.declarators it (record { declarator = d; initialiser = i } ∷ ds)) known
       → AreUnused (marks_of unit program criterion id) used k (length (in_declarator d ++ in_optional_initialiser i)) → DeclaredOne used known it d i k
-  of_declarator used known it d None ds k at is old lies is_automatic comes unused = as_it_is used known it d None k old refl
-  of_declarator used known it d (Some i) ds k at is old lies is_automatic comes unused =
-      of_initialised used known it d i k at (a_piece is (inl refl)) old lies is_automatic comes unused (is_literal i)
+  of_declarator used known it d None ds k at is old lies is_automatic comes reached unused = as_it_is used known it d None k old refl
+  of_declarator used known it d (Some i) ds k at is old lies is_automatic comes reached unused =
+      of_initialised used known it d i ds k at (a_piece is (inl refl)) old lies is_automatic comes reached unused (is_literal i)
 
   of_declarators : {deep : ℕ} (used : List ℕ) (known : Known) (it : Specified) (ds : List c.InitDeclarator) (k : ℕ) → known.next ≡ k → IsIn unit k (declarators ds) → Lies false (suc (suc deep)) known
-      → IsAutomatic it.storage → ComesTo program.facts known (init_declarators it ds known) → AreUnused (marks_of unit program criterion id) used k (length (flat_map in_init_declarator ds))
+      → IsAutomatic it.storage → ComesTo program.facts known (init_declarators it ds known) → IsReached setting.greatest setting.model unit (place.declarators it ds) known
+      → AreUnused (marks_of unit program criterion id) used k (length (flat_map in_init_declarator ds))
       → IsAdded (marks_of unit program criterion id) used k (length (flat_map in_init_declarator ds))
       (λ after. AddsToDeclarators new used after it known ds (declarators_with_marks (marks_of unit program criterion id) k ds))
-  of_declarators used known it [] k at is lies is_automatic comes unused = nothing id (objectives unit program criterion) used k 0 adds.no_declarators
-  of_declarators used known it (d ∷ ds) k at is lies is_automatic comes unused =
+  of_declarators used known it [] k at is lies is_automatic comes reached unused = nothing id (objectives unit program criterion) used k 0 adds.no_declarators
+  of_declarators used known it (d ∷ ds) k at is lies is_automatic comes reached unused =
       let old = old_there new (flat_map in_init_declarator (d ∷ ds)) setting.old (all_stand unit k (declarators (d ∷ ds)) is).there in
       let parts = declarations_are_come_to.1 program.facts known it (d ∷ ds) comes in
       let first = parts.0 in
       let rest = declarators_with_marks (marks_of unit program criterion id) (k + length (in_init_declarator d)) ds in
       two id (objectives unit program criterion) used k (in_init_declarator d) (flat_map in_init_declarator ds) unused
-      (of_declarator used known it d.declarator d.initialiser ds k at is (old_first new (in_init_declarator d) (flat_map in_init_declarator ds) old) lies is_automatic first)
+      (of_declarator used known it d.declarator d.initialiser ds k at is (old_first new (in_init_declarator d) (flat_map in_init_declarator ds) old) lies is_automatic first reached)
       (λ between p unused. of_declarators between first.behind it ds (k + length (in_init_declarator d))
       (numbering.behind first.found first.behind (numbering.of_init_declarator numbered it d known) first.goes ∙ ap (λ n. n + length (in_init_declarator d)) at)
       (a_piece is (in_second _ (optional_initialiser (k + length (in_declarator d.declarator)) d.initialiser) _ (inl refl)))
-      (lies_behind (keeping.of_init_declarator it d known lies) first.goes) is_automatic (parts.1 first.found first.behind first.goes) unused)
+      (lies_behind (keeping.of_init_declarator it d known lies) first.goes) is_automatic (parts.1 first.found first.behind first.goes)
+      (a_part reached (more_declarators first.goes)) unused)
       (λ between after p q. p ds rest after (found_only first (λ locals next. AddsToDeclarators new between after it next ds rest) q))
 
   same_emptiness : (k : ℕ) (ds : List c.InitDeclarator) → has_no_declarator (declarators_with_marks (marks_of unit program criterion id) k ds) ≡ has_no_declarator ds
@@ -282,9 +291,10 @@ module _ {new : ℕ → Bool} {unit : c.Unit} {program : Program} {criterion : C
   pub of_declaration : {deep : ℕ} (effective : Option Storage → Option Storage) (used : List ℕ) (known : Known) (d : c.Declaration) (k : ℕ) → known.next ≡ k → IsIn unit k (a_declaration d)
       → Lies false (suc (suc deep)) known
       → ((it : Specified) (next : Known) → specifiers d.specifiers (if has_no_declarator d.declarators then alone else elsewhere) known ≡ Goes it next → IsAutomatic (effective it.storage))
-      → ComesTo program.facts known (declaration_by effective d known) → AreUnused (marks_of unit program criterion id) used k (length (in_declaration d))
+      → ComesTo program.facts known (declaration_by effective d known) → IsReached setting.greatest setting.model unit (place.a_declaration effective d) known
+      → AreUnused (marks_of unit program criterion id) used k (length (in_declaration d))
       → IsAdded (marks_of unit program criterion id) used k (length (in_declaration d)) (λ after. AddsToDeclaration new effective used after known d (declaration_with_marks (marks_of unit program criterion id) k d))
-  of_declaration effective used known d k at is lies are_automatic comes unused =
+  of_declaration effective used known d k at is lies are_automatic comes reached unused =
       let place : TypeSetting = if has_no_declarator d.declarators then alone else elsewhere in
       let old = old_there new (in_declaration d) setting.old (all_stand unit k (a_declaration d) is).there in
       let goes = went_on (specifiers d.specifiers place known) _ comes.goes in
@@ -293,6 +303,6 @@ module _ {new : ℕ → Bool} {unit : c.Unit} {program : Program} {criterion : C
       second_alone id (objectives unit program criterion) used k (in_specifiers d.specifiers) (flat_map in_init_declarator d.declarators) unused
       (of_declarators used goes.1 (record (goes.0) { storage = effective goes.0.storage }) d.declarators j
       (numbering.behind goes.0 goes.1 (numbering.of_specifiers numbered d.specifiers place known) goes.2 ∙ ap (λ n. n + length (in_specifiers d.specifiers)) at) (a_piece is (inl refl))
-      (lies_behind (kept.of_specifiers d.specifiers place known lies) goes.2) (are_automatic goes.0 goes.1 goes.2) there)
+      (lies_behind (kept.of_specifiers d.specifiers place known lies) goes.2) (are_automatic goes.0 goes.1 goes.2) there (a_part reached (its_declarators goes.2)))
       (λ after p. adds.a_declaration (old_first new (in_specifiers d.specifiers) (flat_map in_init_declarator d.declarators) old) (same_emptiness j d.declarators)
       (only_way (λ (it : Specified) next. AddsToDeclarators new used after (record it { storage = effective it.storage }) next d.declarators (declarators_with_marks (marks_of unit program criterion id) j d.declarators)) goes.2 p))

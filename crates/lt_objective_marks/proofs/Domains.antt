@@ -34,8 +34,10 @@ use Rattle.lt_mark_typing.specs.Placed.{IsThere, entered}
 use Rattle.lt_mark_typing.specs.PlacedUnits.{in_body}
 use Rattle.lt_mark_typing.proofs.Predicates.{name_there}
 use Rattle.lt_objective_typing.specs.Laws.{ArePredicates, DomainsGivePredicates}
+use Rattle.lt_typed_nodes.specs.Reaching as place
+use Rattle.lt_typed_nodes.specs.Reaching.{IsReached, the_unit, a_part, more_externals}
 use Rattle.lt_typed_nodes.proofs.ReadTypes.{values_have_their_types}
-use Rattle.lt_objective_marks.specs.Bodies.{IsReached, first_reached, next_reached, IsBehindMarks, no_mark, a_mark, ParametersAreNamed, DomainsAreThere}
+use Rattle.lt_objective_marks.specs.Bodies.{IsBehindMarks, no_mark, a_mark, ParametersAreNamed, DomainsAreThere}
 use Rattle.lt_objective_marks.proofs.Lasting.{AreAt, Lasts, Stays, went, broke}
 use Rattle.lt_objective_marks.proofs.Lasting as lasting
 use Rattle.lt_objective_marks.proofs.LastingUnits as lasting_units
@@ -124,9 +126,9 @@ unfolding typing_to
 unit_end greatest model unit program is = program_end unit (externals unit (starting greatest model (filter_map defined_in unit))) program is
 
 goes_from : {greatest : ℕ} {model : DataModel} {unit : c.Unit} {u : Unit {0}} {end known : Known} (ys : List c.External) → externals unit (starting greatest model (filter_map defined_in unit)) ≡ Goes u end
-    → IsReached greatest model unit ys known → externals ys known ≡ Goes u end
-goes_from ys goes first_reached = goes
-goes_from ys goes (next_reached {x = x} {xs = xs} before here) = through (λ u. externals xs) (goes_from (x ∷ xs) goes before) here
+    → IsReached greatest model unit (place.externals ys) known → externals ys known ≡ Goes u end
+goes_from ys goes the_unit = goes
+goes_from ys goes (a_part before (more_externals {x = x} {xs = xs} here)) = through (λ u. externals xs) (goes_from (x ∷ xs) goes before) here
 
 -- ---- functions that are defined
 
@@ -219,9 +221,9 @@ external_is_a_node : (x : c.External) → 1 ≤ length (in_external x)
 external_is_a_node (c.Defines s d body) = omega arith
 external_is_a_node (c.Declared d) = omega arith
 
-reached_below : PartsAreNumbered → {greatest : ℕ} {model : DataModel} {unit : c.Unit} {ys : List c.External} {known : Known} → IsReached greatest model unit ys known → AllByRecursion (λ (f : Function). f.node < known.next) known.functions
-reached_below numbered first_reached = tt
-reached_below numbered (next_reached {x = x} {u = u} {known = known} {behind = behind} before goes) =
+reached_below : PartsAreNumbered → {greatest : ℕ} {model : DataModel} {unit : c.Unit} {ys : List c.External} {known : Known} → IsReached greatest model unit (place.externals ys) known → AllByRecursion (λ (f : Function). f.node < known.next) known.functions
+reached_below numbered the_unit = tt
+reached_below numbered (a_part before (more_externals {x = x} {known = known} {k = behind} {u = u} goes)) =
     let it = external_lasts {Was = None_was} no_parameters x known u behind (λ n o was. absurd was) goes in
     let at = numbering.behind u behind (numbering.of_external numbered x known) goes in
     let more = external_is_a_node x in

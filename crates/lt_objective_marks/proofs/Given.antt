@@ -10,8 +10,8 @@ use Rattle.lt_tree.specs.Typing.Declarators.{Built}
 use Rattle.lt_tree.specs.Typing.ExpressionTyping as typing
 use Rattle.lt_tree_laws.specs.Typing.NodeNumbers.{PartsAreNumbered}
 use Rattle.lt_objective_places.specs.Laws.{ConstantsAreClosed, PiecesStand, ObjectivesStandWhereTheyMay, MarksAreOfOneNode}
-use Rattle.lt_objective_typing.specs.Laws.{ObjectivesHavePredicates, LabelsOfObjectivesAreNew}
-use Rattle.lt_erased_typing.specs.Laws.{CopiesCanBeErased, PureExpressionsAreTypedWithoutMarks, OperandsKeepTheirTypes, TruthsAreTypedAsValues}
+use Rattle.lt_objective_typing.specs.Laws.{MarkedExpressionsHavePredicates, LabelsOfObjectivesAreNew}
+use Rattle.lt_erased_typing.specs.Laws.{CopiesWithLiteralsCanBeErased, TruthsAreTypedAsValues}
 use Rattle.lt_typed_nodes.specs.Laws.{ConstantsStay, ValuesHaveTheirTypes}
 use Rattle.lt_made_types.specs.Laws.{NoTestIsAPointerToAFunction}
 use Rattle.lt_typed_nodes.specs.Coming.{OperandsAreComeTo, WhatIsComeToIsKnown}
@@ -33,16 +33,14 @@ pub record Given : Type 0 where
   pub stand : PiecesStand
   pub may_stand : ObjectivesStandWhereTheyMay
   pub one_node : MarksAreOfOneNode
-  pub predicates : ObjectivesHavePredicates
+  pub predicates : MarkedExpressionsHavePredicates
   pub labels : LabelsOfObjectivesAreNew
-  pub erased : PureExpressionsAreTypedWithoutMarks
-  pub kept : OperandsKeepTheirTypes
   pub truths : TruthsAreTypedAsValues
   pub values : ValuesHaveTheirTypes
   pub operands : OperandsAreComeTo
   pub known : WhatIsComeToIsKnown
   pub constants : ConstantsStay
   pub closed : ConstantsAreClosed
-  pub copies : CopiesCanBeErased
+  pub copies : CopiesWithLiteralsCanBeErased
   pub tests : NoTestIsAPointerToAFunction
   pub unmarked : KeptUnmarked

@@ -21,6 +21,8 @@ use Rattle.lt_mark_typing.specs.Placed.{entered}
 use Rattle.lt_mark_typing.specs.PlacedInitialisers as adds
 use Rattle.lt_mark_typing.specs.PlacedInitialisers.{AddsToInitialiser, AddsToInitialisers, AddsToObject}
 use Rattle.lt_typed_nodes.specs.Coming.{ComesTo, ComesToOne}
+use Rattle.lt_typed_nodes.specs.Reaching as place
+use Rattle.lt_typed_nodes.specs.Reaching.{IsReached, a_part}
 use Rattle.lt_typed_nodes.proofs.ComingToItems.{initialisers_are_come_to}
 use Rattle.lt_objective_marks.specs.Settings.{marks_of, Setting, AreUnused, IsAdded}
 use Rattle.lt_objective_marks.specs.Laws.{ObjectivesAreAddedToExpressions}
@@ -60,13 +62,13 @@ module _ {new : ℕ → Bool} {unit : c.Unit} {program : Program} {criterion : C
   text_is _ bytes e = absurd cc
 
   of_value : {deep : ℕ} (used : List ℕ) (known : Known) (filling : Filling) (e : c.Expression) (k : ℕ) → known.next ≡ k → IsIn unit k (an_initialiser (c.Value e)) → Lies false deep known
-      → (text_in e ≡ None → ComesToOne program.facts known as_value e) → AreUnused (marks_of unit program criterion id) used k (length (in_initialiser (c.Value e))) → (found : Option (List ℕ)) → text_in e ≡ found
+      → (text_in e ≡ None → ComesToOne program.facts known as_value e) → IsReached setting.greatest setting.model unit (place.an_initialiser false filling (c.Value e)) known → AreUnused (marks_of unit program criterion id) used k (length (in_initialiser (c.Value e))) → (found : Option (List ℕ)) → text_in e ≡ found
       → Initialised used known filling (c.Value e) k
-  of_value used known filling e k at is lies comes unused None none =
+  of_value used known filling e k at is lies comes reached unused None none =
       in_node id (objectives unit program criterion) used k (length (in_expression e)) unused
-      (of_expression setting added stands.as_value (in_use as_value) used (entered known) e (k + 1) (ap (λ n. n + 1) at) (a_piece is (inl refl)) a_value lies (comes none) tt)
+      (of_expression setting added stands.as_value (in_use as_value) used (entered known) e (k + 1) (ap (λ n. n + 1) at) (a_piece is (inl refl)) a_value lies (comes none) (a_part reached (place.a_value none)) tt)
       (λ after it. adds.Value none (no_text (marks_of unit program criterion id) (k + 1) e none) it)
-  of_value used known filling e k at is lies comes unused (Some bytes) some =
+  of_value used known filling e k at is lies comes reached unused (Some bytes) some =
       subst (λ e. IsIn unit k (an_initialiser (c.Value e)) → Initialised used known filling (c.Value e) k) (sym (text_is e bytes some)) alone is
     where
       alone : IsIn unit k (an_initialiser (c.Value (c.Text bytes))) → Initialised used known filling (c.Value (c.Text bytes)) k
@@ -77,39 +79,41 @@ module _ {new : ℕ → Bool} {unit : c.Unit} {program : Program} {criterion : C
 
   mutual
     of_initialiser : {deep : ℕ} (used : List ℕ) (known : Known) (filling : Filling) (i : c.Initialiser) (k : ℕ) → known.next ≡ k → IsIn unit k (an_initialiser i) → Lies false deep known
-        → ComesTo program.facts known (initialiser i false filling known) → AreUnused (marks_of unit program criterion id) used k (length (in_initialiser i)) → Initialised used known filling i k
-    of_initialiser used known filling (c.Value e) k at is lies comes unused = of_value used known filling e k at is lies (initialisers_are_come_to.1 program.facts known false filling (c.Value e) comes) unused (text_in e) refl
-    of_initialiser used known filling (c.Braces list) k at is lies comes unused =
+        → ComesTo program.facts known (initialiser i false filling known) → IsReached setting.greatest setting.model unit (place.an_initialiser false filling i) known → AreUnused (marks_of unit program criterion id) used k (length (in_initialiser i)) → Initialised used known filling i k
+    of_initialiser used known filling (c.Value e) k at is lies comes reached unused = of_value used known filling e k at is lies (initialisers_are_come_to.1 program.facts known false filling (c.Value e) comes) reached unused (text_in e) refl
+    of_initialiser used known filling (c.Braces list) k at is lies comes reached unused =
         in_node id (objectives unit program criterion) used k (length (in_initialisers list)) unused
         (of_initialisers used (entered known) (filling_for (entered known) list filling.left) list (k + 1) (ap (λ n. n + 1) at) (a_piece is (inl refl)) lies
-        (initialisers_are_come_to.1 program.facts known false filling (c.Braces list) comes))
+        (initialisers_are_come_to.1 program.facts known false filling (c.Braces list) comes) (a_part reached place.braces))
         (λ after it. adds.Braces (same_only (k + 1) list (a_piece is (inl refl))) (same_braces (k + 1) list) it)
 
     of_initialisers : {deep : ℕ} (used : List ℕ) (known : Known) (filling : Filling) (list : c.Initialisers) (k : ℕ) → known.next ≡ k → IsIn unit k (the_initialisers list) → Lies false deep known
-        → ComesTo program.facts known (initialisers list false filling known) → AreUnused (marks_of unit program criterion id) used k (length (in_initialisers list)) → AllInitialised used known filling list k
-    of_initialisers used known filling c.no_initialisers k at is lies comes unused = nothing id (objectives unit program criterion) used k 0 adds.no_initialisers
-    of_initialisers used known filling (c.an_initialiser i rest) k at is lies comes unused =
+        → ComesTo program.facts known (initialisers list false filling known) → IsReached setting.greatest setting.model unit (place.initialisers false filling list) known → AreUnused (marks_of unit program criterion id) used k (length (in_initialisers list)) → AllInitialised used known filling list k
+    of_initialisers used known filling c.no_initialisers k at is lies comes reached unused = nothing id (objectives unit program criterion) used k 0 adds.no_initialisers
+    of_initialisers used known filling (c.an_initialiser i rest) k at is lies comes reached unused =
         let parts = initialisers_are_come_to.2 program.facts known false filling (c.an_initialiser i rest) comes in
         let first = parts.0 in
         two id (objectives unit program criterion) used k (in_initialiser i) (in_initialisers rest) unused
-        (of_initialiser used known filling i k at (a_piece is (inl refl)) lies first)
+        (of_initialiser used known filling i k at (a_piece is (inl refl)) lies first (a_part reached place.one_initialiser))
         (λ between p unused. of_initialisers between first.behind first.found rest (k + length (in_initialiser i))
         (numbering.behind first.found first.behind (numbering.of_initialiser numbered i false filling known) first.goes ∙ ap (λ n. n + length (in_initialiser i)) at) (a_piece is (inr (inl refl)))
-        (lies_behind (keeping.of_initialiser i false filling known lies) first.goes) (parts.1 first.found first.behind first.goes) unused)
+        (lies_behind (keeping.of_initialiser i false filling known lies) first.goes) (parts.1 first.found first.behind first.goes)
+        (a_part reached (place.more_initialisers first.goes)) unused)
         (λ between after p q. adds.an_initialiser p
         (found_only first (λ filled next. AddsToInitialisers new between after next filled rest (initialisers_with_marks (marks_of unit program criterion id) (k + length (in_initialiser i)) rest)) q))
 
   -- an initialiser of an object, but for a lone string literal
   pub of_object : {deep : ℕ} (used : List ℕ) (known : Known) (t : CType) (judge : Judges) (i : c.Initialiser) (k : ℕ) → known.next ≡ k → IsIn unit k (an_initialiser i) → Lies false deep known
-      → ((e : c.Expression) → i ≡ c.Value e → text_in e ≡ None) → ComesTo program.facts known (object_initialiser false t judge i known) → AreUnused (marks_of unit program criterion id) used k (length (in_initialiser i))
+      → ((e : c.Expression) → i ≡ c.Value e → text_in e ≡ None) → ComesTo program.facts known (object_initialiser false t judge i known)
+      → IsReached setting.greatest setting.model unit (place.a_start false t i) known → AreUnused (marks_of unit program criterion id) used k (length (in_initialiser i))
       → IsAdded (marks_of unit program criterion id) used k (length (in_initialiser i)) (λ after. AddsToObject new used after known t i (initialiser_with_marks (marks_of unit program criterion id) k i))
-  of_object used known t judge (c.Value e) k at is lies none comes unused =
+  of_object used known t judge (c.Value e) k at is lies none comes reached unused =
       in_node id (objectives unit program criterion) used k (length (in_expression e)) unused
       (of_expression setting added stands.as_value (in_use as_value) used (entered known) e (k + 1) (ap (λ n. n + 1) at) (a_piece is (inl refl)) a_value lies
-      (initialisers_are_come_to.0 program.facts known false t judge (c.Value e) comes (none e refl)) tt)
+      (initialisers_are_come_to.0 program.facts known false t judge (c.Value e) comes (none e refl)) (a_part reached (place.start_value (none e refl))) tt)
       (λ after it. adds.Value (none e refl) (no_text (marks_of unit program criterion id) (k + 1) e (none e refl)) it)
-  of_object used known t judge (c.Braces list) k at is lies none comes unused =
+  of_object used known t judge (c.Braces list) k at is lies none comes reached unused =
       in_node id (objectives unit program criterion) used k (length (in_initialisers list)) unused
       (of_initialisers used (entered known) (filling_of (entered known) 0 t list) list (k + 1) (ap (λ n. n + 1) at) (a_piece is (inl refl)) lies
-      (initialisers_are_come_to.0 program.facts known false t judge (c.Braces list) comes))
+      (initialisers_are_come_to.0 program.facts known false t judge (c.Braces list) comes) (a_part reached place.start_braces))
       (λ after it. adds.Braces (same_only (k + 1) list (a_piece is (inl refl))) (same_braces (k + 1) list) it)

@@ -14,10 +14,10 @@ use Rattle.lt_objective_marks.specs.Rounds.{IsMadeFrom, first_unit, marked_unit,
 use Rattle.lt_objective_marks.proofs.FunctionsStand.{functions_stand}
 
 know_itself : (p : Program) → KnowTheSame p p
-know_itself p = record { model = refl; objects = λ n. refl; facts = refl; parameters = refl }
+know_itself p = record { model = refl; facts = refl; parameters = refl }
 
 know_on : {p q r : Program} → KnowTheSame p q → KnowTheSame q r → KnowTheSame p r
-know_on h g = record { model = h.model ∙ g.model; objects = λ n. h.objects n ∙ g.objects n; facts = h.facts ∙ g.facts; parameters = h.parameters ∙ g.parameters }
+know_on h g = record { model = h.model ∙ g.model; facts = h.facts ∙ g.facts; parameters = h.parameters ∙ g.parameters }
 
 module _ (numbered : PartsAreNumbered) (marked_know : MarkedUnitsKnowTheSame) where
   -- so it is in each round, in which the unit has a program

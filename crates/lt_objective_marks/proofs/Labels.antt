@@ -6,7 +6,7 @@ use Rattle.lt_tree.specs.Erasure.{erased}
 use Rattle.lt_tree.specs.Purity.{is_pure}
 use Rattle.lt_tree.specs.Typing.Types.{is_scalar}
 use Rattle.lt_tree.specs.Typing.Entities.{Known}
-use Rattle.lt_tree.specs.Typing.Expressions.{as_value, own_type}
+use Rattle.lt_tree.specs.Typing.Expressions.{Use, as_value, own_type}
 use Rattle.lt_tree.specs.Typing.Programs.{Program}
 use Rattle.lt_objectives.specs.declared.criteria.Criterion.{Criterion}
 use Rattle.lt_objectives.specs.Places.{part, core}
@@ -20,8 +20,12 @@ use Rattle.lt_objective_places.proofs.Among.{in_first, in_second}
 use Rattle.lt_mark_typing.specs.Beside.{is_used}
 use Rattle.lt_mark_typing.specs.Placed.{AreNewLabels}
 use Rattle.lt_objective_typing.specs.Laws.{ArePredicates}
-use Rattle.lt_erased_typing.specs.Erasable.{CanBeErased}
+use Rattle.lt_erased_typing.specs.Literals.{NamesObjects}
+use Rattle.lt_erased_typing.specs.Simple.{IsSimpleWith}
+use Rattle.lt_erased_typing.specs.Erasable.{CanBeErasedWith}
 use Rattle.lt_typed_nodes.specs.Coming.{ComesToIt}
+use Rattle.lt_typed_nodes.specs.Reaching as place
+use Rattle.lt_typed_nodes.specs.Reaching.{IsReached}
 use Rattle.lt_objective_marks.specs.Settings.{marks_of, Setting, IsIdAt, AreUnused, AddsIdsOf}
 use Rattle.lt_objective_marks.proofs.Given.{Given}
 use Rattle.lt_objective_marks.proofs.Ids.{next_from, next_both, numbered_both, next_of_all, id_of_all}
@@ -102,16 +106,16 @@ module _ (g : Given) {new : ℕ → Bool} {unit : c.Unit} {program : Program} {c
   pub data Labelled (used : List ℕ) (known : Known) (role : Role) (e : c.Expression) : Type 0 where
     unlabelled : labels in_front marks known.next ≡ c.no_marks → Labelled used known role e
     labelled : (between : List ℕ) → AreNewLabels new used between known (labels in_front marks known.next) → AddsIdsOf marks used between known.next 1
-        → (it : Objective) → MayStand unit program criterion role known.next e it in_front → CanBeErased as_value known e → Labelled used known role e
+        → (it : Objective) → MayStand unit program criterion role known.next e it in_front → IsSimpleWith true known.frames e → Labelled used known role e
 
   module _ (role : Role) (e : c.Expression) (known : Known) (isin : IsIn unit known.next (an_expression role e)) where
     pub labels_of : LabelsAreOf unit program criterion in_front known.next id (at_expression unit program criterion known.next e)
     labels_of = ((g.one_node unit program criterion known.next id).0 role e (g.stand.2 unit known.next (an_expression role e) isin)).0
 
-    pub own_labels : (used : List ℕ) → ((it : Objective) → MayStand unit program criterion role known.next e it in_front
+    pub own_labels : (taken : Use) → IsReached s.greatest s.model unit (place.an_expression taken e) known → (used : List ℕ) → ((it : Objective) → MayStand unit program criterion role known.next e it in_front
         → (there : ComesToIt program.facts known as_value e) × ((is_scalar (own_type there.found) ≡ true) ⊎ IsNoTest unit known.next))
         → AreUnused marks used known.next 1 → Labelled used known role e
-    own_labels used comes unused = by (at_expression unit program criterion known.next e) (shape unit program criterion known.next e) refl
+    own_labels taken reached used comes unused = by (at_expression unit program criterion known.next e) (shape unit program criterion known.next e) refl
       where
         by : (list : List Objective) → Shape criterion known.next e list → at_expression unit program criterion known.next e ≡ list → Labelled used known role e
         by list shapes.nothing are =
@@ -124,9 +128,10 @@ module _ (g : Given) {new : ℕ → Bool} {unit : c.Unit} {program : Program} {c
             let all = among_all (at_expression unit program criterion known.next e) labels_of.together o here in
             let may = (g.may_stand unit program criterion known.next o all refl).0 role e isin in
             let there = comes o may in
-            let place = place_of o (objectives unit program criterion) all in
+            let listed = place_of o (objectives unit program criterion) all in
             let node = node_there known.next e (g.stand.2 unit known.next (an_expression role e) isin).stand.there in
-            let erasable = g.copies known there.0.behind e there.0.found copied (s.copies place.0 o e known place.1 refl refl node there.0) there.0.goes in
+            let simple = s.copies listed.0 o taken e known listed.1 refl refl node reached in
+            let erasable : (NamesObjects known → CanBeErasedWith true as_value known e) = λ named. g.copies known there.0.behind e there.0.found named copied simple there.0.goes in
             let them = subst (LabelsAreOf unit program criterion in_front known.next id) are labels_of in
             let found = new_labels known.next (p ∷ ps) them.together known used (are_predicates g s known e may.0 (and_left (is_pure (erased e)) (not (hides e)) copied) there.0 erasable there.1 (p ∷ ps) are) unused in
-            labelled found.0 (subst (AreNewLabels new used found.0 known) (sym them.labels_are) found.1) found.2 o may erasable
+            labelled found.0 (subst (AreNewLabels new used found.0 known) (sym them.labels_are) found.1) found.2 o may simple

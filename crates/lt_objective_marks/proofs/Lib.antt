@@ -46,7 +46,6 @@ pub mod Pure
 pub mod PurePredicates
 pub mod Numbers
 pub mod OldIds
-pub mod Alike
 pub mod Rounds
 pub mod FunctionsStand
 pub mod KnowAsMuch

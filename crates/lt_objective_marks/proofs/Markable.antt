@@ -21,7 +21,7 @@ use Rattle.lt_objectives.specs.Places.{type_at}
 use Rattle.lt_objectives.specs.Mutants.{is_one_of, relations, pointer_relations, is_fitting, is_signed_integer, arithmetic_mutants, relational_mutants, connector_mutants}
 use Rattle.lt_objectives.specs.Copies.{is_core}
 use Rattle.lt_objectives.specs.Objectives.{left_type, right_type, mutants}
-use Rattle.lt_erased_typing.specs.Erasable.{CanBeErased}
+use Rattle.lt_erased_typing.specs.Simple.{IsSimpleWith}
 use Rattle.lt_typed_nodes.specs.Coming.{ComesToIt}
 use Rattle.lt_objective_marks.specs.Settings.{Setting}
 use Rattle.lt_objective_marks.proofs.Given.{Given}
@@ -72,17 +72,17 @@ none_of_comma : (first second : c.Expression) (rest : c.Expressions)
 none_of_comma (c.Comma parts) second rest = ((λ t u. refl), (λ t u. refl), refl)
 none_of_comma first second rest = ((λ t u. refl), (λ t u. refl), refl)
 
-head : (known : Known) (e : c.Expression) → is_core e ≡ true → CanBeErased as_value known e → Head e
-head known (c.Binary op left right) core erasable = binary
-head known (c.Logical op left right) core erasable = connector
-head known (c.Comma c.no_expressions) core erasable = absurd erasable
-head known (c.Comma (c.an_expression first c.no_expressions)) core erasable = absurd erasable
-head known (c.Comma (c.an_expression first (c.an_expression second rest))) core erasable =
+head : (known : Known) (e : c.Expression) → is_core e ≡ true → IsSimpleWith true known.frames e → Head e
+head known (c.Binary op left right) core simple = binary
+head known (c.Logical op left right) core simple = connector
+head known (c.Comma c.no_expressions) core simple = absurd simple
+head known (c.Comma (c.an_expression first c.no_expressions)) core simple = absurd simple
+head known (c.Comma (c.an_expression first (c.an_expression second rest))) core simple =
     let none = none_of_comma (erased first) (erased second) (erased_expressions rest) in neither none.0 none.1 none.2
-head known (c.Marked ms e) core erasable = absurd (false≢true core)
-head known (c.Decide e when_true when_false tag) core erasable = absurd (false≢true core)
-head known (c.After e id tag) core erasable = absurd (false≢true core)
-head known e core erasable = neither (λ t u. refl) (λ t u. refl) refl
+head known (c.Marked ms e) core simple = absurd (false≢true core)
+head known (c.Decide e when_true when_false tag) core simple = absurd (false≢true core)
+head known (c.After e id tag) core simple = absurd (false≢true core)
+head known e core simple = neither (λ t u. refl) (λ t u. refl) refl
 
 module _ (g : Given) {new : ℕ → Bool} {unit : c.Unit} {program : Program} {criterion : Criterion} {id : ℕ} (s : Setting new unit program criterion id) where
   of_arithmetic : (known : Known) (e : c.Expression) (there : ComesToIt program.facts known as_value e) → Head e
@@ -110,15 +110,15 @@ module _ (g : Given) {new : ℕ → Bool} {unit : c.Unit} {program : Program} {c
   of_connector known e there (neither a r l) some = absurd (some l)
 
   pub markable : ValuesAreMarkable g s
-  markable known e there it isin may erasable = by criterion (mutants_there unit program criterion known.next e it may)
+  markable known e there it isin may simple = by criterion (mutants_there unit program criterion known.next e it may)
     where
       by : (criterion : Criterion) → (mutants unit program criterion known.next e (erased e) ≡ [] → ⊥) → (is_integer (own_type there.found) ≡ true) × (is_made_plainly e ≡ true)
       by C.AbsoluteValue some =
           let both = both_there (is_fitting (erased e)) (is_signed_integer program.model (type_at unit program known.next)) _ some in
           (signed_found g s program.model known e there both.1, plainly e both.0 may.0)
-      by C.ArithmeticOperator some = of_arithmetic known e there (head known e may.0 erasable) some
-      by C.RelationalOperator some = of_relational known e there (head known e may.0 erasable) some
-      by C.LogicalConnector some = of_connector known e there (head known e may.0 erasable) some
+      by C.ArithmeticOperator some = of_arithmetic known e there (head known e may.0 simple) some
+      by C.RelationalOperator some = of_relational known e there (head known e may.0 simple) some
+      by C.LogicalConnector some = of_connector known e there (head known e may.0 simple) some
       by C.Decision some = absurd (some refl)
       by C.Condition some = absurd (some refl)
       by C.MultipleCondition some = absurd (some refl)

@@ -5,11 +5,11 @@ use Rattle.lt_model.specs.declared.scalar.DataModel.{DataModel}
 use Rattle.lt_model.specs.declared.operator.Op.{Op}
 use Rattle.lt_tree.specs.Tree as c
 use Rattle.lt_tree.specs.Nodes.{in_expression}
-use Rattle.lt_tree.specs.Erasure.{erased}
 use Rattle.lt_tree.specs.Typing.Types.{CType, Void, Num, Pointer, Array, Struct, Function, Floating, Qualified, is_integer}
 use Rattle.lt_tree.specs.Typing.Entities.{Known, Fact}
 use Rattle.lt_tree.specs.Typing.Steps.{Outcome, Goes, Breaks}
 use Rattle.lt_tree.specs.Typing.Expressions.{Typed, Use, as_value, as_callee, own_type}
+use Rattle.lt_tree.specs.Typing.ExpressionTyping.{expression}
 use Rattle.lt_tree.specs.Typing.UnitTyping.{typing_to, answer, IsProgramTo}
 use Rattle.lt_tree.specs.Typing.Programs.{Program, typed, program_of}
 use Rattle.lt_tree_laws.specs.Typing.NodeNumbers.{GoesOver}
@@ -18,11 +18,13 @@ use Rattle.lt_objectives.specs.Places.{unmarked_numbers, corresponding, correspo
 use Rattle.lt_objectives.specs.Mutants.{is_signed_integer}
 use Rattle.lt_objectives.specs.Objectives.{left_type, right_type}
 use Rattle.lt_objective_typing.specs.Laws.{TakesIntegers}
-use Rattle.lt_erased_typing.specs.Erasable.{CanBeErased}
 use Rattle.lt_typed_nodes.specs.Coming.{ComesToIt, entered}
 use Rattle.lt_objective_marks.specs.Settings.{Setting}
 use Rattle.lt_objective_marks.proofs.Given.{Given}
 use Rattle.lt_objective_marks.proofs.Ends.{and_left, and_right}
+
+same_found : {A : Type 0} {a b : A} {k j : Known} → Goes a k ≡ Goes b j → (a ≡ b) × (k ≡ j)
+same_found e = (cc, cc)
 
 -- ---- numbers of nodes
 
@@ -132,14 +134,15 @@ module _ (g : Given) {new : ℕ → Bool} {unit : c.Unit} {program : Program} {c
         right_integer = operand_found first.behind right second (subst (λ n. is_integer (type_at unit program (value_part n right).number) ≡ true) (sym number) (and_right _ _ are));
       }
 
-  -- so are they without their marks
-  pub takes_integers : (op : Op) (known : Known) (left right : c.Expression) → ComesToIt program.facts known as_value (c.Binary op left right) → CanBeErased as_value known (c.Binary op left right)
+  -- so are they as they stand
+  pub takes_integers : (op : Op) (known : Known) (left right : c.Expression) → ComesToIt program.facts known as_value (c.Binary op left right)
       → is_integer (left_type unit program known.next (c.Binary op left right)) && is_integer (right_type unit program known.next (c.Binary op left right)) ≡ true
-      → TakesIntegers known (erased (c.Binary op left right))
-  takes_integers op known left right there erasable are x y k j first second =
+      → TakesIntegers known (c.Binary op left right)
+  takes_integers op known left right there are x y k j first second =
       let them = integer_operands as_value op known left right there are in
-      let same = g.kept known them.first.behind them.second.behind op left right them.first.found them.second.found erasable them.first.goes them.second.goes x y k j first second in
-      both_are (is_integer (own_type x)) (is_integer (own_type y)) (ap is_integer same.0 ∙ them.left_integer) (ap is_integer same.1 ∙ them.right_integer)
+      let left_is = same_found (sym them.first.goes ∙ first) in
+      let right_is = same_found (sym them.second.goes ∙ subst (λ n. expression right as_value n ≡ Goes y j) (sym left_is.1) second) in
+      both_are (is_integer (own_type x)) (is_integer (own_type y)) (ap (λ t. is_integer (own_type t)) (sym left_is.0) ∙ them.left_integer) (ap (λ t. is_integer (own_type t)) (sym right_is.0) ∙ them.right_integer)
     where
       both_are : (a b : Bool) → a ≡ true → b ≡ true → (a && b) ≡ true
       both_are a b first second = rw (first, second) refl

@@ -12,7 +12,7 @@ use Rattle.lt_objectives.specs.declared.criteria.Criterion.TheVariants as C
 use Rattle.lt_objectives.specs.Decisions.{one}
 use Rattle.lt_objectives.specs.Objectives.{Form, at_start, in_front, around, Objective}
 use Rattle.lt_objectives.specs.Marked.{NewMark, ids_of, numbered, next_id}
-use Rattle.lt_mark_laws.specs.MarkedRuns.{is_from}
+use Rattle.lt_mark_typing.specs.MarkedRuns.{is_from}
 use Rattle.lt_objective_typing.specs.Laws.{LabelsOfObjectivesAreNew}
 use Rattle.lt_objective_marks.specs.Marks.{IsOldAs, IsOldMark, IsPurelyLabelled}
 use Rattle.lt_objective_marks.proofs.Pure.{no_marks_in}

@@ -10,7 +10,7 @@ use Rattle.lt_tree.specs.Nodes.{Node, if_written, in_expression, in_expressions,
 use Rattle.lt_tree.specs.Ids.{within, ids_in, ids_in_expressions, ids_in_maybe, ids_in_marks, ids_in_mark, ids_in_bindings, ids_in_specifiers, ids_in_types, ids_in_type, ids_in_members, ids_in_member_declarators, ids_in_enumerators, ids_in_declarator, ids_in_parts, ids_in_parameters, ids_in_parameter_list, ids_in_initialiser, ids_in_initialisers, ids_in_some, ids_in_init_declarator, ids_in_declaration, ids_in_start, ids_in_label, ids_in_statement, ids_in_items, ids_in_cases, ids_in_external, ids_of_unit, greatest_id}
 use Rattle.lt_tree.specs.Typing.Entities.{greatest_label_id}
 use Rattle.lt_tree.specs.Typing.MarkRules.{id_from, number_of_id}
-use Rattle.lt_mark_laws.specs.MarkedRuns.{is_from}
+use Rattle.lt_mark_typing.specs.MarkedRuns.{is_from}
 use Rattle.lt_mark_laws.proofs.TypeLists.{all_first, all_second}
 use Rattle.lt_mark_typing.specs.Placed.{IsOld, AreOld}
 use Rattle.lt_objective_marks.proofs.OldExpressions.{both_old}

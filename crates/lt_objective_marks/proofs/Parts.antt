@@ -16,6 +16,8 @@ use Rattle.lt_objective_places.specs.Pieces.{an_expression, IsIn}
 use Rattle.lt_mark_typing.specs.Beside.{Position, in_use, use_of}
 use Rattle.lt_mark_typing.specs.Placed.{AddsTo, AddsToParts}
 use Rattle.lt_typed_nodes.specs.Coming.{ComesToIt, entered}
+use Rattle.lt_typed_nodes.specs.Reaching as place
+use Rattle.lt_typed_nodes.specs.Reaching.{IsPart, IsReached, a_part}
 use Rattle.lt_objective_marks.specs.Settings.{Setting, AreUnused, IsAdded, Fits, IsTaken}
 use Rattle.lt_objective_marks.proofs.Given.{Given}
 use Rattle.lt_objective_marks.proofs.Whole.{UnusedInside, new_marks, Here, Inside, Inner, ValuesAreMarkable, whole}
@@ -34,11 +36,12 @@ module _ (g : Given) {new : ℕ → Bool} {unit : c.Unit} {program : Program} {c
     pub fits : Fits role position
     pub marked : known.is_unmarked ≡ false
     pub comes : ComesToIt program.facts known (use_of position) e
+    pub reached : IsReached s.greatest s.model unit (place.an_expression (use_of position) e) known
     pub taken : IsTaken role position known e
 
   pub here_of : (role : Role) (position : Position) (known : Known) (e : c.Expression) (k : ℕ) → Operand role position known e k → Here g s role position known e
   here_of role position known e k o =
-      record { isin = subst (λ n. IsIn unit n (an_expression role e)) (sym o.number) o.isin; fits = o.fits; marked = o.marked; comes = o.comes; taken = o.taken }
+      record { isin = subst (λ n. IsIn unit n (an_expression role e)) (sym o.number) o.isin; fits = o.fits; marked = o.marked; comes = o.comes; reached = o.reached; taken = o.taken }
 
   pub operand : (role : Role) (position : Position) (used : List ℕ) (known : Known) (e : c.Expression) (k : ℕ) → Operand role position known e k → (role ≡ stands.in_truth → ⊥) → (position ≡ in_use as_callee → ⊥)
       → Inner g s e → AreUnused (new_marks g s) used k (length (in_expression e)) → Added position used known e k
@@ -51,8 +54,10 @@ module _ (g : Given) {new : ℕ → Bool} {unit : c.Unit} {program : Program} {c
   module _ (role : Role) (position : Position) (used : List ℕ) (known : Known) where
     -- an operand right behind its operator
     pub first_in : (e d : c.Expression) (inner_role : Role) (inner_position : Position) → Here g s role position known e → IsIn unit (known.next + 1) (an_expression inner_role d) → Fits inner_role inner_position
-        → ComesToIt program.facts (entered known) (use_of inner_position) d → IsTaken inner_role inner_position (entered known) d → Operand inner_role inner_position (entered known) d (known.next + 1)
-    first_in e d inner_role inner_position h isin fits comes taken = record { number = refl; isin = isin; fits = fits; marked = h.marked; comes = comes; taken = taken }
+        → ComesToIt program.facts (entered known) (use_of inner_position) d → IsPart (place.an_expression (use_of position) e) known (place.an_expression (use_of inner_position) d) (entered known)
+        → IsTaken inner_role inner_position (entered known) d → Operand inner_role inner_position (entered known) d (known.next + 1)
+    first_in e d inner_role inner_position h isin fits comes part taken =
+        record { number = refl; isin = isin; fits = fits; marked = h.marked; comes = comes; reached = a_part h.reached part; taken = taken }
 
     pub one : (e d : c.Expression) (inner_role : Role) (inner_position : Position) → length (in_expression e) ≡ suc (length (in_expression d)) → Here g s role position known e
         → UnusedInside (new_marks g s) used known.next (length (in_expression e))
@@ -71,13 +76,15 @@ module _ (g : Given) {new : ℕ → Bool} {unit : c.Unit} {program : Program} {c
     -- the second, behind the first
     pub second_in : (e l r : c.Expression) (first : Use) (inner_role : Role) (inner_position : Position) → Here g s role position known e → (left : ComesToIt program.facts (entered known) first l)
         → IsIn unit (known.next + 1 + length (in_expression l)) (an_expression inner_role r) → Fits inner_role inner_position
-        → ComesToIt program.facts left.behind (use_of inner_position) r → IsTaken inner_role inner_position left.behind r → Operand inner_role inner_position left.behind r (known.next + 1 + length (in_expression l))
-    second_in e l r first inner_role inner_position h left isin fits comes taken = record {
+        → ComesToIt program.facts left.behind (use_of inner_position) r → IsPart (place.an_expression (use_of position) e) known (place.an_expression (use_of inner_position) r) left.behind
+        → IsTaken inner_role inner_position left.behind r → Operand inner_role inner_position left.behind r (known.next + 1 + length (in_expression l))
+    second_in e l r first inner_role inner_position h left isin fits comes part taken = record {
       number = number_behind g s l first (entered known) left;
       isin = isin;
       fits = fits;
       marked = g.unmarked.expression l first (entered known) left.found left.behind left.goes ∙ h.marked;
       comes = comes;
+      reached = a_part h.reached part;
       taken = taken;
     }
 

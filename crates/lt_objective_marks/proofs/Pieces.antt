@@ -24,8 +24,10 @@ use Rattle.lt_objective_places.proofs.MarksAtPlaces.{HasNoneAt, no_labels, not_d
 use Rattle.lt_tree.specs.Typing.Expressions.{as_value, as_truth, as_callee}
 use Rattle.lt_mark_typing.specs.Beside.{Position, in_use, in_test, use_of}
 use Rattle.lt_mark_typing.specs.Placed.{AreOld, AddsTo}
-use Rattle.lt_mark_typing.proofs.Unchanged.{old_first}
+use Rattle.lt_mark_typing.proofs.Nodes.{old_first}
 use Rattle.lt_typed_nodes.specs.Coming.{ComesToIt}
+use Rattle.lt_typed_nodes.specs.Reaching as place
+use Rattle.lt_typed_nodes.specs.Reaching.{IsReached}
 use Rattle.lt_objective_marks.specs.Settings.{marks_of, Setting, AreUnused, IsAdded, Fits, IsTaken}
 use Rattle.lt_objective_marks.specs.Settings as settings
 use Rattle.lt_objective_marks.specs.Laws.{ObjectivesAreAddedToExpressions}
@@ -156,10 +158,11 @@ no_callee a_switch is = cc
 
 module _ {new : ℕ → Bool} {unit : c.Unit} {program : Program} {criterion : Criterion} {id : ℕ} (setting : Setting new unit program criterion id) (added : ObjectivesAreAddedToExpressions) where
   pub of_expression : {deep : ℕ} (role : Role) (position : Position) (used : List ℕ) (known : Known) (e : c.Expression) (k : ℕ) → known.next ≡ k
-      → IsIn unit k (an_expression role e) → Plainly role position → Lies false deep known → ComesToIt program.facts known (use_of position) e → IsTaken role position known e
+      → IsIn unit k (an_expression role e) → Plainly role position → Lies false deep known → ComesToIt program.facts known (use_of position) e
+      → IsReached setting.greatest setting.model unit (place.an_expression (use_of position) e) known → IsTaken role position known e
       → AreUnused (marks_of unit program criterion id) used k (length (in_expression e))
       → IsAdded (marks_of unit program criterion id) used k (length (in_expression e)) (λ after. AddsTo new position used after known e (with_marks (marks_of unit program criterion id) k e))
-  of_expression role position used known e k at is fits lies comes taken unused =
+  of_expression role position used known e k at is fits lies comes reached taken unused =
       subst (λ k. IsIn unit k (an_expression role e) → AreUnused (marks_of unit program criterion id) used k (length (in_expression e))
       → IsAdded (marks_of unit program criterion id) used k (length (in_expression e)) (λ after. AddsTo new position used after known e (with_marks (marks_of unit program criterion id) k e))) at
-      (λ is unused. added new unit program criterion id setting role position used known e is (fitting fits) lies.0 comes taken (no_truth fits) (no_callee fits) unused) is unused
+      (λ is unused. added new unit program criterion id setting role position used known e is (fitting fits) lies.0 comes reached taken (no_truth fits) (no_callee fits) unused) is unused

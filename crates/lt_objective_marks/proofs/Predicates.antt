@@ -22,7 +22,8 @@ use Rattle.lt_mark_laws.proofs.TypeLists.{all_both}
 use Rattle.lt_mark_typing.specs.Placed.{IsThere}
 use Rattle.lt_objective_places.specs.Stands.{IsNoTest}
 use Rattle.lt_objective_typing.specs.Laws.{ArePredicates, differences_from, TakesIntegers}
-use Rattle.lt_erased_typing.specs.Erasable.{CanBeErased}
+use Rattle.lt_erased_typing.specs.Literals.{NamesObjects}
+use Rattle.lt_erased_typing.specs.Erasable.{CanBeErasedWith}
 use Rattle.lt_typed_nodes.specs.Coming.{ComesToIt}
 use Rattle.lt_objective_marks.specs.Settings.{Setting}
 use Rattle.lt_objective_marks.proofs.Given.{Given}
@@ -55,49 +56,22 @@ module _ (g : Given) {new : ℕ → Bool} {unit : c.Unit} {program : Program} {c
   abbrev Are : List c.Expression → Type 0
   Are list = (used : List ℕ) → ArePredicates new used known list
 
-  -- operands of what is an operator with its marks, or of what is none without them
-  takes : (e : c.Expression) → is_core e ≡ true → (there : ComesToIt program.facts known as_value e) → CanBeErased as_value known e
-      → is_integer (left_type unit program known.next e) && is_integer (right_type unit program known.next e) ≡ true → TakesIntegers known (erased e)
-  takes (c.Binary op left right) core there erasable are = takes_integers g s op known left right there erasable are
-  takes (c.Name name) core there erasable are = tt
-  takes (c.Constant text) core there erasable are = tt
-  takes (c.Text bytes) core there erasable are = tt
-  takes (c.Index base index) core there erasable are = tt
-  takes (c.Call callee arguments) core there erasable are = tt
-  takes (c.Member base name) core there erasable are = tt
-  takes (c.Arrow pointer name) core there erasable are = tt
-  takes (c.PostInc target) core there erasable are = tt
-  takes (c.PostDec target) core there erasable are = tt
-  takes (c.PreInc target) core there erasable are = tt
-  takes (c.PreDec target) core there erasable are = tt
-  takes (c.Unary op operand) core there erasable are = tt
-  takes (c.SizeofExpr operand) core there erasable are = tt
-  takes (c.SizeofType s d) core there erasable are = tt
-  takes (c.Cast s d operand) core there erasable are = tt
-  takes (c.Logical op left right) core there erasable are = tt
-  takes (c.Conditional test left right) core there erasable are = tt
-  takes (c.Assign op target value) core there erasable are = tt
-  takes (c.Comma (c.an_expression first (c.an_expression second rest))) core there erasable are = of_comma (erased first) second rest
-    where
-      of_comma : (first second : c.Expression) (rest : c.Expressions) → TakesIntegers known (comma_of first (erased_expressions (c.an_expression second rest)))
-      of_comma (c.Comma parts) second rest = tt
-      of_comma first second rest = tt
-  takes (c.Comma c.no_expressions) core there erasable are = absurd erasable
-  takes (c.Comma (c.an_expression first c.no_expressions)) core there erasable are = absurd erasable
-  takes (c.Marked ms value) core there erasable are = absurd (false≢true core)
-  takes (c.Decide operand when_true when_false tag) core there erasable are = absurd (false≢true core)
-  takes (c.After operand id tag) core there erasable are = absurd (false≢true core)
+  -- the operands of an operator
+  takes : (e : c.Expression) → (there : ComesToIt program.facts known as_value e)
+      → is_integer (left_type unit program known.next e) && is_integer (right_type unit program known.next e) ≡ true → TakesIntegers known e
+  takes (c.Binary op left right) there are = takes_integers g s op known left right there are
+  takes _ there are = tt
 
-  module _ (e : c.Expression) (core : is_core e ≡ true) (pure : is_pure (erased e) ≡ true) (there : ComesToIt program.facts known as_value e) (erasable : CanBeErased as_value known e) where
+  module _ (e : c.Expression) (core : is_core e ≡ true) (pure : is_pure (erased e) ≡ true) (there : ComesToIt program.facts known as_value e)
+      (erasable : NamesObjects known → CanBeErasedWith true as_value known e) where
     by_criterion : (criterion : Criterion) (used : List ℕ) → ArePredicates new used known (differences_from (erased e) (mutants unit program criterion known.next e (erased e)))
     by_criterion criterion used =
-        let typed = g.erased known there.behind e there.found erasable there.goes in
-        let them = g.predicates new used known (erased e) typed.0 typed.1 typed.2 pure typed.3 in
+        let them = g.predicates new used known there.behind e there.found core pure erasable there.goes in
         by criterion (
-          them.1 program.model (type_at unit program known.next) (λ signed. ap is_integer typed.4 ∙ signed_found g s program.model known e there signed),
+          them.1 program.model (type_at unit program known.next) (λ signed. signed_found g s program.model known e there signed),
           them.2,
-          (them.3 (left_type unit program known.next e) (right_type unit program known.next e) (takes e core there erasable)).0,
-          (them.3 (left_type unit program known.next e) (right_type unit program known.next e) (takes e core there erasable)).1,
+          (them.3 (left_type unit program known.next e) (right_type unit program known.next e) (takes e there)).0,
+          (them.3 (left_type unit program known.next e) (right_type unit program known.next e) (takes e there)).1,
         )
       where
         by : (criterion : Criterion)
@@ -129,8 +103,7 @@ module _ (g : Given) {new : ℕ → Bool} {unit : c.Unit} {program : Program} {c
     of_tests : (is_scalar (own_type there.found) ≡ true) ⊎ IsNoTest unit known.next → (used : List ℕ)
         → ArePredicates new used known (map (λ it. it.predicate) (at_test criterion (decided_at (decisions unit) known.next) (decided_at (clauses unit) known.next) known.next e))
     of_tests (inl scalar) used =
-        let typed = g.erased known there.behind e there.found erasable there.goes in
-        (g.predicates new used known (erased e) typed.0 typed.1 typed.2 pure typed.3).0 (ap is_scalar typed.4 ∙ scalar) criterion (decided_at (decisions unit) known.next) (decided_at (clauses unit) known.next) known.next e refl
+        (g.predicates new used known there.behind e there.found core pure erasable there.goes).0 scalar criterion (decided_at (decisions unit) known.next) (decided_at (clauses unit) known.next) known.next
     of_tests (inr none) used = subst (λ list. ArePredicates new used known (map (λ (it : Objective). it.predicate) list)) (sym (none_at unit criterion known.next e none)) tt
 
     at_open : (b : Bool) → (is_scalar (own_type there.found) ≡ true) ⊎ IsNoTest unit known.next → (used : List ℕ)

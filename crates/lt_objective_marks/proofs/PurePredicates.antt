@@ -42,7 +42,7 @@ none_beside new used label is (kept old rest) = false≢true (sym old ∙ is)
 none_beside new used label is (added found was_used bound rest) = none_beside new used label is rest
 
 pub pure_there : (new : ℕ → Bool) (used : List ℕ) (id : ℕ) → new id ≡ true → (test : CType → Bool) (e : c.Expression) → is_pure e ≡ true → IsThere test new used (nowhere id) e
-pure_there new used id is test e pure = (pure, λ other beside. absurd (none_beside new used (new_label id) is beside.labels))
+pure_there new used id is test e pure = (pure, λ further other beside. absurd (none_beside new used (new_label id) is beside.labels))
 
 -- ---- lists of pure expressions
 

@@ -34,9 +34,11 @@ use Rattle.lt_mark_typing.specs.Placed.{entered, AddsTo}
 use Rattle.lt_mark_typing.specs.PlacedInitialisers.{AddsToDeclaration}
 use Rattle.lt_mark_typing.specs.PlacedItems as adds
 use Rattle.lt_mark_typing.specs.PlacedItems.{in_new_block, AddsToTest, AddsToOptional, AddsToStart, AddsToStatement, AddsToItems, AddsToCases}
-use Rattle.lt_mark_typing.proofs.Unchanged.{old_first}
+use Rattle.lt_mark_typing.proofs.Nodes.{old_first}
 use Rattle.lt_typed_nodes.specs.Coming.{ComesTo}
 use Rattle.lt_typed_nodes.specs.ComingItems.{ComesToStatement, ComesToBody}
+use Rattle.lt_typed_nodes.specs.Reaching as place
+use Rattle.lt_typed_nodes.specs.Reaching.{IsReached, a_part}
 use Rattle.lt_typed_nodes.proofs.ComingToItems.{statements_are_come_to}
 use Rattle.lt_objective_marks.specs.Settings.{marks_of, Setting, AreUnused, IsAdded, IsTaken}
 use Rattle.lt_objective_marks.specs.Laws.{ObjectivesAreAddedToExpressions}
@@ -119,47 +121,54 @@ module _ {new : ℕ → Bool} {unit : c.Unit} {program : Program} {criterion : C
       (closed_declaration new effective used known d (old_there new (in_declaration d) setting.old (all_stand unit k (a_declaration d) is).there)))
 
   of_item : {deep : ℕ} (used : List ℕ) (known : Known) (d : c.Declaration) (list : c.Items) (k : ℕ) → known.next ≡ k + 1 → IsIn unit k (the_items (c.a_declaration d list)) → Lies false (suc (suc deep)) known
-      → ComesTo program.facts known (declaration d known) → Unused used (k + 1) (length (in_declaration d)) → (is_static : Bool) → list_any makes_static (storage_of d.specifiers) ≡ is_static
+      → ComesTo program.facts known (declaration d known) → IsReached setting.greatest setting.model unit (place.a_declaration (λ class. class) d) known
+      → Unused used (k + 1) (length (in_declaration d)) → (is_static : Bool) → list_any makes_static (storage_of d.specifiers) ≡ is_static
       → Marked used (k + 1) (length (in_declaration d)) (λ after. AddsToDeclaration new (λ class. class) used after known d (declaration_with_marks (marks_of unit program criterion id) (k + 1) d))
-  of_item used known d list k at is lies comes unused true static =
+  of_item used known d list k at is lies comes reached unused true static =
       closed_one (λ class. class) used known d (k + 1) (a_piece is (inl refl)) (static_closed program d list static (all_stand unit k (the_items (c.a_declaration d list)) is).there)
-  of_item used known d list k at is lies comes unused false not_static =
-      of_declaration setting numbered_parts added (λ class. class) used known d (k + 1) at (a_piece is (inl refl)) lies (λ it next goes. class_in_block d.specifiers _ known it next not_static goes) comes unused
+  of_item used known d list k at is lies comes reached unused false not_static =
+      of_declaration setting numbered_parts added (λ class. class) used known d (k + 1) at (a_piece is (inl refl)) lies (λ it next goes. class_in_block d.specifiers _ known it next not_static goes) comes reached unused
 
   of_first : {deep : ℕ} (used : List ℕ) (known : Known) (d : c.Declaration) (test step : Option c.Expression) (x : c.Statement) (k : ℕ) → known.next ≡ k + 1 → IsIn unit k (a_statement (c.For (c.Declares d) test step x))
-      → Lies false (suc (suc deep)) known → ComesTo program.facts known (for_start (c.Declares d) known) → Unused used (k + 1) (length (in_declaration d)) → (is_static : Bool) → list_any makes_static_in_for (storage_of d.specifiers) ≡ is_static
+      → Lies false (suc (suc deep)) known → ComesTo program.facts known (for_start (c.Declares d) known) → IsReached setting.greatest setting.model unit (place.a_declaration effective_in_for d) known
+      → Unused used (k + 1) (length (in_declaration d)) → (is_static : Bool) → list_any makes_static_in_for (storage_of d.specifiers) ≡ is_static
       → Marked used (k + 1) (length (in_declaration d)) (λ after. AddsToDeclaration new effective_in_for used after known d (declaration_with_marks (marks_of unit program criterion id) (k + 1) d))
-  of_first used known d test step x k at is lies comes unused true static =
+  of_first used known d test step x k at is lies comes reached unused true static =
       closed_one effective_in_for used known d (k + 1) (a_piece is (inl refl)) (static_in_for_closed program d test step x static (all_stand unit k (a_statement (c.For (c.Declares d) test step x)) is).there)
-  of_first used known d test step x k at is lies comes unused false not_static =
+  of_first used known d test step x k at is lies comes reached unused false not_static =
       of_declaration setting numbered_parts added effective_in_for used known d (k + 1) at (a_piece is (inl refl)) lies (λ it next goes. class_in_for d.specifiers _ known it next not_static goes)
-      (statements_are_come_to.3 program.facts known (c.Declares d) comes) unused
+      (statements_are_come_to.3 program.facts known (c.Declares d) comes) reached unused
 
-  of_start : {deep : ℕ} (used : List ℕ) (known : Known) (begin : c.ForStart) (test step : Option c.Expression) (x : c.Statement) (k : ℕ) → known.next ≡ k + 1 → IsIn unit k (a_statement (c.For begin test step x))
-      → Lies false (suc (suc deep)) known → ComesTo program.facts known (for_start begin known) → Unused used (k + 1) (length (in_start begin))
-      → Marked used (k + 1) (length (in_start begin)) (λ after. AddsToStart new used after known begin (for_start_with_marks (marks_of unit program criterion id) (k + 1) begin))
-  of_start used known c.Nothing test step x k at is lies comes unused = nothing id (objectives unit program criterion) used (k + 1) 0 adds.Nothing
-  of_start used known (c.First e) test step x k at is lies comes unused =
-      let it = of_expression setting added stands.as_value (in_use as_value) used known e (k + 1) at (a_piece is (inl refl)) a_value lies (statements_are_come_to.3 program.facts known (c.First e) comes) tt unused in
+  of_start : {deep : ℕ} (used : List ℕ) (around : Around) (known : Known) (begin : c.ForStart) (test step : Option c.Expression) (x : c.Statement) (k : ℕ) → known.next ≡ k → IsIn unit k (a_statement (c.For begin test step x))
+      → Lies false (suc (suc deep)) (in_new_block (entered known)) → ComesTo program.facts (in_new_block (entered known)) (for_start begin (in_new_block (entered known)))
+      → IsReached setting.greatest setting.model unit (place.a_statement around (c.For begin test step x)) known → Unused used (k + 1) (length (in_start begin))
+      → Marked used (k + 1) (length (in_start begin)) (λ after. AddsToStart new used after (in_new_block (entered known)) begin (for_start_with_marks (marks_of unit program criterion id) (k + 1) begin))
+  of_start used around known c.Nothing test step x k at is lies comes reached unused = nothing id (objectives unit program criterion) used (k + 1) 0 adds.Nothing
+  of_start used around known (c.First e) test step x k at is lies comes reached unused =
+      let start : Known = in_new_block (entered known) in
+      let it = of_expression setting added stands.as_value (in_use as_value) used start e (k + 1) (ap (λ n. n + 1) at) (a_piece is (inl refl)) a_value lies (statements_are_come_to.3 program.facts start (c.First e) comes)
+      (a_part reached place.for_first) tt unused in
       record { after = it.after; added = adds.First it.added; ids = it.ids }
-  of_start used known (c.Declares d) test step x k at is lies comes unused =
-      let it = of_first used known d test step x k at is lies comes unused (list_any makes_static_in_for (storage_of d.specifiers)) refl in
+  of_start used around known (c.Declares d) test step x k at is lies comes reached unused =
+      let it = of_first used (in_new_block (entered known)) d test step x k (ap (λ n. n + 1) at) is lies comes (a_part reached place.for_declares) unused (list_any makes_static_in_for (storage_of d.specifiers)) refl in
       record { after = it.after; added = adds.Declares it.added; ids = it.ids }
 
   of_test : {deep : ℕ} (used : List ℕ) (known : Known) (it : Option c.Expression) (k : ℕ) → known.next ≡ k → ((e : c.Expression) → it ≡ Some e → IsIn unit k (an_expression stands.in_test e))
-      → ((e : c.Expression) → it ≡ Some e → IsTaken stands.in_test in_test known e) → Lies false deep known → ComesTo program.facts known (optional_test it known) → Unused used k (length (in_optional it))
+      → ((e : c.Expression) → it ≡ Some e → IsTaken stands.in_test in_test known e) → Lies false deep known → ComesTo program.facts known (optional_test it known)
+      → ((e : c.Expression) → it ≡ Some e → IsReached setting.greatest setting.model unit (place.an_expression as_truth e) known) → Unused used k (length (in_optional it))
       → Marked used k (length (in_optional it)) (λ after. AddsToTest new used after known it (optional_with_marks (marks_of unit program criterion id) k it))
-  of_test used known None k at is taken lies comes unused = nothing id (objectives unit program criterion) used k 0 adds.no_test
-  of_test used known (Some e) k at is taken lies comes unused =
-      let it = of_expression setting added stands.in_test in_test used known e k at (is e refl) a_test lies (statements_are_come_to.4 program.facts known (Some e) comes) (taken e refl) unused in
+  of_test used known None k at is taken lies comes reached unused = nothing id (objectives unit program criterion) used k 0 adds.no_test
+  of_test used known (Some e) k at is taken lies comes reached unused =
+      let it = of_expression setting added stands.in_test in_test used known e k at (is e refl) a_test lies (statements_are_come_to.4 program.facts known (Some e) comes) (reached e refl) (taken e refl) unused in
       record { after = it.after; added = adds.a_test it.added; ids = it.ids }
 
   of_optional : {deep : ℕ} (used : List ℕ) (known : Known) (it : Option c.Expression) (k : ℕ) → known.next ≡ k → ((e : c.Expression) → it ≡ Some e → IsIn unit k (an_expression stands.as_value e))
-      → Lies false deep known → ComesTo program.facts known (optional_expression it known) → Unused used k (length (in_optional it))
+      → Lies false deep known → ComesTo program.facts known (optional_expression it known)
+      → ((e : c.Expression) → it ≡ Some e → IsReached setting.greatest setting.model unit (place.an_expression as_value e) known) → Unused used k (length (in_optional it))
       → Marked used k (length (in_optional it)) (λ after. AddsToOptional new used after known it (optional_with_marks (marks_of unit program criterion id) k it))
-  of_optional used known None k at is lies comes unused = nothing id (objectives unit program criterion) used k 0 adds.no_value
-  of_optional used known (Some e) k at is lies comes unused =
-      let it = of_expression setting added stands.as_value (in_use as_value) used known e k at (is e refl) a_value lies (statements_are_come_to.5 program.facts known (Some e) comes) tt unused in
+  of_optional used known None k at is lies comes reached unused = nothing id (objectives unit program criterion) used k 0 adds.no_value
+  of_optional used known (Some e) k at is lies comes reached unused =
+      let it = of_expression setting added stands.as_value (in_use as_value) used known e k at (is e refl) a_value lies (statements_are_come_to.5 program.facts known (Some e) comes) (reached e refl) tt unused in
       record { after = it.after; added = adds.a_value it.added; ids = it.ids }
 
   -- a test and what it chooses
@@ -228,15 +237,15 @@ module _ {new : ℕ → Bool} {unit : c.Unit} {program : Program} {criterion : C
 
   of_start_and_test : {deep : ℕ} (used : List ℕ) (around : Around) (known : Known) (begin : c.ForStart) (test step : Option c.Expression) (x : c.Statement) (k : ℕ) → known.next ≡ k
       → IsIn unit k (a_statement (c.For begin test step x)) → Lies false (suc (suc deep)) known → ComesTo program.facts known (statement (c.For begin test step x) around known)
-      → Unused used (k + 1) (length (in_start begin ++ in_optional test))
+      → IsReached setting.greatest setting.model unit (place.a_statement around (c.For begin test step x)) known → Unused used (k + 1) (length (in_start begin ++ in_optional test))
       → Marked used (k + 1) (length (in_start begin ++ in_optional test)) (λ after. StartAndTest used after (in_new_block (entered known)) begin test (k + 1))
-  of_start_and_test used around known begin test step x k at is lies comes unused =
+  of_start_and_test used around known begin test step x k at is lies comes reached unused =
       let head = heads known around begin test step x k at lies comes in
       let b = head.b in
       let i : ℕ = k + 1 + length (in_start begin) in
       two id (objectives unit program criterion) used (k + 1) (in_start begin) (in_optional test) unused
-      (of_start used (in_new_block (entered known)) begin test step x k (ap (λ n. n + 1) at) is (lies.0, ap suc lies.1) b)
-      (λ between d. of_test between b.behind test i head.b_at test_there test_taken head.b_lies head.p)
+      (of_start used around known begin test step x k at is (lies.0, ap suc lies.1) b reached)
+      (λ between d. of_test between b.behind test i head.b_at test_there test_taken head.b_lies head.p test_reached)
       (λ between after d e. record {
         between = between;
         start_added = d;
@@ -253,17 +262,22 @@ module _ {new : ℕ → Bool} {unit : c.Unit} {program : Program} {criterion : C
           let b = (heads known around begin test step x k at lies comes).b in
           for_taken known begin e step x around (subst (λ test. statement (c.For begin test step x) around known ≡ Goes comes.found comes.behind) some comes.goes) b.found b.behind b.goes
 
+      test_reached : (e : c.Expression) → test ≡ Some e → IsReached setting.greatest setting.model unit (place.an_expression as_truth e) (heads known around begin test step x k at lies comes).b.behind
+      test_reached e some =
+          a_part (subst (λ test. IsReached setting.greatest setting.model unit (place.a_statement around (c.For begin test step x)) known) some reached)
+          (place.for_test (heads known around begin test step x k at lies comes).b.goes)
+
   of_head : {deep : ℕ} (used : List ℕ) (around : Around) (known : Known) (begin : c.ForStart) (test step : Option c.Expression) (x : c.Statement) (k : ℕ) → known.next ≡ k
       → IsIn unit k (a_statement (c.For begin test step x)) → Lies false (suc (suc deep)) known → ComesTo program.facts known (statement (c.For begin test step x) around known)
-      → Unused used (k + 1) (length (in_start begin ++ in_optional test ++ in_optional step))
+      → IsReached setting.greatest setting.model unit (place.a_statement around (c.For begin test step x)) known → Unused used (k + 1) (length (in_start begin ++ in_optional test ++ in_optional step))
       → Marked used (k + 1) (length (in_start begin ++ in_optional test ++ in_optional step)) (λ after. HeadOfFor used after (in_new_block (entered known)) begin test step (k + 1))
-  of_head used around known begin test step x k at is lies comes unused =
+  of_head used around known begin test step x k at is lies comes reached unused =
       let head = heads known around begin test step x k at lies comes in
       let them = objectives unit program criterion in
       let j : ℕ = k + 1 + length (in_start begin) + length (in_optional test) in
       two id them used (k + 1) (in_start begin ++ in_optional test) (in_optional step) unused
-      (of_start_and_test used around known begin test step x k at is lies comes)
-      (λ between d. from_there id them between (length (in_optional step)) (behind_two id them (k + 1) (in_start begin) (in_optional test)) (of_optional between head.p.behind step j head.p_at step_there head.p_lies head.q))
+      (of_start_and_test used around known begin test step x k at is lies comes reached)
+      (λ between d. from_there id them between (length (in_optional step)) (behind_two id them (k + 1) (in_start begin) (in_optional test)) (of_optional between head.p.behind step j head.p_at step_there head.p_lies head.q step_reached))
       (λ between after d e. record {
         between = between;
         first = d;
@@ -280,6 +294,11 @@ module _ {new : ℕ → Bool} {unit : c.Unit} {program : Program} {criterion : C
           a_piece is (in_first _ _ _ (in_second _ (pieces.start (k + 1) begin ++ pieces.optional_test (k + 1 + length (in_start begin)) test) _
           (subst (λ step. IsAmong (pieces.value (k + 1 + length (in_start begin) + length (in_optional test)) e) (pieces.optional_value (k + 1 + length (in_start begin) + length (in_optional test)) step)) (sym some) (inl refl))))
 
+      step_reached : (e : c.Expression) → step ≡ Some e → IsReached setting.greatest setting.model unit (place.an_expression as_value e) (heads known around begin test step x k at lies comes).p.behind
+      step_reached e some =
+          let head = heads known around begin test step x k at lies comes in
+          a_part (subst (λ step. IsReached setting.greatest setting.model unit (place.a_statement around (c.For begin test step x)) known) some reached) (place.for_step head.b.goes head.p.goes)
+
   body_there : (k : ℕ) (begin : c.ForStart) (test step : Option c.Expression) (x : c.Statement)
       → IsAmong (pieces.at (k + 1 + length (in_start begin) + length (in_optional test) + length (in_optional step)) (a_statement x)) (pieces.in_it k (c.For begin test step x))
   body_there k begin test step x =
@@ -292,20 +311,23 @@ module _ {new : ℕ → Bool} {unit : c.Unit} {program : Program} {criterion : C
   abbrev StatementIsAdded : ℕ → Around → c.Statement → Type 0
   StatementIsAdded deep around x =
       (used : List ℕ) (known : Known) (k : ℕ) → known.next ≡ k → IsIn unit k (a_statement x) → Lies false (suc (suc deep)) known → ComesTo program.facts known (statement x around known)
-      → Unused used k (length (in_statement x)) → Marked used k (length (in_statement x)) (λ after. AddsToStatement new used after around known x (statement_with_marks (marks_of unit program criterion id) k x))
+      → IsReached setting.greatest setting.model unit (place.a_statement around x) known → Unused used k (length (in_statement x))
+      → Marked used k (length (in_statement x)) (λ after. AddsToStatement new used after around known x (statement_with_marks (marks_of unit program criterion id) k x))
 
   of_body : {deep : ℕ} (used : List ℕ) (around : Around) (start : Known) (test : c.Expression) (x : c.Statement) (k : ℕ) → StatementIsAdded (suc deep) around x → start.next ≡ k → IsIn unit k (an_expression stands.in_test test)
       → IsIn unit (k + length (in_expression test)) (a_statement x) → Lies false (suc (suc deep)) start → IsTaken stands.in_test in_test start test → ComesToBody program.facts start around test x
+      → IsReached setting.greatest setting.model unit (place.an_expression as_truth test) start
+      → ((p : Typed) (next : Known) → expression test as_truth start ≡ Goes p next → IsReached setting.greatest setting.model unit (place.a_statement around x) (in_new_block next))
       → Unused used k (length (in_expression test ++ in_statement x)) → Marked used k (length (in_expression test ++ in_statement x)) (λ after. TestAndBody used after around start test x k)
-  of_body used around start test x k of_x at is there lies taken comes unused =
+  of_body used around start test x k of_x at is there lies taken comes reached body_reached unused =
       let first = comes.0 in
       let j : ℕ = k + length (in_expression test) in
       let l : Lies false _ first.behind = lies_behind (kept.of_expression test as_truth start lies) first.goes in
       two id (objectives unit program criterion) used k (in_expression test) (in_statement x) unused
-      (of_expression setting added stands.in_test in_test used start test k at is a_test lies first taken)
+      (of_expression setting added stands.in_test in_test used start test k at is a_test lies first reached taken)
       (λ between p. of_x between (in_new_block first.behind) j
       (numbering.behind first.found first.behind (numbering.of_expression numbered_parts test as_truth start) first.goes ∙ ap (λ n. n + length (in_expression test)) at) there (l.0, ap suc l.1)
-      (comes.1 first.found first.behind first.goes))
+      (comes.1 first.found first.behind first.goes) (body_reached first.found first.behind first.goes))
       (λ between after p q. record {
         between = between;
         test_added = p;
@@ -314,18 +336,19 @@ module _ {new : ℕ → Bool} {unit : c.Unit} {program : Program} {criterion : C
 
   of_for : {deep : ℕ} (used : List ℕ) (around : Around) (known : Known) (begin : c.ForStart) (test step : Option c.Expression) (x : c.Statement) (k : ℕ) → StatementIsAdded (suc (suc deep)) (in_a_loop around) x → known.next ≡ k
       → IsIn unit k (a_statement (c.For begin test step x)) → Lies false (suc (suc deep)) known → ComesTo program.facts known (statement (c.For begin test step x) around known)
-      → Unused used k (length (in_statement (c.For begin test step x)))
+      → IsReached setting.greatest setting.model unit (place.a_statement around (c.For begin test step x)) known → Unused used k (length (in_statement (c.For begin test step x)))
       → Marked used k (length (in_statement (c.For begin test step x))) (λ after. AddsToStatement new used after around known (c.For begin test step x) (statement_with_marks (marks_of unit program criterion id) k (c.For begin test step x)))
-  of_for used around known begin test step x k of_x at is lies comes unused =
+  of_for used around known begin test step x k of_x at is lies comes reached unused =
       let start : Known = in_new_block (entered known) in
       let head = heads known around begin test step x k at lies comes in
       let them = objectives unit program criterion in
       in_node id them used k (length (in_start begin ++ in_optional test ++ in_optional step ++ in_statement x)) unused
       (λ unused. two id them used (k + 1) (in_start begin ++ in_optional test ++ in_optional step) (in_statement x) unused
-      (of_head used around known begin test step x k at is lies comes)
+      (of_head used around known begin test step x k at is lies comes reached)
       (λ third d. from_there id them third (length (in_statement x)) (behind_three k (in_start begin) (in_optional test) (in_optional step))
       (of_x third (in_new_block head.q.behind) (k + 1 + length (in_start begin) + length (in_optional test) + length (in_optional step)) head.q_at
-      (a_piece is (body_there k begin test step x)) (head.q_lies.0, ap suc head.q_lies.1) head.body))
+      (a_piece is (body_there k begin test step x)) (head.q_lies.0, ap suc head.q_lies.1) head.body
+      (a_part reached (place.for_body head.b.goes head.p.goes head.q.goes))))
       (λ third after d e. adds.For d.first.start_added d.first.test_added d.step_added
       (λ i p q next last end f g h. found_only head.b
       (λ i next. (p : Option Typed) (last : Known) → optional_test test next ≡ Goes p last → (q : Option Typed) (end : Known) → optional_expression step last ≡ Goes q end
@@ -343,36 +366,40 @@ module _ {new : ℕ → Bool} {unit : c.Unit} {program : Program} {criterion : C
 
   mutual
     of_statement : {deep : ℕ} (used : List ℕ) (around : Around) (known : Known) (x : c.Statement) (k : ℕ) → known.next ≡ k → IsIn unit k (a_statement x) → Lies false (suc (suc deep)) known
-        → ComesTo program.facts known (statement x around known) → Unused used k (length (in_statement x))
+        → ComesTo program.facts known (statement x around known) → IsReached setting.greatest setting.model unit (place.a_statement around x) known → Unused used k (length (in_statement x))
         → Marked used k (length (in_statement x)) (λ after. AddsToStatement new used after around known x (statement_with_marks (marks_of unit program criterion id) k x))
-    of_statement used around known (c.Compound list) k at is lies comes unused =
+    of_statement used around known (c.Compound list) k at is lies comes reached unused =
         in_node id (objectives unit program criterion) used k (length (in_items list)) unused
-        (of_items used around (in_new_block (entered known)) list (k + 1) (ap (λ n. n + 1) at) (a_piece is (inl refl)) (lies.0, ap suc lies.1) (statements_are_come_to.0 program.facts known around (c.Compound list) comes))
+        (of_items used around (in_new_block (entered known)) list (k + 1) (ap (λ n. n + 1) at) (a_piece is (inl refl)) (lies.0, ap suc lies.1) (statements_are_come_to.0 program.facts known around (c.Compound list) comes)
+        (a_part reached place.in_compound))
         (λ after it. adds.Compound it)
-    of_statement used around known (c.Evaluates e) k at is lies comes unused =
+    of_statement used around known (c.Evaluates e) k at is lies comes reached unused =
         in_node id (objectives unit program criterion) used k (length (in_expression e)) unused
         (of_expression setting added stands.as_value (in_use as_value) used (entered known) e (k + 1) (ap (λ n. n + 1) at) (a_piece is (inl refl)) a_value lies
-        (statements_are_come_to.0 program.facts known around (c.Evaluates e) comes) tt)
+        (statements_are_come_to.0 program.facts known around (c.Evaluates e) comes) (a_part reached place.evaluated) tt)
         (λ after it. adds.Evaluates it)
-    of_statement used around known c.Null k at is lies comes unused = nothing id (objectives unit program criterion) used k 1 adds.Null
-    of_statement used around known c.Break k at is lies comes unused = nothing id (objectives unit program criterion) used k 1 adds.Break
-    of_statement used around known c.Continue k at is lies comes unused = nothing id (objectives unit program criterion) used k 1 adds.Continue
-    of_statement used around known (c.Return e) k at is lies comes unused =
+    of_statement used around known c.Null k at is lies comes reached unused = nothing id (objectives unit program criterion) used k 1 adds.Null
+    of_statement used around known c.Break k at is lies comes reached unused = nothing id (objectives unit program criterion) used k 1 adds.Break
+    of_statement used around known c.Continue k at is lies comes reached unused = nothing id (objectives unit program criterion) used k 1 adds.Continue
+    of_statement used around known (c.Return e) k at is lies comes reached unused =
         in_node id (objectives unit program criterion) used k (length (in_optional e)) unused
         (of_optional used (entered known) e (k + 1) (ap (λ n. n + 1) at) (λ x some. a_piece is (subst (λ e. IsAmong (pieces.value (k + 1) x) (pieces.optional_value (k + 1) e)) (sym some) (inl refl))) lies
-        (statements_are_come_to.0 program.facts known around (c.Return e) comes))
+        (statements_are_come_to.0 program.facts known around (c.Return e) comes)
+        (λ x some. a_part (subst (λ e. IsReached setting.greatest setting.model unit (place.a_statement around (c.Return e)) known) some reached) place.returned))
         (λ after it. adds.Return it)
-    of_statement used around known (c.If test x) k at is lies comes unused =
+    of_statement used around known (c.If test x) k at is lies comes reached unused =
         in_node id (objectives unit program criterion) used k (length (in_expression test ++ in_statement x)) unused
-        (of_body used around (in_new_block (entered known)) test x (k + 1) (λ used known k at is lies comes unused. of_statement used around known x k at is lies comes unused) (ap (λ n. n + 1) at) (a_piece is (inl refl)) (a_piece is (inr (inl refl))) (lies.0, ap suc lies.1)
-        (if_taken known test x around comes.goes) (statements_are_come_to.0 program.facts known around (c.If test x) comes))
+        (of_body used around (in_new_block (entered known)) test x (k + 1) (λ used known k at is lies comes reached unused. of_statement used around known x k at is lies comes reached unused) (ap (λ n. n + 1) at) (a_piece is (inl refl)) (a_piece is (inr (inl refl))) (lies.0, ap suc lies.1)
+        (if_taken known test x around comes.goes) (statements_are_come_to.0 program.facts known around (c.If test x) comes)
+        (a_part reached place.if_test) (λ p next goes. a_part reached (place.if_body goes)))
         (λ after it. adds.If it.test_added it.body_added)
-    of_statement used around known (c.While test x) k at is lies comes unused =
+    of_statement used around known (c.While test x) k at is lies comes reached unused =
         in_node id (objectives unit program criterion) used k (length (in_expression test ++ in_statement x)) unused
-        (of_body used (in_a_loop around) (in_new_block (entered known)) test x (k + 1) (λ used known k at is lies comes unused. of_statement used (in_a_loop around) known x k at is lies comes unused) (ap (λ n. n + 1) at) (a_piece is (inl refl)) (a_piece is (inr (inl refl))) (lies.0, ap suc lies.1)
-        (while_taken known test x around comes.goes) (statements_are_come_to.0 program.facts known around (c.While test x) comes))
+        (of_body used (in_a_loop around) (in_new_block (entered known)) test x (k + 1) (λ used known k at is lies comes reached unused. of_statement used (in_a_loop around) known x k at is lies comes reached unused) (ap (λ n. n + 1) at) (a_piece is (inl refl)) (a_piece is (inr (inl refl))) (lies.0, ap suc lies.1)
+        (while_taken known test x around comes.goes) (statements_are_come_to.0 program.facts known around (c.While test x) comes)
+        (a_part reached place.while_test) (λ p next goes. a_part reached (place.while_body goes)))
         (λ after it. adds.While it.test_added it.body_added)
-    of_statement used around known (c.IfElse test x y) k at is lies comes unused =
+    of_statement used around known (c.IfElse test x y) k at is lies comes reached unused =
         let start : Known = in_new_block (entered known) in
         let parts = statements_are_come_to.0 program.facts known around (c.IfElse test x y) comes in
         let first = parts.0.0 in
@@ -385,18 +412,19 @@ module _ {new : ℕ → Bool} {unit : c.Unit} {program : Program} {criterion : C
         let first_at = numbering.behind first.found first.behind (numbering.of_expression numbered_parts test as_truth start) first.goes ∙ ap (λ n. n + 1 + length (in_expression test)) at in
         in_node id them used k (length (in_expression test ++ in_statement x ++ in_statement y)) unused
         (λ unused. two id them used (k + 1) (in_expression test ++ in_statement x) (in_statement y) unused
-        (of_body used around start test x (k + 1) (λ used known k at is lies comes unused. of_statement used around known x k at is lies comes unused) (ap (λ n. n + 1) at) (a_piece is (inl refl)) (a_piece is (inr (inl refl))) (lies.0, ap suc lies.1) (if_else_taken known test x y around comes.goes) parts.0)
+        (of_body used around start test x (k + 1) (λ used known k at is lies comes reached unused. of_statement used around known x k at is lies comes reached unused) (ap (λ n. n + 1) at) (a_piece is (inl refl)) (a_piece is (inr (inl refl))) (lies.0, ap suc lies.1) (if_else_taken known test x y around comes.goes) parts.0
+        (a_part reached place.if_else_test) (λ p next goes. a_part reached (place.if_else_body goes)))
         (λ between p. from_there id them between (length (in_statement y)) (behind_two id them (k + 1) (in_expression test) (in_statement x))
         (of_statement between around (in_new_block last) y j
         (numbering.behind body.found body.behind (numbering.of_statement numbered_parts x around (in_new_block first.behind)) body.goes ∙ ap (λ n. n + length (in_statement x)) first_at)
         (a_piece is (inr (inr (inl refl)))) (let l = block_lies first.behind x around body first_lies in (l.0, ap suc l.1))
-        (parts.1 first.found first.behind first.goes body.found last goes)))
+        (parts.1 first.found first.behind first.goes body.found last goes) (a_part reached (place.else_body first.goes goes))))
         (λ between after p q. adds.IfElse p.test_added p.body_added
         (λ found next s end e f. found_only first
         (λ found next. (s : Statement) (end : Known) → in_block (statement x around) next ≡ Goes s end → AddsToStatement new between after around (in_new_block end) y (statement_with_marks (marks_of unit program criterion id) j y))
         (λ s end f. only_way (λ s end. AddsToStatement new between after around (in_new_block end) y (statement_with_marks (marks_of unit program criterion id) j y)) goes q s end f) found next e s end f)))
         (λ after it. it)
-    of_statement used around known (c.Do x test) k at is lies comes unused =
+    of_statement used around known (c.Do x test) k at is lies comes reached unused =
         let start : Known = in_new_block (entered known) in
         let parts = statements_are_come_to.0 program.facts known around (c.Do x test) comes in
         let body = parts.0 in
@@ -406,15 +434,17 @@ module _ {new : ℕ → Bool} {unit : c.Unit} {program : Program} {criterion : C
         let j : ℕ = k + 1 + length (in_statement x) in
         in_node id them used k (length (in_statement x ++ in_expression test)) unused
         (λ unused. two id them used (k + 1) (in_statement x) (in_expression test) unused
-        (of_statement used (in_a_loop around) (in_new_block start) x (k + 1) (ap (λ n. n + 1) at) (a_piece is (inl refl)) (lies.0, ap suc (ap suc lies.1)) body)
+        (of_statement used (in_a_loop around) (in_new_block start) x (k + 1) (ap (λ n. n + 1) at) (a_piece is (inl refl)) (lies.0, ap suc (ap suc lies.1)) body (a_part reached place.do_body))
         (λ between p. of_expression setting added stands.in_test in_test between last test j
         (numbering.behind body.found body.behind (numbering.of_statement numbered_parts x (in_a_loop around) (in_new_block start)) body.goes ∙ ap (λ n. n + 1 + length (in_statement x)) at)
-        (a_piece is (inr (inl refl))) a_test (block_lies start x (in_a_loop around) body (lies.0, ap suc lies.1)) (parts.1 body.found last goes) (do_taken known test x around comes.goes body.found last goes))
+        (a_piece is (inr (inl refl))) a_test (block_lies start x (in_a_loop around) body (lies.0, ap suc lies.1)) (parts.1 body.found last goes)
+        (a_part reached (place.do_test goes)) (do_taken known test x around comes.goes body.found last goes))
         (λ between after p q. adds.Do p (only_way (λ s next. AddsTo new in_test between after next test (with_marks (marks_of unit program criterion id) j test)) goes q)))
         (λ after it. it)
-    of_statement used around known (c.For begin test step x) k at is lies comes unused =
-        of_for used around known begin test step x k (λ used known k at is lies comes unused. of_statement used (in_a_loop around) known x k at is lies comes unused) at is lies comes unused
-    of_statement used around known (c.Switch e list) k at is lies comes unused =
+    of_statement used around known (c.For begin test step x) k at is lies comes reached unused =
+        of_for used around known begin test step x k (λ used known k at is lies comes reached unused. of_statement used (in_a_loop around) known x k at is lies comes reached unused) at is lies comes
+        reached unused
+    of_statement used around known (c.Switch e list) k at is lies comes reached unused =
         let start : Known = in_new_block (entered known) in
         let parts = statements_are_come_to.0 program.facts known around (c.Switch e list) comes in
         let first = parts.0 in
@@ -423,47 +453,48 @@ module _ {new : ℕ → Bool} {unit : c.Unit} {program : Program} {criterion : C
         let seen : Seen = record { values = []; has_default = false } in
         in_node id them used k (length (in_expression e ++ in_cases list)) unused
         (λ unused. two id them used (k + 1) (in_expression e) (in_cases list) unused
-        (of_expression setting added stands.as_value (in_use as_truth) used start e (k + 1) (ap (λ n. n + 1) at) (a_piece is (inl refl)) a_switch (lies.0, ap suc lies.1) first tt)
+        (of_expression setting added stands.as_value (in_use as_truth) used start e (k + 1) (ap (λ n. n + 1) at) (a_piece is (inl refl)) a_switch (lies.0, ap suc lies.1) first
+        (a_part reached place.switch_operand) tt)
         (λ between p. of_cases between (switch_type first.behind.model first.found) seen (in_a_switch around) first.behind list j
         (numbering.behind first.found first.behind (numbering.of_expression numbered_parts e as_truth start) first.goes ∙ ap (λ n. n + 1 + length (in_expression e)) at) (a_piece is (inr (inl refl)))
-        (lies_behind (kept.of_expression e as_truth start (lies.0, ap suc lies.1)) first.goes) (parts.1 first.found first.behind first.goes))
+        (lies_behind (kept.of_expression e as_truth start (lies.0, ap suc lies.1)) first.goes) (parts.1 first.found first.behind first.goes) (a_part reached (place.switch_cases first.goes)))
         (λ between after p q. adds.Switch p
         (found_only first (λ x next. AddsToCases new between after (switch_type next.model x) seen (in_a_switch around) next list (cases_with_marks (marks_of unit program criterion id) j list)) q)))
         (λ after it. it)
 
     pub of_items : {deep : ℕ} (used : List ℕ) (around : Around) (known : Known) (list : c.Items) (k : ℕ) → known.next ≡ k → IsIn unit k (the_items list) → Lies false (suc (suc deep)) known
-        → ComesTo program.facts known (items list around known) → Unused used k (length (in_items list))
+        → ComesTo program.facts known (items list around known) → IsReached setting.greatest setting.model unit (place.items around list) known → Unused used k (length (in_items list))
         → Marked used k (length (in_items list)) (λ after. AddsToItems new used after around known list (items_with_marks (marks_of unit program criterion id) k list))
-    of_items used around known c.no_items k at is lies comes unused = nothing id (objectives unit program criterion) used k 0 adds.no_items
-    of_items used around known (c.a_declaration d list) k at is lies comes unused =
+    of_items used around known c.no_items k at is lies comes reached unused = nothing id (objectives unit program criterion) used k 0 adds.no_items
+    of_items used around known (c.a_declaration d list) k at is lies comes reached unused =
         let parts = statements_are_come_to.1 program.facts known around (c.a_declaration d list) comes in
         let first = parts.0 in
         let them = objectives unit program criterion in
         let j : ℕ = k + 1 + length (in_declaration d) in
         in_node id them used k (length (in_declaration d ++ in_items list)) unused
         (λ unused. two id them used (k + 1) (in_declaration d) (in_items list) unused
-        (λ unused. of_item used (entered known) d list k (ap (λ n. n + 1) at) is lies first unused (list_any makes_static (storage_of d.specifiers)) refl)
+        (λ unused. of_item used (entered known) d list k (ap (λ n. n + 1) at) is lies first (a_part reached place.an_item_declares) unused (list_any makes_static (storage_of d.specifiers)) refl)
         (λ between p. of_items between around first.behind list j
         (numbering.behind first.found first.behind (numbering.of_declaration_by numbered_parts (λ class. class) d (entered known)) first.goes ∙ ap (λ n. n + 1 + length (in_declaration d)) at) (a_piece is (inr (inl refl)))
-        (lies_behind (keeping.of_declaration_by (λ class. class) d (entered known) lies) first.goes) (parts.1 first.found first.behind first.goes))
+        (lies_behind (keeping.of_declaration_by (λ class. class) d (entered known) lies) first.goes) (parts.1 first.found first.behind first.goes) (a_part reached (place.behind_declaration first.goes)))
         (λ between after p q. adds.a_declaration p
         (found_only first (λ it next. AddsToItems new between after around next list (items_with_marks (marks_of unit program criterion id) j list)) q)))
         (λ after it. it)
-    of_items used around known (c.a_statement x list) k at is lies comes unused =
+    of_items used around known (c.a_statement x list) k at is lies comes reached unused =
         let parts = statements_are_come_to.1 program.facts known around (c.a_statement x list) comes in
         let first = parts.0 in
         let them = objectives unit program criterion in
         let j : ℕ = k + 1 + length (in_statement x) in
         in_node id them used k (length (in_statement x ++ in_items list)) unused
         (λ unused. two id them used (k + 1) (in_statement x) (in_items list) unused
-        (of_statement used around (entered known) x (k + 1) (ap (λ n. n + 1) at) (a_piece is (inl refl)) lies first)
+        (of_statement used around (entered known) x (k + 1) (ap (λ n. n + 1) at) (a_piece is (inl refl)) lies first (a_part reached place.an_item))
         (λ between p. of_items between around first.behind list j
         (numbering.behind first.found first.behind (numbering.of_statement numbered_parts x around (entered known)) first.goes ∙ ap (λ n. n + 1 + length (in_statement x)) at) (a_piece is (inr (inl refl)))
-        (lies_behind (keeping.of_statement x around (entered known) lies) first.goes) (parts.1 first.found first.behind first.goes))
+        (lies_behind (keeping.of_statement x around (entered known) lies) first.goes) (parts.1 first.found first.behind first.goes) (a_part reached (place.behind_statement first.goes)))
         (λ between after p q. adds.a_statement p
         (found_only first (λ s next. AddsToItems new between after around next list (items_with_marks (marks_of unit program criterion id) j list)) q)))
         (λ after it. it)
-    of_items used around known (c.a_label m list) k at is lies comes unused =
+    of_items used around known (c.a_label m list) k at is lies comes reached unused =
         let parts = statements_are_come_to.1 program.facts known around (c.a_label m list) comes in
         let goes = went_on (mark m (entered known)) _ comes.goes in
         let them = objectives unit program criterion in
@@ -473,16 +504,17 @@ module _ {new : ℕ → Bool} {unit : c.Unit} {program : Program} {criterion : C
         (λ unused. second_alone id them used (k + 1) (in_mark m) (in_items list) unused
         (of_items used around goes.1 list j
         (numbering.behind goes.0 goes.1 (numbering.of_mark numbered_parts m (entered known)) goes.2 ∙ ap (λ n. n + 1 + length (in_mark m)) at) (a_piece is (inl refl))
-        (lies_behind (kept.of_mark m (entered known) lies) goes.2) (parts goes.0 goes.1 goes.2))
+        (lies_behind (kept.of_mark m (entered known) lies) goes.2) (parts goes.0 goes.1 goes.2) (a_part reached (place.behind_label goes.2)))
         (λ after q. adds.a_label (old_first new (in_mark m) (in_items list) old)
         (only_way (λ typed next. AddsToItems new used after around next list (items_with_marks (marks_of unit program criterion id) j list)) goes.2 q)))
         (λ after it. it)
 
     of_cases : {deep : ℕ} (used : List ℕ) (type : Option Scalar) (seen : Seen) (around : Around) (known : Known) (list : c.Cases) (k : ℕ) → known.next ≡ k → IsIn unit k (the_cases list)
-        → Lies false (suc (suc deep)) known → ComesTo program.facts known (cases list type seen around known) → Unused used k (length (in_cases list))
+        → Lies false (suc (suc deep)) known → ComesTo program.facts known (cases list type seen around known) → IsReached setting.greatest setting.model unit (place.cases type seen around list) known
+        → Unused used k (length (in_cases list))
         → Marked used k (length (in_cases list)) (λ after. AddsToCases new used after type seen around known list (cases_with_marks (marks_of unit program criterion id) k list))
-    of_cases used type seen around known c.no_cases k at is lies comes unused = nothing id (objectives unit program criterion) used k 0 adds.no_cases
-    of_cases used type seen around known (c.a_case list x rest) k at is lies comes unused =
+    of_cases used type seen around known c.no_cases k at is lies comes reached unused = nothing id (objectives unit program criterion) used k 0 adds.no_cases
+    of_cases used type seen around known (c.a_case list x rest) k at is lies comes reached unused =
         let goes = went_on (labels list type seen known) _ comes.goes in
         let parts = statements_are_come_to.2 program.facts known type seen around (c.a_case list x rest) comes goes.0 goes.1 goes.2 in
         let next : Known = goes.1 in
@@ -497,11 +529,11 @@ module _ {new : ℕ → Bool} {unit : c.Unit} {program : Program} {criterion : C
         let old = old_there new (in_cases (c.a_case list x rest)) setting.old (all_stand unit k (the_cases (c.a_case list x rest)) is).there in
         two id them used k (flat_map in_label list ++ in_statement x) (in_cases rest) unused
         (λ unused. second_alone id them used k (flat_map in_label list) (in_statement x) unused
-        (of_statement used around (in_new_block next) x i next_at (a_piece is (inl refl)) (next_lies.0, ap suc next_lies.1) body) (λ after it. it))
+        (of_statement used around (in_new_block next) x i next_at (a_piece is (inl refl)) (next_lies.0, ap suc next_lies.1) body (a_part reached (place.one_case goes.2))) (λ after it. it))
         (λ between p. from_there id them between (length (in_cases rest)) (behind_two id them k (flat_map in_label list) (in_statement x))
         (of_cases between type goes.0.seen around last rest j
         (numbering.behind body.found body.behind (numbering.of_statement numbered_parts x around (in_new_block next)) body.goes ∙ ap (λ n. n + length (in_statement x)) next_at) (a_piece is (inr (inl refl)))
-        (block_lies next x around body next_lies) (parts.1 body.found last there)))
+        (block_lies next x around body next_lies) (parts.1 body.found last there) (a_part reached (place.more_cases goes.2 there))))
         (λ between after p q. adds.a_case (old_first new (flat_map in_label list) (in_statement x) (old_first new (flat_map in_label list ++ in_statement x) (in_cases rest) old))
         (only_way (λ it next. AddsToStatement new used between around (in_new_block next) x (statement_with_marks (marks_of unit program criterion id) i x)) goes.2 p)
         (λ it s next last e f. only_way

@@ -15,7 +15,7 @@ use Rattle.lt_objective_places.specs.Stands.{Role}
 use Rattle.lt_objective_places.specs.Pieces.{an_expression, IsIn}
 use Rattle.lt_mark_typing.specs.Beside.{Position, in_use, in_test, use_of}
 use Rattle.lt_mark_typing.specs.Placed.{AreOld, IsNoNull, AddsTo, AddsToParts, as_it_is, in_parts}
-use Rattle.lt_mark_typing.proofs.Unchanged.{old_first}
+use Rattle.lt_mark_typing.proofs.Nodes.{old_first}
 use Rattle.lt_typed_nodes.specs.Coming.{ComesToIt}
 use Rattle.lt_objective_marks.specs.Settings.{Setting, AreUnused, AddsIdsOf, IsAdded, Fits, a_truth, a_value, a_switch, a_callee, a_place, a_marked_place}
 use Rattle.lt_objective_marks.proofs.Given.{Given}

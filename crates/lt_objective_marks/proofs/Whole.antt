@@ -22,8 +22,10 @@ use Rattle.lt_objective_places.specs.Pieces.{an_expression, IsIn}
 use Rattle.lt_mark_typing.specs.Beside.{is_used, Position, in_use, in_test, use_of}
 use Rattle.lt_mark_typing.specs.Placed.{AddsTo, AreNewLabels, IsNoNull, IsMarkable, is_good_type, takes_labels}
 use Rattle.lt_mark_typing.specs.Placed as placed
-use Rattle.lt_erased_typing.specs.Erasable.{CanBeErased}
+use Rattle.lt_erased_typing.specs.Simple.{IsSimpleWith}
 use Rattle.lt_typed_nodes.specs.Coming.{ComesTo, ComesToIt}
+use Rattle.lt_typed_nodes.specs.Reaching as place
+use Rattle.lt_typed_nodes.specs.Reaching.{IsReached}
 use Rattle.lt_sites.proofs.Nodes.{expression_node}
 use Rattle.lt_objective_marks.specs.Settings.{marks_of, Setting, IsIdAt, AreUnused, AddsIdsOf, IsAdded, Fits, a_test, a_truth, a_value, a_switch, a_callee, a_place, a_marked_place, IsTaken}
 use Rattle.lt_objective_marks.proofs.Given.{Given}
@@ -72,6 +74,7 @@ module _ (g : Given) {new : ℕ → Bool} {unit : c.Unit} {program : Program} {c
     pub fits : Fits role position
     pub marked : known.is_unmarked ≡ false
     pub comes : ComesToIt program.facts known (use_of position) e
+    pub reached : IsReached s.greatest s.model unit (place.an_expression (use_of position) e) known
     pub taken : IsTaken role position known e
 
   -- with the marks of its parts, but not its own
@@ -85,7 +88,7 @@ module _ (g : Given) {new : ℕ → Bool} {unit : c.Unit} {program : Program} {c
 
   -- labels that are new in front of it: none, or such as may stand there
   abbrev pub Stand : Role → Known → c.Expression → Type 0
-  Stand role known e = (labels in_front new_marks known.next ≡ c.no_marks) ⊎ ((it : Objective) × MayStand unit program criterion role known.next e it in_front × CanBeErased as_value known e)
+  Stand role known e = (labels in_front new_marks known.next ≡ c.no_marks) ⊎ ((it : Objective) × MayStand unit program criterion role known.next e it in_front × IsSimpleWith true known.frames e)
 
   -- an expression whose labels are apart
   pub record Split (role : Role) (position : Position) (used : List ℕ) (known : Known) (e : c.Expression) : Type 0 where
@@ -203,12 +206,12 @@ module _ (g : Given) {new : ℕ → Bool} {unit : c.Unit} {program : Program} {c
       by_labels none (unlabelled bare) =
           let inside = with_inside used none (inner role position used known h (inside_unused new_marks used known.next (length (in_expression e)) unused)) in
           as_unlabelled bare (inside.0, inside.1, inside_added new_marks used inside.0 known.next (length (in_expression e)) inside.2)
-      by_labels none (labelled between fresh ids it may erasable) =
+      by_labels none (labelled between fresh ids it may simple) =
           let inside = with_inside between none (inner role position between known h (behind_labels used between known.next (length (in_expression e)) unused ids)) in
           record {
             between = between;
             labels = fresh;
-            stand = inr (it, may, erasable);
+            stand = inr (it, may, simple);
             after = inside.0;
             added = inside.1;
             ids = all_ids used between inside.0 known.next (length (in_expression e)) (some_nodes e) ids inside.2;
@@ -216,7 +219,7 @@ module _ (g : Given) {new : ℕ → Bool} {unit : c.Unit} {program : Program} {c
 
       by_decision : Around g s known.next role e → Split role position used known e
       by_decision (undecided none) =
-          by_labels none (own_labels g s role e known h.isin used (comes_as_value role position known e h other) (first_unused new_marks used known.next (length (in_expression e)) (some_nodes e) unused))
+          by_labels none (own_labels g s role e known h.isin (use_of position) h.reached used (comes_as_value role position known e h other) (first_unused new_marks used known.next (length (in_expression e)) (some_nodes e) unused))
       by_decision (decided_there tested can bare j are first last at) =
           as_unlabelled bare (decide_around role position used known e h unused (inner role position used known h (inside_unused new_marks used known.next (length (in_expression e)) unused)) tested j are first last at)
 
@@ -225,7 +228,7 @@ module _ (g : Given) {new : ℕ → Bool} {unit : c.Unit} {program : Program} {c
   -- a value that labels are in front of is an integer, which is neither a call's nor converted
   abbrev pub ValuesAreMarkable : Type 0
   ValuesAreMarkable = (known : Known) (e : c.Expression) (there : ComesToIt program.facts known as_value e) (it : Objective) → IsIn unit known.next (an_expression stands.as_value e)
-      → MayStand unit program criterion stands.as_value known.next e it in_front → CanBeErased as_value known e → (is_integer (own_type there.found) ≡ true) × (is_made_plainly e ≡ true)
+      → MayStand unit program criterion stands.as_value known.next e it in_front → IsSimpleWith true known.frames e → (is_integer (own_type there.found) ≡ true) × (is_made_plainly e ≡ true)
 
   -- a value with labels in front of it is no null pointer constant
   not_null : (taken : Use) (known : Known) (e : c.Expression) → is_truth taken ≡ false → IsIn unit known.next (an_expression stands.as_value e) → (comes : ComesToIt program.facts known taken e)
@@ -247,11 +250,11 @@ module _ (g : Given) {new : ℕ → Bool} {unit : c.Unit} {program : Program} {c
 
   value_is_good : ValuesAreMarkable → (taken : Use) (position : Position) (known : Known) (e : c.Expression) → position ≡ in_use taken → is_valued taken ≡ true → IsIn unit known.next (an_expression stands.as_value e)
       → ComesToIt program.facts known taken e → (there : ComesToIt program.facts known as_value e) → expression e taken known ≡ expression e as_value known
-      → (labels in_front new_marks known.next ≡ c.no_marks → ⊥) → (it : Objective) → MayStand unit program criterion stands.as_value known.next e it in_front → CanBeErased as_value known e → IsGood (in_use taken) known e
-  value_is_good markable taken position known e position_is valued isin comes there same some it may erasable x next goes =
+      → (labels in_front new_marks known.next ≡ c.no_marks → ⊥) → (it : Objective) → MayStand unit program criterion stands.as_value known.next e it in_front → IsSimpleWith true known.frames e → IsGood (in_use taken) known e
+  value_is_good markable taken position known e position_is valued isin comes there same some it may simple x next goes =
       let found : x ≡ there.found = same_found (sym same ∙ goes) there.goes in
       let found_here : x ≡ comes.found = same_found goes comes.goes in
-      let good = markable known e there it isin may erasable in
+      let good = markable known e there it isin may simple in
       let integer : is_integer (own_type x) ≡ true = ap (λ (y : Typed). is_integer (own_type y)) found ∙ good.0 in
       let value = value_found taken valued e known next x goes in (
         no_null_here taken known e isin comes some x found_here,
@@ -260,9 +263,9 @@ module _ (g : Given) {new : ℕ → Bool} {unit : c.Unit} {program : Program} {c
       )
 
   is_good : ValuesAreMarkable → (role : Role) (position : Position) (known : Known) (e : c.Expression) → Here role position known e → (role ≡ stands.in_truth → ⊥) → (position ≡ in_use as_callee → ⊥)
-      → (labels in_front new_marks known.next ≡ c.no_marks → ⊥) → (it : Objective) → MayStand unit program criterion role known.next e it in_front → CanBeErased as_value known e
+      → (labels in_front new_marks known.next ≡ c.no_marks → ⊥) → (it : Objective) → MayStand unit program criterion role known.next e it in_front → IsSimpleWith true known.frames e
       → (takes_labels position ≡ true) × IsGood position known e
-  is_good markable role position known e h no_truth other some it may erasable = by h.fits h.isin h.comes h.taken no_truth other may
+  is_good markable role position known e h no_truth other some it may simple = by h.fits h.isin h.comes h.taken no_truth other may
     where
       by : {role : Role} {position : Position} → Fits role position → IsIn unit known.next (an_expression role e) → ComesToIt program.facts known (use_of position) e → IsTaken role position known e
           → (role ≡ stands.in_truth → ⊥) → (position ≡ in_use as_callee → ⊥) → MayStand unit program criterion role known.next e it in_front → (takes_labels position ≡ true) × IsGood position known e
@@ -276,9 +279,9 @@ module _ (g : Given) {new : ℕ → Bool} {unit : c.Unit} {program : Program} {c
         ),
       )
       by a_truth isin comes taken no_truth other may = absurd (no_truth refl)
-      by a_value isin comes taken no_truth other may = (refl, value_is_good markable as_value (in_use as_value) known e refl refl isin comes comes refl some it may erasable)
+      by a_value isin comes taken no_truth other may = (refl, value_is_good markable as_value (in_use as_value) known e refl refl isin comes comes refl some it may simple)
       by a_switch isin comes taken no_truth other may =
-          (refl, value_is_good markable as_truth (in_use as_truth) known e refl refl isin comes (truth_of_value g program.facts known e may.0 comes) (g.truths known e may.0) some it may erasable)
+          (refl, value_is_good markable as_truth (in_use as_truth) known e refl refl isin comes (truth_of_value g program.facts known e may.0 comes) (g.truths known e may.0) some it may simple)
       by a_callee isin comes taken no_truth other may = absurd (other refl)
       by a_place isin comes taken no_truth other may = absurd may.2
       by a_marked_place isin comes taken no_truth other may = absurd may.2

@@ -13,15 +13,18 @@ use Rattle.lt_objective_places.specs.Pieces.{an_expression, IsIn}
 use Rattle.lt_mark_typing.specs.Beside.{Position, in_use, use_of}
 use Rattle.lt_mark_typing.specs.Placed.{AddsTo}
 use Rattle.lt_typed_nodes.specs.Coming.{ComesToIt}
+use Rattle.lt_typed_nodes.specs.Reaching as place
+use Rattle.lt_typed_nodes.specs.Reaching.{IsReached}
 use Rattle.lt_objective_marks.specs.Settings.{marks_of, Setting, AreUnused, IsAdded, Fits, IsTaken}
 
 -- An expression of a unit to which typing comes, outside of constants and operands of `sizeof`, with the marks of objectives: each stands where it may. (What is
 -- called, and what stands in a `pc_after` in a test, have theirs as parts of what stands around them.)
 abbrev pub ObjectivesAreAddedToExpressions : Type 0
 ObjectivesAreAddedToExpressions =
-    (new : ℕ → Bool) (unit : c.Unit) (program : Program) (criterion : Criterion) (id : ℕ) → Setting new unit program criterion id
+    (new : ℕ → Bool) (unit : c.Unit) (program : Program) (criterion : Criterion) (id : ℕ) (setting : Setting new unit program criterion id)
     → (role : Role) (position : Position) (used : List ℕ) (known : Known) (e : c.Expression)
-    → IsIn unit known.next (an_expression role e) → Fits role position → known.is_unmarked ≡ false → ComesToIt program.facts known (use_of position) e → IsTaken role position known e
+    → IsIn unit known.next (an_expression role e) → Fits role position → known.is_unmarked ≡ false → ComesToIt program.facts known (use_of position) e
+    → IsReached setting.greatest setting.model unit (place.an_expression (use_of position) e) known → IsTaken role position known e
     → (role ≡ stands.in_truth → ⊥) → (position ≡ in_use as_callee → ⊥)
     → AreUnused (marks_of unit program criterion id) used known.next (length (in_expression e))
     → IsAdded (marks_of unit program criterion id) used known.next (length (in_expression e))

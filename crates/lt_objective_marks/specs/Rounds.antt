@@ -12,9 +12,9 @@ use Rattle.lt_objectives.specs.Criteria.{criteria_in}
 use Rattle.lt_objectives.specs.Objectives.{objectives}
 use Rattle.lt_objectives.specs.Marked.{marked_by, marked}
 use Rattle.lt_survey.specs.Marking.{next_behind}
-use Rattle.lt_mark_laws.specs.MarkedRuns.{is_from, RunsAs}
 use Rattle.lt_mark_typing.specs.Placed.{AreOld}
 use Rattle.lt_mark_typing.specs.PlacedUnits.{AddsToUnit}
+use Rattle.lt_mark_typing.specs.MarkedRuns.{is_from, RunsAs}
 use Rattle.lt_erased_typing.specs.CopiedExpressions.{AllCopiesAreSimple}
 
 -- ---- what was made of a first unit

@@ -33,8 +33,8 @@ pub record Setting (new : ℕ → Bool) (unit : c.Unit) (program : Program) (cri
   pub first : 1 ≤ id
   pub last : next_id id (objectives unit program criterion) ≤ suc greatest_label_id
   pub fresh : (n : ℕ) → id ≤ n → n < next_id id (objectives unit program criterion) → new n ≡ true
-  -- an expression with an objective in front of it is simple
-  pub copies : CopiesAreSimple unit program criterion
+  -- an expression with an objective in front of it is simple where typing comes to it
+  pub copies : CopiesAreSimple greatest model unit program criterion
 
 -- ---- ids
 

@@ -8,19 +8,17 @@ ghost use Rattle.lt_objective_marks.specs.Rounds.{
 };
 ghost use Rattle.lt_objective_marks.specs.Units.{MarkedUnitsRunAsTheyDid, ObjectivesAreAdded};
 
-use lt_erased_typing::{
-    copies_can_be_erased, operands_keep_their_types, pure_expressions_are_typed_without_marks,
-    truths_are_typed_as_values,
-};
+use lt_erased_typing::{literals_are_typed_without_marks, truths_are_typed_as_values};
 use lt_kept_facts::{marked_units_know_the_same, objectives_are_found_by_either};
 use lt_made_types::no_test_is_a_pointer_to_a_function;
-use lt_mark_typing::{marked_units_run_the_same, units_are_typed_again};
+use lt_mark_typing::units_are_typed_again;
+use lt_marked_runs::{programs_are_made_in_steps, programs_run_beside};
 use lt_objective_places::{
     constants_are_closed, marks_are_of_one_node, objectives_stand_where_they_may, pieces_stand,
 };
 use lt_objective_typing::{
     decisions_give_predicates, domains_give_predicates, labels_of_objectives_are_new,
-    mutants_give_predicates, objectives_have_predicates,
+    marked_expressions_have_predicates, mutants_give_predicates,
 };
 use lt_tree_laws::nodes_are_numbered;
 use lt_typed_nodes::{constants_stay, operands_have_their_types, parts_are_come_to};
@@ -33,16 +31,14 @@ pub fn objectives_are_added_to_expressions()
     pieces_stand();
     objectives_stand_where_they_may();
     marks_are_of_one_node();
-    objectives_have_predicates();
+    marked_expressions_have_predicates();
     labels_of_objectives_are_new();
-    pure_expressions_are_typed_without_marks();
-    operands_keep_their_types();
     truths_are_typed_as_values();
     operands_have_their_types();
     parts_are_come_to();
     constants_stay();
     constants_are_closed();
-    copies_can_be_erased();
+    literals_are_typed_without_marks();
     no_test_is_a_pointer_to_a_function();
 }
 
@@ -61,8 +57,10 @@ pub fn objectives_are_added()
 pub fn marked_units_run_as_they_did()
     ensures { MarkedUnitsRunAsTheyDid }
 {
-    marked_units_run_the_same();
     objectives_are_added();
+    units_are_typed_again();
+    programs_are_made_in_steps();
+    programs_run_beside();
 }
 
 /// The program of the first unit gives the objectives of a unit that was made of it in rounds.
@@ -85,7 +83,8 @@ pub fn rounds_run_as_they_did()
     domains_give_predicates();
     objectives_are_added();
     units_are_typed_again();
-    marked_units_run_the_same();
+    programs_are_made_in_steps();
+    programs_run_beside();
 }
 
 /// So does a unit with the marks of a set of criteria, whose ids go on from the greatest of the unit.

@@ -2,7 +2,7 @@
 use Rattle.std.proofs.Common.{◌≡◌, ℕ, suc, List, [], ◌∷◌, Option, None, Bool, true, false, refl, sym, ap, ◌∙◌, subst}
 use Rattle.std.proofs.lemmas.Bool.{false≢true}
 use Rattle.std.proofs.lemmas.List.{map-append}
-use Rattle.std.specs.Prelude.{◌++◌, ◌+◌, ◌-◌, ◌&&◌, if◌then◌else◌, length, map, nat_lt}
+use Rattle.std.specs.Prelude.{◌++◌, ◌+◌, ◌-◌, if◌then◌else◌, length, map, nat_lt}
 use Rattle.std.specs.List.{AllByRecursion}
 use Rattle.lt_tree.specs.declared.expression.LogicalOp.{LogicalOp}
 use Rattle.lt_tree.specs.declared.expression.LogicalOp.TheVariants as logical
@@ -13,12 +13,13 @@ use Rattle.lt_tree.specs.Nodes.{in_expression}
 use Rattle.lt_tree.specs.Purity.{is_pure}
 use Rattle.lt_tree.specs.Typing.Types.{is_integer, is_scalar}
 use Rattle.lt_tree.specs.Typing.Entities.{Known}
-use Rattle.lt_objectives.specs.Decisions.{Test, test_at, clauses_of, clause_list, clause_count, with_clause, determination, negation, conjunction, inequality, zero_constant, one, conjunctions_from, conjunctions, active_from, active_clauses}
+use Rattle.lt_objectives.specs.Decisions.{Test, clauses_of, clause_list, clause_count, with_clause, determination, negation, conjunction, zero_constant, one, conjunctions_from, conjunctions, active_from}
 use Rattle.lt_mark_laws.proofs.TypeLists.{all_first, all_second, all_both}
 use Rattle.lt_mark_typing.specs.Placed.{IsThere}
-use Rattle.lt_mark_typing.proofs.Quiet.{and_first, and_second}
-use Rattle.lt_mark_typing.proofs.Predicates.{negated, connected, operated, integer_there}
+use Rattle.lt_mark_typing.specs.Laws.{PredicatesAreMade}
 use Rattle.lt_objective_typing.specs.Laws.{ArePredicates, DecisionsGivePredicates}
+use Rattle.lt_objective_typing.proofs.Both.{and_first, and_second}
+use Rattle.lt_objective_typing.proofs.Made.{negated, connected, operated, integer_there}
 use Rattle.lt_objective_typing.proofs.Constants.{zero_there, one_there}
 
 -- ---- the clauses of expressions without marks
@@ -79,7 +80,7 @@ clauses_of_two op {left} {right} v w =
     ∙ ap (λ xs. xs ++ map expression_of (clauses_of None (1 + length (in_expression left)) right)) (clauses_same v None None 1 0)
     ∙ ap (λ ys. clause_list left ++ ys) (clauses_same w None None (1 + length (in_expression left)) 0)
 
-module _ (new : ℕ → Bool) (used : List ℕ) (known : Known) where
+module _ (made : PredicatesAreMade) (new : ℕ → Bool) (used : List ℕ) (known : Known) where
   abbrev There : c.Expression → Type 0
   There e = IsThere is_scalar new used known e
 
@@ -100,34 +101,34 @@ module _ (new : ℕ → Bool) (used : List ℕ) (known : Known) where
 
   whole : {d : c.Expression} → Clauses d → AllThere d → IsThere is_scalar new used known d
   whole (two {op} {left} {right} v w) all =
-      integer_there (c.Logical op left right) (connected op left right (whole v (left_there op v w all)) (whole w (right_there op v w all)))
-  whole (opposite {e} v) all = integer_there (negation e) (negated e (whole v (operand_there v all)))
+      integer_there made (c.Logical op left right) (connected made op left right (whole v (left_there op v w all)) (whole w (right_there op v w all)))
+  whole (opposite {e} v) all = integer_there made (negation e) (negated made e (whole v (operand_there v all)))
   whole (alone {e} f g) all = (subst (AllByRecursion (IsThere is_scalar new used known)) (f None 0) all).0
 
   either : (b : Bool) (op : LogicalOp) (left right p q : c.Expression) → IsThere is_scalar new used known left → IsThere is_scalar new used known right → IsThere is_integer new used known p → IsThere is_integer new used known q
       → IsThere is_integer new used known (if b then c.Logical op p right else c.Logical op left q)
-  either true op left right p q l r m n = connected op p right (integer_there p m) r
-  either false op left right p q l r m n = connected op left q l (integer_there q n)
+  either true op left right p q l r m n = connected made op p right (integer_there made p m) r
+  either false op left right p q l r m n = connected made op left q l (integer_there made q n)
 
   replaced : {d : c.Expression} → Clauses d → AllThere d → (n : ℕ) (by : c.Expression) → IsThere is_integer new used known by → IsThere is_integer new used known (with_clause n by d)
   replaced (two {op} {left} {right} v w) all n by i =
       let l = left_there op v w all in
       let r = right_there op v w all in
       either (nat_lt n (clause_count left)) op left right (with_clause n by left) (with_clause (n - clause_count left) by right) (whole v l) (whole w r) (replaced v l n by i) (replaced w r (n - clause_count left) by i)
-  replaced (opposite {e} v) all n by i = negated (with_clause n by e) (integer_there (with_clause n by e) (replaced v (operand_there v all) n by i))
+  replaced (opposite {e} v) all n by i = negated made (with_clause n by e) (integer_there made (with_clause n by e) (replaced v (operand_there v all) n by i))
   replaced (alone f g) all n by i = subst (IsThere is_integer new used known) (sym (g n by)) i
 
   determined : {d : c.Expression} → Clauses d → AllThere d → (n : ℕ) → IsThere is_scalar new used known (determination n d)
   determined {d} v all n =
-      integer_there (determination n d) (operated O.Ne (with_clause n one d) (with_clause n zero_constant d) (replaced v all n one one_there) (replaced v all n zero_constant zero_there))
+      integer_there made (determination n d) (operated made O.Ne (with_clause n one d) (with_clause n zero_constant d) (replaced v all n one (one_there made)) (replaced v all n zero_constant (zero_there made)))
 
   -- ---- combinations
 
   opposite_there : (e : c.Expression) → There e → There (negation e)
-  opposite_there e h = integer_there (negation e) (negated e h)
+  opposite_there e h = integer_there made (negation e) (negated made e h)
 
   both_there : (left right : c.Expression) → There left → There right → There (conjunction left right)
-  both_there left right h g = integer_there (conjunction left right) (connected logical.And left right h g)
+  both_there left right h g = integer_there made (conjunction left right) (connected made logical.And left right h g)
 
   from : (made : c.Expression) (list : List c.Expression) → There made → ArePredicates new used known list → ArePredicates new used known (conjunctions_from made list)
   from made [] h all = (h, tt)
@@ -147,8 +148,8 @@ module _ (new : ℕ → Bool) (used : List ℕ) (known : Known) where
     (both_there (negation e) (determination n d) (opposite_there e them.0) (determined v all n), active v all (suc n) es them.1),
   )
 
-pub of_decisions : DecisionsGivePredicates
-of_decisions new used known d h all =
+pub of_decisions : PredicatesAreMade → DecisionsGivePredicates
+of_decisions made new used known d h all =
     let v = clauses_in d h in
-    let it = whole new used known v all in
-    ((it, (opposite_there new used known d it, tt)), combined new used known (clause_list d) all, active new used known v all 0 (clause_list d) all)
+    let it = whole made new used known v all in
+    ((it, (opposite_there made new used known d it, tt)), combined made new used known (clause_list d) all, active made new used known v all 0 (clause_list d) all)

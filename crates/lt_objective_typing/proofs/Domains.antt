@@ -12,8 +12,9 @@ use Rattle.lt_tree.specs.Typing.Entities.{Known}
 use Rattle.lt_objectives.specs.Decisions.{zero_constant}
 use Rattle.lt_objectives.specs.Mutants.{is_signed_integer}
 use Rattle.lt_mark_typing.specs.Placed.{IsThere}
-use Rattle.lt_mark_typing.proofs.Predicates.{operated, integer_there}
+use Rattle.lt_mark_typing.specs.Laws.{PredicatesAreMade}
 use Rattle.lt_objective_typing.specs.Laws.{DomainsGivePredicates}
+use Rattle.lt_objective_typing.proofs.Made.{operated, integer_there}
 use Rattle.lt_objective_typing.proofs.Constants.{zero_there}
 use Rattle.lt_objective_typing.proofs.Equalities.{Equality, equal, unequal, with_null}
 
@@ -27,15 +28,15 @@ signed_is_integer m (Struct n) h = absurd (false≢true h)
 signed_is_integer m (FunctionType t ts dots) h = absurd (false≢true h)
 signed_is_integer m Floating h = absurd (false≢true h)
 
-module _ (new : ℕ → Bool) (used : List ℕ) (known : Known) (e : c.Expression) where
+module _ (made : PredicatesAreMade) (new : ℕ → Bool) (used : List ℕ) (known : Known) (e : c.Expression) where
   abbrev There : c.Expression → Type 0
   There it = IsThere is_scalar new used known it
 
   number : (op : Op) → IsThere is_integer new used known e → There (c.Binary op e zero_constant)
-  number op h = integer_there (c.Binary op e zero_constant) (operated op e zero_constant h zero_there)
+  number op h = integer_there made (c.Binary op e zero_constant) (operated made op e zero_constant h (zero_there made))
 
   pointer : {op : Op} → Equality op → IsThere is_pointer new used known e → There (c.Binary op e zero_constant)
-  pointer {op} o h = integer_there (c.Binary op e zero_constant) (with_null o e h)
+  pointer {op} o h = integer_there made (c.Binary op e zero_constant) (with_null o e h)
 
   by : (v p s i : Bool) → (p ≡ true → IsThere is_pointer new used known e) → (s ≡ true → IsThere is_integer new used known e) → (i ≡ true → IsThere is_integer new used known e)
       → AllByRecursion There
@@ -49,6 +50,6 @@ module _ (new : ℕ → Bool) (used : List ℕ) (known : Known) (e : c.Expressio
   by false false false true f g h = (number O.Eq (h refl), (number O.Gt (h refl), tt))
   by false false false false f g h = tt
 
-pub of_domains : DomainsGivePredicates
-of_domains new used known model t e h g =
-    by new used known e (own_qualifiers t).volatile (is_pointer t) (is_signed_integer model t) (is_integer t) g (λ s. h (signed_is_integer model t s)) h
+pub of_domains : PredicatesAreMade → DomainsGivePredicates
+of_domains made new used known model t e h g =
+    by made new used known e (own_qualifiers t).volatile (is_pointer t) (is_signed_integer model t) (is_integer t) g (λ s. h (signed_is_integer model t s)) h

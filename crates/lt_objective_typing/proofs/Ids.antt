@@ -20,7 +20,7 @@ use Rattle.lt_objectives.specs.Objectives.{Form, at_start, in_front, around, obj
 use Rattle.lt_objectives.specs.Marked.{NewMark, ids_of, numbered, label, labels, is_there, same_form}
 use Rattle.lt_mark_typing.specs.Beside.{is_used}
 use Rattle.lt_mark_typing.specs.Placed.{IsNewId, AreNewLabels}
-use Rattle.lt_mark_typing.proofs.Predicates.{both_true}
+use Rattle.lt_objective_typing.proofs.Both.{both_true}
 use Rattle.lt_objective_typing.specs.Laws.{ArePredicates, AddsIds, LabelsOfObjectivesAreNew}
 
 own : IsNumeralModel (AllDigits 10) (digits_value 10)

@@ -1,3 +1,6 @@
+mod Both
+mod Old
+mod Made
 mod Constants
 mod Clauses
 mod Equalities
@@ -5,7 +8,6 @@ mod Mutants
 mod Domains
 mod Growing
 mod Parts
-mod Old
 mod Places
 mod Marked
 mod Ids

@@ -1,12 +1,12 @@
 -- A pure expression has no mark in it, and so none that is new.
-use Rattle.std.proofs.Common.{◌≡◌, ℕ, List, [], ◌∷◌, ◌++◌, Option, Some, None, Bool, true, false, refl}
+use Rattle.std.proofs.Common.{◌≡◌, ℕ, List, [], ◌∷◌, ◌++◌, Option, Some, None, Bool, true, false}
 use Rattle.std.proofs.lemmas.Bool.{false≢true}
 use Rattle.std.specs.Prelude.{◌&&◌}
 use Rattle.lt_tree.specs.Tree as c
 use Rattle.lt_tree.specs.Purity.{is_pure, are_pure, is_pure_specifiers, are_pure_types, is_pure_type, is_pure_declarator, are_pure_parts, is_pure_maybe, are_pure_parameters, is_pure_parameter_list}
 use Rattle.lt_tree.specs.Nodes.{Node, if_written, in_expression, in_expressions, in_maybe, in_specifiers, in_types, in_type, in_declarator, in_parts, in_parameters, in_parameter_list}
 use Rattle.lt_mark_typing.specs.Placed.{AreOld}
-use Rattle.lt_mark_typing.proofs.Quiet.{and_first, and_second}
+use Rattle.lt_objective_typing.proofs.Both.{and_first, and_second}
 
 module _ (new : ℕ → Bool) where
   both : (xs ys : List Node) → AreOld new xs → AreOld new ys → AreOld new (xs ++ ys)

@@ -1,44 +1,33 @@
 -- The predicates of objectives at a pure expression are typed where it stands.
-use Rattle.std.proofs.Common.{◌≡◌, ℕ, ◌+◌, List, [], ◌∷◌, ◌++◌, Option, Some, None, Bool, true, false, refl, sym, ap, ◌∙◌, subst}
-use Rattle.std.proofs.lemmas.Bool.{false≢true}
-use Rattle.std.proofs.lemmas.List.{map-append}
-use Rattle.std.specs.Prelude.{◌&&◌, if◌then◌else◌, map, length}
+use Rattle.std.proofs.Common.{◌≡◌, ℕ, List, [], ◌∷◌, Option, Some, None, Bool, true, false, refl, sym, ap, subst}
+use Rattle.std.specs.Prelude.{◌&&◌, if◌then◌else◌, map}
 use Rattle.std.specs.List.{AllByRecursion}
 use Rattle.lt_model.specs.declared.scalar.DataModel.{DataModel}
 use Rattle.lt_model.specs.declared.operator.Op.{Op}
-use Rattle.lt_model.specs.declared.operator.Op.TheVariants as O
 use Rattle.lt_tree.specs.declared.expression.LogicalOp.{LogicalOp}
-use Rattle.lt_tree.specs.declared.expression.UnaryOp.TheVariants as unary
 use Rattle.lt_tree.specs.Tree as c
-use Rattle.lt_tree.specs.Nodes.{in_expression}
 use Rattle.lt_tree.specs.Erasure.{erased}
 use Rattle.lt_tree.specs.Purity.{is_pure}
 use Rattle.lt_tree.specs.Typing.Types.{CType, is_scalar, is_integer}
-use Rattle.lt_tree.specs.Typing.Operands.{is_equality}
-use Rattle.lt_tree.specs.Typing.Entities.{Known, Fact}
-use Rattle.lt_tree.specs.Typing.Steps.{Outcome, Goes, goes_on}
-use Rattle.lt_tree.specs.Typing.Expressions.{Typed, as_value, as_truth, own_type, finish}
-use Rattle.lt_tree.specs.Typing.Operations.{judge_not}
-use Rattle.lt_tree.specs.Typing.BinaryOperations.{judge_binary, judge_logical}
+use Rattle.lt_tree.specs.Typing.Entities.{Known}
+use Rattle.lt_tree.specs.Typing.Expressions.{own_type}
 use Rattle.lt_tree.specs.Typing.ExpressionTyping.{expression}
 use Rattle.lt_objectives.specs.declared.criteria.Criterion.{Criterion}
 use Rattle.lt_objectives.specs.declared.criteria.Criterion.TheVariants as C
-use Rattle.lt_objectives.specs.Decisions.{negation, clauses_of, clause_list, conjunctions, active_clauses, has_few_clauses}
-use Rattle.lt_objectives.specs.Mutants.{is_fitting, is_signed_integer, arithmetic_mutants, connector_mutants, relational_mutants}
+use Rattle.lt_objectives.specs.Decisions.{negation, clause_list, conjunctions, active_clauses, has_few_clauses}
+use Rattle.lt_objectives.specs.Mutants.{is_fitting, is_signed_integer, absolute_mutants, arithmetic_mutants, connector_mutants, relational_mutants}
 use Rattle.lt_objectives.specs.Copies.{can_be_copied}
 use Rattle.lt_objectives.specs.Objectives.{Form, in_front, around, Objective, objective, all_at, at_test}
 use Rattle.lt_mark_laws.proofs.TypeLists.{all_both}
-use Rattle.lt_mark_typing.specs.Placed.{AreOld, IsThere}
-use Rattle.lt_mark_typing.proofs.Unchanged.{old_first, old_second}
-use Rattle.lt_mark_typing.proofs.Predicates.{truth_role}
-use Rattle.lt_mark_typing.proofs.Quiet.{and_first, and_second, pure_there}
-use Rattle.lt_objective_typing.proofs.Clauses.{expression_of, Clauses, two, opposite, alone, clauses_in, clauses_same, clauses_of_two, of_decisions}
+use Rattle.lt_mark_typing.specs.Placed.{IsAt, IsThere}
+use Rattle.lt_mark_typing.specs.Laws.{PredicatesAreMade, PureExpressionsAreThere, NamedObjectsAreKnown}
+use Rattle.lt_erased_typing.specs.Literals.{NamesObjects}
+use Rattle.lt_objective_typing.proofs.Clauses.{Clauses, two, opposite, alone, clauses_in, clauses_same, clauses_of_two, of_decisions}
 use Rattle.lt_objective_typing.specs.Laws.{ArePredicates, differences_from, TakesIntegers, ObjectivesHavePredicates}
-use Rattle.lt_objective_typing.proofs.Equalities.{equality_is_integer}
+use Rattle.lt_objective_typing.proofs.Both.{and_first, and_second}
+use Rattle.lt_objective_typing.proofs.Made.{there}
 use Rattle.lt_objective_typing.proofs.Mutants.{arithmetic_if, relational_if, connectors, absolutes}
-use Rattle.lt_objective_typing.proofs.Growing.{of_expression, finished}
-use Rattle.lt_objective_typing.proofs.Old.{no_marks_in}
-use Rattle.lt_objective_typing.proofs.Parts.{GoesTo, operand, inside, both_operands, typed_there, all_numbered, truths_are_scalars, negated_is_scalar}
+use Rattle.lt_objective_typing.proofs.Parts.{IsTyped, typed_at, connected_parts, negated_part, integer_parts, equality_at}
 
 -- what an expression is made of: two operands of an operator, or of a connector, or neither
 data Operators : c.Expression → Type 0 where
@@ -71,119 +60,60 @@ operators_in (c.Marked ms e) = other (λ t u. refl) (λ t u. refl) refl
 operators_in (c.Decide e when_true when_false tag) = other (λ t u. refl) (λ t u. refl) refl
 operators_in (c.After e id tag) = other (λ t u. refl) (λ t u. refl) refl
 
--- ---- the operands of connectors, negations and operators
+-- Where each object that has a name in scope is known, it is of this type here.
+abbrev pub TypedNamed : Known → c.Expression → CType → Type 0
+TypedNamed known e t = NamesObjects known → IsTyped known e t
 
-connected_parts : (op : LogicalOp) (left right : c.Expression) (k : Known) (z : Typed) (n : ℕ) (facts : List Fact) → is_pure (c.Logical op left right) ≡ true → GoesTo k (expression (c.Logical op left right) as_value k) z n facts
-    → (x : Typed) × (y : Typed) × (m : ℕ) × (found : List Fact) × (i : ℕ) × (others : List Fact)
-    × GoesTo k (expression left as_value (inside k)) x m found × GoesTo k (expression right as_value (record k { next = m; facts = found })) y i others
-    × (is_scalar (own_type x) ≡ true) × (is_scalar (own_type y) ≡ true)
-connected_parts op left right k z n facts p e =
-    let l = and_first (is_pure left) (is_pure right) p in
-    let r = and_second (is_pure left) (is_pure right) p in
-    let it = both_operands k as_truth left right (λ x y j. finish k.next as_value (judge_logical op x y) j) z n facts l r (λ x y j. finished k.next as_value (judge_logical op x y) j) e in
-    let later : Known = record k { next = it.4; facts = it.5 } in
-    let scalars = truths_are_scalars op later k.next it.0 it.1 z (record k { next = n; facts = facts }) it.8 in (
-      it.0,
-      it.1,
-      it.2,
-      it.3,
-      it.4,
-      it.5,
-      sym (truth_role left l (inside k)) ∙ it.6,
-      sym (truth_role right r (record k { next = it.2; facts = it.3 })) ∙ it.7,
-      and_first (is_scalar (own_type it.0)) (is_scalar (own_type it.1)) scalars,
-      and_second (is_scalar (own_type it.0)) (is_scalar (own_type it.1)) scalars,
-    )
-
-negated_part : (e : c.Expression) (k : Known) (z : Typed) (n : ℕ) (facts : List Fact) → is_pure e ≡ true → GoesTo k (expression (c.Unary unary.Not e) as_value k) z n facts
-    → (x : Typed) × (m : ℕ) × (found : List Fact) × GoesTo k (expression e as_value (inside k)) x m found × (is_scalar (own_type x) ≡ true)
-negated_part e k z n facts p q =
-    let it = operand (inside k) (λ x j. finish k.next as_value (judge_not x) j) z n facts (expression e as_truth (inside k)) (of_expression e as_truth (inside k) p) (λ x j. finished k.next as_value (judge_not x) j) q in (
-      it.0,
-      it.1,
-      it.2,
-      sym (truth_role e p (inside k)) ∙ it.3,
-      negated_is_scalar (record k { next = it.1; facts = it.2 }) k.next it.0 z (record k { next = n; facts = facts }) it.4,
-    )
-
-binary_parts : (op : Op) (left right : c.Expression) (k : Known) (z : Typed) (n : ℕ) (facts : List Fact) → is_pure (c.Binary op left right) ≡ true → GoesTo k (expression (c.Binary op left right) as_value k) z n facts
-    → (x : Typed) × (y : Typed) × (m : ℕ) × (found : List Fact) × (i : ℕ) × (others : List Fact)
-    × GoesTo k (expression left as_value (inside k)) x m found × GoesTo k (expression right as_value (record k { next = m; facts = found })) y i others
-    × GoesTo k (finish k.next as_value (judge_binary op x y (record k { next = i; facts = others })) (record k { next = i; facts = others })) z n facts
-binary_parts op left right k z n facts p e =
-    both_operands k as_value left right (λ x y j. finish k.next as_value (judge_binary op x y j) j) z n facts (and_first (is_pure left) (is_pure right) p) (and_second (is_pure left) (is_pure right) p)
-    (λ x y j. finished k.next as_value (judge_binary op x y j) j) e
-
-module _ (new : ℕ → Bool) (used' : List ℕ) where
+module _ (made : PredicatesAreMade) (quiet : PureExpressionsAreThere) (named : NamedObjectsAreKnown) (new : ℕ → Bool) (used' : List ℕ) (k : Known) where
   -- ---- the clauses of a decision
 
-  pub clauses_there : {d : c.Expression} → Clauses d → (k : Known) (z : Typed) (n : ℕ) (facts : List Fact) → is_pure d ≡ true → AreOld new (in_expression d) → GoesTo k (expression d as_value k) z n facts → is_scalar (own_type z) ≡ true
-      → AllByRecursion (IsThere is_scalar new used' k) (clause_list d)
-  clauses_there (two {op} {left} {right} v w) k z n facts p h e t =
-      let it = connected_parts op left right k z n facts p e in
-      let l = and_first (is_pure left) (is_pure right) p in
-      let r = and_second (is_pure left) (is_pure right) p in
+  any_type : (test : CType → Bool) (e : c.Expression) → (NamesObjects k → IsAt test k e) → NamesObjects k → (t : CType) × IsTyped k e t
+  any_type test e h w = let it = h w in (own_type it.0, (it.0, it.1, it.2, it.3, it.4, it.5, refl))
+
+  clauses_there : {d : c.Expression} → Clauses d → is_pure d ≡ true → (NamesObjects k → IsAt is_scalar k d) → AllByRecursion (IsThere is_scalar new used' k) (clause_list d)
+  clauses_there (two {op} {left} {right} v w) p h =
+      let parts : NamesObjects k → IsAt is_scalar k left × IsAt is_scalar k right = λ n. let it = any_type is_scalar (c.Logical op left right) h n in connected_parts k n op left right it.0 p it.1 in
       subst (AllByRecursion (IsThere is_scalar new used' k)) (sym (clauses_of_two op v w))
       (all_both (IsThere is_scalar new used' k) (clause_list left) (clause_list right)
-      (all_numbered new used' is_scalar k (k.next + 1) k.facts (clause_list left) (clauses_there v (inside k) it.0 it.2 it.3 l (old_first new (in_expression left) (in_expression right) h.1) it.6 it.8))
-      (all_numbered new used' is_scalar k it.2 it.3 (clause_list right) (clauses_there w (record k { next = it.2; facts = it.3 }) it.1 it.4 it.5 r (old_second new (in_expression left) (in_expression right) h.1) it.7 it.9)))
-  clauses_there (opposite {e} v) k z n facts p h q t =
-      let it = negated_part e k z n facts p q in
+      (clauses_there v (and_first (is_pure left) (is_pure right) p) (λ n. (parts n).0)) (clauses_there w (and_second (is_pure left) (is_pure right) p) (λ n. (parts n).1)))
+  clauses_there (opposite {e} v) p h =
       subst (AllByRecursion (IsThere is_scalar new used' k)) (sym (clauses_same v None None 1 0))
-      (all_numbered new used' is_scalar k (k.next + 1) k.facts (clause_list e) (clauses_there v (inside k) it.0 it.1 it.2 p h.1 it.3 it.4))
-  clauses_there (alone {e} f g) k z n facts p h q t = subst (AllByRecursion (IsThere is_scalar new used' k)) (sym (f None 0)) (pure_there is_scalar k e z n facts p h q t, tt)
-
-  -- ---- the operands of an operator
-
-  integers_there : (op : Op) (left right : c.Expression) (k : Known) (z : Typed) (n : ℕ) (facts : List Fact) → is_pure (c.Binary op left right) ≡ true → AreOld new (in_expression (c.Binary op left right))
-      → GoesTo k (expression (c.Binary op left right) as_value k) z n facts → TakesIntegers k (c.Binary op left right) → IsThere is_integer new used' k left × IsThere is_integer new used' k right
-  integers_there op left right k z n facts p h e t =
-      let it = binary_parts op left right k z n facts p e in
-      let integers = t it.0 it.1 (record k { next = it.2; facts = it.3 }) (record k { next = it.4; facts = it.5 }) it.6 it.7 in (
-        typed_there new used' is_integer k (k.next + 1) k.facts left it.0 it.2 it.3 (and_first (is_pure left) (is_pure right) p) (old_first new (in_expression left) (in_expression right) h.1) it.6
-            (and_first (is_integer (own_type it.0)) (is_integer (own_type it.1)) integers),
-        typed_there new used' is_integer k it.2 it.3 right it.1 it.4 it.5 (and_second (is_pure left) (is_pure right) p) (old_second new (in_expression left) (in_expression right) h.1) it.7
-            (and_second (is_integer (own_type it.0)) (is_integer (own_type it.1)) integers),
-      )
-
-  equality_there : (op : Op) (left right : c.Expression) (k : Known) (z : Typed) (n : ℕ) (facts : List Fact) → is_pure (c.Binary op left right) ≡ true → AreOld new (in_expression (c.Binary op left right))
-      → GoesTo k (expression (c.Binary op left right) as_value k) z n facts → is_equality op ≡ true → IsThere is_integer new used' k (c.Binary op left right)
-  equality_there op left right k z n facts p h e q =
-      let it = binary_parts op left right k z n facts p e in
-      pure_there is_integer k (c.Binary op left right) z n facts p h e
-      (equality_is_integer op q (record k { next = it.4; facts = it.5 }) k.next it.0 it.1 z (record k { next = n; facts = facts }) it.8)
+      (clauses_there v p (λ n. let it = any_type is_scalar (negation e) h n in negated_part k n e it.0 p it.1))
+  clauses_there (alone {e} f g) p h = subst (AllByRecursion (IsThere is_scalar new used' k)) (sym (f None 0)) (there quiet named new used' k is_scalar e p h, tt)
 
   -- ---- mutants
 
-  operator_mutants : (e : c.Expression) (k : Known) (z : Typed) (n : ℕ) (facts : List Fact) → is_pure e ≡ true → AreOld new (in_expression e) → GoesTo k (expression e as_value k) z n facts
-      → (t u : CType) → (is_integer t && is_integer u ≡ true → TakesIntegers k e)
+  operator_mutants : (e : c.Expression) (s : CType) → is_pure e ≡ true → TypedNamed k e s → (t u : CType) → (is_integer t && is_integer u ≡ true → NamesObjects k → TakesIntegers k e)
       → ArePredicates new used' k (differences_from e (arithmetic_mutants t u e)) × ArePredicates new used' k (differences_from e (relational_mutants t u e))
-  operator_mutants e k z n facts p h q t u f = by e (operators_in e) p h q f
+  operator_mutants e s p h t u f = by e (operators_in e) p h f
     where
-      by : (e : c.Expression) → Operators e → is_pure e ≡ true → AreOld new (in_expression e) → GoesTo k (expression e as_value k) z n facts → (is_integer t && is_integer u ≡ true → TakesIntegers k e)
+      by : (e : c.Expression) → Operators e → is_pure e ≡ true → TypedNamed k e s → (is_integer t && is_integer u ≡ true → NamesObjects k → TakesIntegers k e)
           → ArePredicates new used' k (differences_from e (arithmetic_mutants t u e)) × ArePredicates new used' k (differences_from e (relational_mutants t u e))
-      by (c.Binary op left right) binary p h q f = (
-        arithmetic_if new used' k (is_integer t && is_integer u) op left right (λ b. integers_there op left right k z n facts p h q (f b)),
-        relational_if new used' k (is_integer t && is_integer u) op left right (λ b. integers_there op left right k z n facts p h q (f b)) (equality_there op left right k z n facts p h q),
-      )
-      by e (other a r l) p h q f = (
+      by (c.Binary op left right) binary p h f =
+          let integers : is_integer t && is_integer u ≡ true → IsThere is_integer new used' k left × IsThere is_integer new used' k right = λ b. (
+            there quiet named new used' k is_integer left (and_first (is_pure left) (is_pure right) p) (λ n. (integer_parts k n op left right s p (h n) (f b n)).0),
+            there quiet named new used' k is_integer right (and_second (is_pure left) (is_pure right) p) (λ n. (integer_parts k n op left right s p (h n) (f b n)).1),
+          ) in (
+            arithmetic_if made new used' k (is_integer t && is_integer u) op left right integers,
+            relational_if made new used' k (is_integer t && is_integer u) op left right integers
+                (λ q. there quiet named new used' k is_integer (c.Binary op left right) p (λ n. equality_at k n op left right s p (h n) q)),
+          )
+      by e (other a r l) p h f = (
         subst (λ list. ArePredicates new used' k (differences_from e list)) (sym (a t u)) tt,
         subst (λ list. ArePredicates new used' k (differences_from e list)) (sym (r t u)) tt,
       )
-      by (c.Logical op left right) connector p h q f = (tt, tt)
+      by (c.Logical op left right) connector p h f = (tt, tt)
 
-  connector_there : (e : c.Expression) (k : Known) (z : Typed) (n : ℕ) (facts : List Fact) → is_pure e ≡ true → AreOld new (in_expression e) → GoesTo k (expression e as_value k) z n facts
-      → ArePredicates new used' k (differences_from e (connector_mutants e))
-  connector_there e k z n facts p h q = by e (operators_in e) p h q
+  connector_there : (e : c.Expression) (s : CType) → is_pure e ≡ true → TypedNamed k e s → ArePredicates new used' k (differences_from e (connector_mutants e))
+  connector_there e s p h = by e (operators_in e) p h
     where
-      by : (e : c.Expression) → Operators e → is_pure e ≡ true → AreOld new (in_expression e) → GoesTo k (expression e as_value k) z n facts → ArePredicates new used' k (differences_from e (connector_mutants e))
-      by (c.Logical op left right) connector p h q =
-          let it = connected_parts op left right k z n facts p q in
-          connectors new used' k op left right
-          (typed_there new used' is_scalar k (k.next + 1) k.facts left it.0 it.2 it.3 (and_first (is_pure left) (is_pure right) p) (old_first new (in_expression left) (in_expression right) h.1) it.6 it.8)
-          (typed_there new used' is_scalar k it.2 it.3 right it.1 it.4 it.5 (and_second (is_pure left) (is_pure right) p) (old_second new (in_expression left) (in_expression right) h.1) it.7 it.9)
-      by e (other a r l) p h q = subst (λ list. ArePredicates new used' k (differences_from e list)) (sym l) tt
-      by (c.Binary op left right) binary p h q = tt
+      by : (e : c.Expression) → Operators e → is_pure e ≡ true → TypedNamed k e s → ArePredicates new used' k (differences_from e (connector_mutants e))
+      by (c.Logical op left right) connector p h =
+          connectors made new used' k op left right
+          (there quiet named new used' k is_scalar left (and_first (is_pure left) (is_pure right) p) (λ n. (connected_parts k n op left right s p (h n)).0))
+          (there quiet named new used' k is_scalar right (and_second (is_pure left) (is_pure right) p) (λ n. (connected_parts k n op left right s p (h n)).1))
+      by e (other a r l) p h = subst (λ list. ArePredicates new used' k (differences_from e list)) (sym l) tt
+      by (c.Binary op left right) binary p h = tt
 
 -- ---- decisions and clauses
 
@@ -229,13 +159,31 @@ module _ (new : ℕ → Bool) (used' : List ℕ) (k : Known) where
   at_tests C.LogicalConnector decision clause place e h g f = tt
   at_tests C.RelationalOperator decision clause place e h g f = tt
 
-pub of_objectives : ObjectivesHavePredicates
-of_objectives new used known e x next facts p q =
-    let h = no_marks_in new e p in (
-      λ s criterion decision clause place marked is.
-          let them = subst (HavePredicates new used known) (sym is) (of_decisions new used known e p (clauses_there new used (clauses_in e p) known x next facts p h q s)) in
-          at_tests new used known criterion decision clause place marked them.0 them.1 them.2,
-      λ model t f. absolutes new used known (is_fitting e && is_signed_integer model t) e (λ b. pure_there is_integer known e x next facts p h q (f (and_second (is_fitting e) (is_signed_integer model t) b))),
-      connector_there new used e known x next facts p h q,
-      operator_mutants new used e known x next facts p h q,
-    )
+-- what the objectives at an expression have, where the marks around it are taken off
+abbrev pub HaveAll : (ℕ → Bool) → List ℕ → Known → c.Expression → CType → (CType → CType → Type 0) → Type 0
+HaveAll new used known e s Takes =
+    (is_scalar s ≡ true → (criterion : Criterion) (decision clause : Option ℕ) (k : ℕ) (marked : c.Expression) → erased marked ≡ e
+    → ArePredicates new used known (map (λ it. it.predicate) (at_test criterion decision clause k marked)))
+    × ((model : DataModel) (t : CType) → (is_signed_integer model t ≡ true → is_integer s ≡ true) → ArePredicates new used known (differences_from e (absolute_mutants model t e)))
+    × ArePredicates new used known (differences_from e (connector_mutants e))
+    × ((t u : CType) → Takes t u
+    → ArePredicates new used known (differences_from e (arithmetic_mutants t u e)) × ArePredicates new used known (differences_from e (relational_mutants t u e)))
+
+-- A pure expression that is typed so, where the objects are known that have names in scope, has them.
+pub of_typed : PredicatesAreMade → PureExpressionsAreThere → NamedObjectsAreKnown → (new : ℕ → Bool) (used : List ℕ) (known : Known) (e : c.Expression) (s : CType) → is_pure e ≡ true
+    → TypedNamed known e s → HaveAll new used known e s (λ t u. is_integer t && is_integer u ≡ true → NamesObjects known → TakesIntegers known e)
+of_typed made quiet named new used known e s p h = (
+  λ q criterion decision clause place marked is.
+      let clauses = clauses_there made quiet named new used known (clauses_in e p) p (λ n. typed_at known e is_scalar q (h n)) in
+      let them = subst (HavePredicates new used known) (sym is) (of_decisions made new used known e p clauses) in
+      at_tests new used known criterion decision clause place marked them.0 them.1 them.2,
+  λ model t f. absolutes made new used known (is_fitting e && is_signed_integer model t) e
+      (λ b. there quiet named new used known is_integer e p (λ n. typed_at known e is_integer (f (and_second (is_fitting e) (is_signed_integer model t) b)) (h n))),
+  connector_there made quiet named new used known e s p h,
+  λ t u f. operator_mutants made quiet named new used known e s p h t u f,
+)
+
+pub of_objectives : PredicatesAreMade → PureExpressionsAreThere → NamedObjectsAreKnown → ObjectivesHavePredicates
+of_objectives made quiet named new used known e x next facts more p all q =
+    let them = of_typed made quiet named new used known e (own_type x) p (λ n. (x, next, facts, more, all, q, refl)) in
+    (them.0, them.1, them.2, λ t u f. them.3 t u (λ b n. f b))

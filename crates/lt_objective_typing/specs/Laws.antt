@@ -1,5 +1,5 @@
 -- That the predicates of objectives are typed where they stand, also where marks were put in front of them.
-use Rattle.std.specs.Prelude.{◌≡◌, ◌≤◌, ◌<◌, ◌⊎◌, ℕ, suc, ◌+◌, ◌&&◌, Bool, true, false, List, [], ◌∷◌, length, map, Option}
+use Rattle.std.specs.Prelude.{◌≡◌, ◌≤◌, ◌<◌, ◌⊎◌, ℕ, suc, ◌+◌, ◌&&◌, Bool, true, false, List, [], ◌∷◌, ◌++◌, length, map, Option}
 use Rattle.std.specs.List.{AllByRecursion}
 use Rattle.lt_model.specs.declared.scalar.DataModel.{DataModel}
 use Rattle.lt_model.specs.declared.operator.Op.{Op}
@@ -8,7 +8,7 @@ use Rattle.lt_tree.specs.Tree as c
 use Rattle.lt_tree.specs.Erasure.{erased}
 use Rattle.lt_tree.specs.Purity.{is_pure}
 use Rattle.lt_tree.specs.Typing.Types.{CType, is_integer, is_pointer, is_scalar}
-use Rattle.lt_tree.specs.Typing.Entities.{Known, Fact, greatest_label_id}
+use Rattle.lt_tree.specs.Typing.Entities.{Known, Object, Fact, greatest_label_id}
 use Rattle.lt_tree.specs.Typing.Steps.{Goes}
 use Rattle.lt_tree.specs.Typing.Expressions.{Typed, as_value, own_type}
 use Rattle.lt_tree.specs.Typing.ExpressionTyping.{expression}
@@ -19,7 +19,9 @@ use Rattle.lt_objectives.specs.Copies.{is_core}
 use Rattle.lt_objectives.specs.Objectives.{Form, all_at, domains, at_test}
 use Rattle.lt_objectives.specs.Marked.{ids_of, numbered, labels}
 use Rattle.lt_mark_typing.specs.Beside.{is_used}
-use Rattle.lt_erased_typing.specs.Erasable.{CanBeErased}
+use Rattle.lt_object_laws.specs.Further.{IsFurther}
+use Rattle.lt_erased_typing.specs.Literals.{NamesObjects}
+use Rattle.lt_erased_typing.specs.Erasable.{CanBeErasedWith}
 use Rattle.lt_mark_typing.specs.Placed.{AreNewLabels, IsThere}
 
 -- all of these are predicates where this is known
@@ -64,12 +66,12 @@ TakesIntegers known (c.Binary op left right) =
     → is_integer (own_type x) && is_integer (own_type y) ≡ true
 TakesIntegers known e = Unit {0}
 
--- Where a pure expression is typed, and nothing is found but facts, the objectives at it have predicates: as a decision or a clause, with marks or without,
+-- Where a pure expression is typed, and nothing is found but facts and further objects, the objectives at it have predicates: as a decision or a clause, with marks or without,
 -- if it is a scalar; and with its mutants, if the types by which these are made say of it and its operands no more than that they are integers which are such.
 abbrev pub ObjectivesHavePredicates : Type 0
 ObjectivesHavePredicates =
-    (new : ℕ → Bool) (used : List ℕ) (known : Known) (e : c.Expression) (x : Typed) (next : ℕ) (facts : List Fact)
-    → is_pure e ≡ true → expression e as_value known ≡ Goes x (record known { next = next; facts = facts })
+    (new : ℕ → Bool) (used : List ℕ) (known : Known) (e : c.Expression) (x : Typed) (next : ℕ) (facts : List Fact) (more : List Object)
+    → is_pure e ≡ true → AllByRecursion IsFurther more → expression e as_value known ≡ Goes x (record known { next = next; objects = known.objects ++ more; facts = facts })
     → (is_scalar (own_type x) ≡ true → (criterion : Criterion) (decision clause : Option ℕ) (k : ℕ) (marked : c.Expression) → erased marked ≡ e
     → ArePredicates new used known (map (λ it. it.predicate) (at_test criterion decision clause k marked)))
     × ((model : DataModel) (t : CType) → (is_signed_integer model t ≡ true → is_integer (own_type x) ≡ true) → ArePredicates new used known (differences_from e (absolute_mutants model t e)))
@@ -77,11 +79,12 @@ ObjectivesHavePredicates =
     × ((t u : CType) → (is_integer t && is_integer u ≡ true → TakesIntegers known e)
     → ArePredicates new used known (differences_from e (arithmetic_mutants t u e)) × ArePredicates new used known (differences_from e (relational_mutants t u e)))
 
--- So it is where an expression is typed whose marks can be taken off: the objectives at it have predicates, which are made of it without its marks.
+-- So it is where an expression is typed whose marks can be taken off where each object that has a name in scope is known: the objectives at it have predicates,
+-- which are made of it without its marks.
 abbrev pub MarkedExpressionsHavePredicates : Type 0
 MarkedExpressionsHavePredicates =
     (new : ℕ → Bool) (used : List ℕ) (known next : Known) (e : c.Expression) (x : Typed)
-    → is_core e ≡ true → is_pure (erased e) ≡ true → CanBeErased as_value known e → expression e as_value known ≡ Goes x next
+    → is_core e ≡ true → is_pure (erased e) ≡ true → (NamesObjects known → CanBeErasedWith true as_value known e) → expression e as_value known ≡ Goes x next
     → (is_scalar (own_type x) ≡ true → (criterion : Criterion) (decision clause : Option ℕ) (k : ℕ) → ArePredicates new used known (map (λ it. it.predicate) (at_test criterion decision clause k e)))
     × ((model : DataModel) (t : CType) → (is_signed_integer model t ≡ true → is_integer (own_type x) ≡ true) → ArePredicates new used known (differences_from (erased e) (absolute_mutants model t (erased e))))
     × ArePredicates new used known (differences_from (erased e) (connector_mutants (erased e)))

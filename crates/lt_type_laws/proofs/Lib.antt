@@ -11,7 +11,7 @@ mod Runs
 mod Lists
 mod Shapes
 mod Others
-mod Equal
+pub mod Equal
 pub mod Places
 mod Sharing
 mod Listed

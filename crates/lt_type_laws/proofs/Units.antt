@@ -1,5 +1,5 @@
 -- The lists of types of typed units.
-use Rattle.std.proofs.Common.{◌≡◌, List, [], ◌∷◌, ◌++◌, map, Option, Some, None, Bool, true, false, refl, sym, ap, ◌∙◌, subst}
+use Rattle.std.proofs.Common.{◌≡◌, List, [], ◌∷◌, ◌++◌, Option, Some, None, Bool, true, false, refl, sym, ap, ◌∙◌, subst}
 use Rattle.std.proofs.lemmas.Bool.{false≢true}
 use Rattle.std.proofs.lemmas.List.Folds.{list_any-append}
 use Rattle.std.specs.Prelude.{◌||◌}
@@ -13,7 +13,7 @@ use Rattle.lt_tree.specs.Typing.Rules.{Rule}
 use Rattle.lt_tree.specs.Typing.Steps.{Outcome, Goes, Breaks}
 use Rattle.lt_tree.specs.Typing.UnitTyping.{answer, typing_to}
 use Rattle.lt_tree.specs.Typing.Programs.{Program, typed, broken, made_of, types_of_struct}
-use Rattle.lt_type_laws.specs.TypeLists.{HasItsTypes, HaveSameObjects, KnowsTypesOf, is_shared, types_of}
+use Rattle.lt_type_laws.specs.TypeLists.{HasItsTypes, KnowsTypesOf, is_shared, types_of}
 use Rattle.lt_type_laws.specs.Laws.{UnitsHaveTheirTypes, KnownTypesAreListed, ProgramsAreRenumbered, ProgramsShareTypes}
 use Rattle.lt_type_laws.proofs.Equal.{same_exact}
 use Rattle.lt_type_laws.proofs.Places.{types_renumbered}
@@ -41,8 +41,11 @@ units_types greatest model unit p e = answer_types unit _ p e
 abbrev structs_in : Program → List CType
 structs_in p = flat_map types_of_struct p.structs
 
+abbrev made_of_objects : List Object → List CType
+made_of_objects objects = flat_map (λ (object : Object). made_of object.type) objects
+
 abbrev objects_in : Program → List CType
-objects_in p = flat_map (λ (object : Object). made_of object.type) p.objects
+objects_in p = made_of_objects p.objects
 
 abbrev declared_in : Program → List CType
 declared_in p = flat_map (λ (f : Declared). made_of f.type) p.declared
@@ -58,14 +61,15 @@ one_of false false false d x h f g i j = j h
 abbrev made_of_facts : List Fact → List CType
 made_of_facts facts = flat_map (λ (fact : Fact). made_of fact.type) facts
 
-found_made : (t u : CType) (ys : List Fact) → list_any (λ (other : Fact). same u other.type) ys ≡ true → list_any (same t) (made_of u) ≡ true → list_any (same t) (made_of_facts ys) ≡ true
-found_made t u [] h g = absurd (false≢true h)
-found_made t u (y ∷ ys) h g = by (same u y.type) refl h (λ f. found_made t u ys f g)
+-- what is made of a type that one of these has is made of theirs
+found_made : {A : Type 0} (type : A → CType) (t u : CType) (ys : List A) → list_any (λ other. same u (type other)) ys ≡ true → list_any (same t) (made_of u) ≡ true → list_any (same t) (flat_map (λ x. made_of (type x)) ys) ≡ true
+found_made type t u [] h g = absurd (false≢true h)
+found_made type t u (y ∷ ys) h g = by (same u (type y)) refl h (λ f. found_made type t u ys f g)
   where
-    by : (b : Bool) → same u y.type ≡ b → b || list_any (λ (other : Fact). same u other.type) ys ≡ true → (list_any (λ (other : Fact). same u other.type) ys ≡ true → list_any (same t) (made_of_facts ys) ≡ true)
-        → list_any (same t) (made_of y.type ++ made_of_facts ys) ≡ true
-    by true e f go = first_listed t (made_of y.type) (made_of_facts ys) (ap (λ x. list_any (same t) (made_of x)) (sym (same_exact u y.type e)) ∙ g)
-    by false e f go = second_listed t (made_of y.type) (made_of_facts ys) (go f)
+    by : (b : Bool) → same u (type y) ≡ b → b || list_any (λ other. same u (type other)) ys ≡ true → (list_any (λ other. same u (type other)) ys ≡ true → list_any (same t) (flat_map (λ x. made_of (type x)) ys) ≡ true)
+        → list_any (same t) (made_of (type y) ++ flat_map (λ x. made_of (type x)) ys) ≡ true
+    by true e f go = first_listed t (made_of (type y)) (flat_map (λ x. made_of (type x)) ys) (ap (λ x. list_any (same t) (made_of x)) (sym (same_exact u (type y) e)) ∙ g)
+    by false e f go = second_listed t (made_of (type y)) (flat_map (λ x. made_of (type x)) ys) (go f)
 
 -- ---- lists that have each type of which theirs are made
 
@@ -93,12 +97,17 @@ listed_by t p =
     ∙ ap (λ b. b || list_any (same t) (made_of_facts p.facts)) (list_any-append (same t) (structs_in p ++ objects_in p) (declared_in p))
     ∙ ap (λ b. (b || list_any (same t) (declared_in p)) || list_any (same t) (made_of_facts p.facts)) (list_any-append (same t) (structs_in p) (objects_in p))
 
-made_of_types : (objects : List Object) → flat_map (λ (object : Object). made_of object.type) objects ≡ flat_map made_of (map (λ (object : Object). object.type) objects)
-made_of_types [] = refl
-made_of_types (x ∷ xs) = ap (λ them. made_of x.type ++ them) (made_of_types xs)
-
-objects_same : (p q : Program) → HaveSameObjects p q → objects_in q ≡ objects_in p
-objects_same p q h = made_of_types q.objects ∙ ap (flat_map made_of) h.objects ∙ sym (made_of_types p.objects)
+-- the types of objects are among those of others that have these types
+objects_there : (t : CType) (others objects : List Object) → AllByRecursion (λ (object : Object). list_any (λ (other : Object). same object.type other.type) others ≡ true) objects
+    → list_any (same t) (made_of_objects objects) ≡ true → list_any (same t) (made_of_objects others) ≡ true
+objects_there t others [] h g = absurd (false≢true g)
+objects_there t others (x ∷ xs) h g =
+    by (list_any (same t) (made_of x.type)) refl (sym (list_any-append (same t) (made_of x.type) (made_of_objects xs)) ∙ g) (λ f. objects_there t others xs h.1 f)
+  where
+    by : (b : Bool) → list_any (same t) (made_of x.type) ≡ b → list_any (same t) (made_of x.type) || list_any (same t) (made_of_objects xs) ≡ true
+        → (list_any (same t) (made_of_objects xs) ≡ true → list_any (same t) (made_of_objects others) ≡ true) → list_any (same t) (made_of_objects others) ≡ true
+    by true e f go = found_made (λ (object : Object). object.type) t x.type others h.0 e
+    by false e f go = go (sym (ap (λ b. b || list_any (same t) (made_of_objects xs)) e) ∙ f)
 
 -- the list of types has a type exactly where the program has it
 in_list : (t : CType) (p : Program) → HasItsTypes p → list_any (same t) p.types ≡ list_any (same t) (types_of p)
@@ -143,15 +152,15 @@ facts_there t q there (x ∷ xs) h g =
 known_there : (t : CType) (p q : Program) → HasItsTypes q → KnowsTypesOf p q → list_any (same t) (types_of p) ≡ true → list_any (same t) q.types ≡ true
 known_there t p q there h g =
     one_of (list_any (same t) (structs_in p)) (list_any (same t) (objects_in p)) (list_any (same t) (declared_in p)) (list_any (same t) (made_of_facts p.facts)) (list_any (same t) q.types) (sym (listed_by t p) ∙ g)
-    (λ f. structs_listed t q there (ap (λ them. list_any (same t) (flat_map types_of_struct them)) h.same_objects.structs ∙ f))
-    (λ f. objects_listed t q there (ap (list_any (same t)) (objects_same p q h.same_objects) ∙ f))
+    (λ f. structs_listed t q there (ap (λ them. list_any (same t) (flat_map types_of_struct them)) h.types_of_objects.structs ∙ f))
+    (λ f. objects_listed t q there (objects_there t q.objects p.objects h.types_of_objects.objects f))
     (λ f. declared_listed t q there (ap (λ (them : List Declared). list_any (same t) (flat_map (λ (f : Declared). made_of f.type) them)) h.declared ∙ f))
     (λ f. facts_there t q there p.facts h.facts f)
 
 -- ---- the laws
 
 pub known_listed : KnownTypesAreListed
-known_listed p h t g = facts_listed (bare t) p h (found_made (bare t) t p.facts g (own_listed t))
+known_listed p h t g = facts_listed (bare t) p h (found_made (λ (fact : Fact). fact.type) (bare t) t p.facts g (own_listed t))
 
 pub programs_renumbered : ProgramsAreRenumbered
 programs_renumbered p q here there h = record {
@@ -166,7 +175,7 @@ programs_share p q here there h = record {
   but_for_types = refl;
   numbers = numbers_shared p.types q.types (types_of p) here;
   objects = each_from (λ t. is_shared p.types q.types (place_among 0 t p.types) ≡ true) (λ (object : Object). made_of object.type) p.objects
-      (λ t g. listed_shared p.types q.types t (objects_listed t p here g) (objects_listed t q there (ap (list_any (same t)) (objects_same p q h) ∙ g)));
+      (λ t g. listed_shared p.types q.types t (objects_listed t p here g) (objects_listed t q there (objects_there t q.objects p.objects h.objects g)));
   members = each_from (λ t. is_shared p.types q.types (place_among 0 t p.types) ≡ true) types_of_struct p.structs
       (λ t g. listed_shared p.types q.types t (structs_listed t p here g) (structs_listed t q there (ap (λ them. list_any (same t) (flat_map types_of_struct them)) h.structs ∙ g)));
 }

@@ -1,16 +1,18 @@
 -- That numbers of types change nothing.
-use Rattle.std.specs.Prelude.{◌≡◌, ℕ, Bool, true, List, [], length}
-use Rattle.std.specs.List.{list_any}
+use Rattle.std.specs.Prelude.{◌≡◌, ℕ, Bool, true, List, [], length, slice_get, Some}
+use Rattle.std.specs.List.{AllByRecursion, list_any}
 use Rattle.lt_model.specs.declared.scalar.DataModel.{DataModel}
 use Rattle.lt_model.specs.declared.input.Input.{Input}
 use Rattle.lt_tree.specs.Tree as c
 use Rattle.lt_tree.specs.Typing.Types.{CType, bare, same}
-use Rattle.lt_tree.specs.Typing.Entities.{Function, Fact}
+use Rattle.lt_tree.specs.Typing.Extents.{StructType}
+use Rattle.lt_tree.specs.Typing.Entities.{Object, Function, Fact}
 use Rattle.lt_tree.specs.Typing.UnitTyping.{IsProgramTo}
-use Rattle.lt_tree.specs.Typing.Programs.{Program, with_new}
+use Rattle.lt_tree.specs.Typing.Programs.{Program, made_of, types_of_struct, with_new}
 use Rattle.lt_meaning.specs.Runs.{run}
+use Rattle.lt_type_laws.specs.Accesses.{is_named_in, AccessesItems}
 use Rattle.lt_type_laws.specs.Renumbered.{input_with, over_with}
-use Rattle.lt_type_laws.specs.TypeLists.{HaveNumbers, HasOtherTypes, AreBelow, SharesTypes, AreOf, numbers_in, is_shared, HasItsTypes, HaveSameObjects, KnowsTypesOf}
+use Rattle.lt_type_laws.specs.TypeLists.{AreAmong, Renumbers, HaveNumbers, HasOtherTypes, AreBelow, SharesTypes, AreOf, numbers_in, is_shared, HasItsTypes, HasTypesOfObjects, KnowsTypesOf}
 
 -- A program with another list of types runs alike, where memory's cells have the numbers of that list.
 abbrev pub OtherTypesChangeNothing : Type 0
@@ -42,8 +44,22 @@ KnownTypesAreListed = (p : Program) → HasItsTypes p → (t : CType) → list_a
 abbrev pub ProgramsAreRenumbered : Type 0
 ProgramsAreRenumbered = (p q : Program) → HasItsTypes p → HasItsTypes q → KnowsTypesOf p q → HasOtherTypes (numbers_in p.types q.types) p (record p { types = q.types })
 
--- It shares the types of both lists with that of any program with the same structs and objects of the same types.
+-- It shares the types of both lists with that of any program with the same structs and, among its objects, some of the same types.
 abbrev pub ProgramsShareTypes : Type 0
 ProgramsShareTypes =
-    (p q : Program) → HasItsTypes p → HasItsTypes q → HaveSameObjects p q
+    (p q : Program) → HasItsTypes p → HasItsTypes q → HasTypesOfObjects p q
     → SharesTypes (is_shared p.types q.types) (numbers_in p.types q.types) p (record p { types = q.types })
+
+-- each type by which functions of a program get at memory is named in a list
+abbrev pub FunctionsAccess : List CType → List Function → Type 0
+FunctionsAccess types functions = AllByRecursion (λ (f : Function). AccessesItems (is_named_in types) f.body) functions
+
+-- A program whose code gets at memory by types of both lists alone, and whose objects and members of structs are made of such, runs with the other list as it
+-- does with its own on every input, whatever types its cells have.
+abbrev pub AccessedTypesChangeNothing : Type 0
+AccessedTypesChangeNothing =
+    (r : ℕ → ℕ) (p q : Program) (n : ℕ) (f : Function) (input : Input) (ticks : ℕ) → q ≡ record p { types = q.types } → Renumbers r p.types q.types
+    → AllByRecursion (λ (object : Object). AreAmong p.types (made_of object.type) × AreAmong q.types (made_of object.type)) p.objects
+    → AllByRecursion (λ (it : StructType). AreAmong p.types (types_of_struct it) × AreAmong q.types (types_of_struct it)) p.structs
+    → FunctionsAccess p.types p.functions → FunctionsAccess q.types p.functions → slice_get p.functions n ≡ Some f
+    → run q f (input_with r input) ticks ≡ over_with r (run p f input ticks)

@@ -1,6 +1,6 @@
 -- Programs that are the same but for their lists of types: the number of a pointer's type is its place in the list, and memory has it in its cells. What isn't
 -- in the list has its length as the number, which no cell has.
-use Rattle.std.specs.Prelude.{◌≡◌, ◌<◌, ℕ, Bool, true, false, ◌&&◌, nat_lt, List, [], ◌++◌, map, length, slice_index_or}
+use Rattle.std.specs.Prelude.{◌≡◌, ◌<◌, ℕ, Bool, true, false, ◌&&◌, nat_lt, List, [], ◌++◌, length, slice_index_or}
 use Rattle.std.specs.List.{AllByRecursion, flat_map, list_any}
 use Rattle.lt_model.specs.declared.cell.CellType.{CellType}
 use Rattle.lt_model.specs.declared.cell.CellType.TheVariants.{Num, Pointer}
@@ -64,6 +64,11 @@ pub record SharesTypes (shared : ℕ → Bool) (r : ℕ → ℕ) (p q : Program)
   pub objects : AllByRecursion (λ (object : Object). AreShared shared p.types (made_of object.type)) p.objects
   pub members : AllByRecursion (λ (it : StructType). AreShared shared p.types (types_of_struct it)) p.structs
 
+-- The numbers that r gives: that of a type of both lists in the second list, of its number in the first, and of no other number.
+pub record Renumbers (r : ℕ → ℕ) (types others : List CType) : Type 0 where
+  pub there : (t : CType) → list_any (same (bare t)) types ≡ true → list_any (same (bare t)) others ≡ true → place_among 0 (bare t) others ≡ r (place_among 0 (bare t) types)
+  pub apart : (t : CType) → list_any (same (bare t)) types ≡ true → list_any (same (bare t)) others ≡ true → (n : ℕ) → r n ≡ place_among 0 (bare t) others → n ≡ place_among 0 (bare t) types
+
 -- ---- lists of types of typed units
 
 -- the numbers that the types of one list have in another, by their numbers in the first
@@ -86,13 +91,13 @@ types_of p =
 abbrev pub HasItsTypes : Program → Type 0
 HasItsTypes p = p.types ≡ with_new [] (types_of p)
 
--- both programs have the same structs, and objects of the same types
-pub record HaveSameObjects (p q : Program) : Type 0 where
+-- Both programs have the same structs, and the second has an object of the type of each object of the first.
+pub record HasTypesOfObjects (p q : Program) : Type 0 where
   pub structs : q.structs ≡ p.structs
-  pub objects : map (λ (object : Object). object.type) q.objects ≡ map (λ (object : Object). object.type) p.objects
+  pub objects : AllByRecursion (λ (object : Object). list_any (λ (other : Object). same object.type other.type) q.objects ≡ true) p.objects
 
 -- They also have the same declared functions, and the list of the second has each type that the first knows of an expression.
 pub record KnowsTypesOf (p q : Program) : Type 0 where
-  pub same_objects : HaveSameObjects p q
+  pub types_of_objects : HasTypesOfObjects p q
   pub declared : q.declared ≡ p.declared
   pub facts : AllByRecursion (λ (fact : Fact). list_any (same (bare fact.type)) q.types ≡ true) p.facts

@@ -33,7 +33,8 @@ pub fn programs_are_renumbered()
     ensures { ProgramsAreRenumbered }
 {}
 
-/// A program with the list of types of one with the same structs and objects shares the types that are in both.
+/// A program with the list of types of one with the same structs, and objects of its types among others, shares the types
+/// that are in both.
 pub fn programs_share_types()
     ensures { ProgramsShareTypes }
 {}

@@ -23,7 +23,7 @@ use Rattle.lt_objectives.specs.Laws.{MarksAreErased}
 use Rattle.lt_numbering.specs.Numbering.{most_id}
 use Rattle.lt_survey.specs.Marking.{IdsPass, next_behind}
 use Rattle.lt_label_counts.specs.Laws.{IdsNeverPass}
-use Rattle.lt_mark_laws.specs.MarkedRuns.{is_from, RunsAs}
+use Rattle.lt_mark_typing.specs.MarkedRuns.{is_from, RunsAs}
 use Rattle.lt_erased_typing.specs.CopiedExpressions.{AllCopiesAreSimple}
 use Rattle.lt_objective_marks.specs.Rounds.{MarkedUnitsOfSetsRunAsTheyDid}
 use Rattle.lt_marked_texts.specs.Laws.{AnnotatedTextsAreOfUnitsAlone}

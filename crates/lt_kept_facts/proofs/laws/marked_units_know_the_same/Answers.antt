@@ -7,5 +7,6 @@ pub returns : goal.returns
 returns c =
     let numbered = c.nodes_are_numbered.ensures.parts.1 in
     let noting = c.parts_note_their_nodes.ensures.1 in
+    let again = c.expressions_are_typed_again.ensures in
     marked_units_know c.units_note_the_same.ensures c.units_are_typed_again.ensures
-    (λ new F G ids last k l x y d b. of_external {F = F} {G = G} {new = new} numbered noting (old_declarations {F = F} {G = G} {new = new} numbered noting) (declarations {F = F} {G = G} {new = new} numbered noting) d l b)
+    (λ new F G ids last further k l x y d b. of_external {F = F} {G = G} {new = new} numbered noting again (old_declarations {F = F} {G = G} {new = new} numbered noting) (declarations {F = F} {G = G} {new = new} numbered noting again) d l b)

@@ -6,4 +6,5 @@ pub returns : goal.returns
 returns c =
     let numbered = c.nodes_are_numbered.ensures.parts.1 in
     let noting = c.parts_note_their_nodes.ensures.1 in
-    units_note numbered noting (λ F G new. old_declarations {F = F} {G = G} {new = new} numbered noting) (λ F G new. declarations {F = F} {G = G} {new = new} numbered noting)
+    let again = c.expressions_are_typed_again.ensures in
+    units_note numbered noting again (λ F G new. old_declarations {F = F} {G = G} {new = new} numbered noting) (λ F G new. declarations {F = F} {G = G} {new = new} numbered noting again)

@@ -1,5 +1,5 @@
-use Rattle.lt_mark_typing.proofs.Units.{units}
+use Rattle.lt_mark_typing.proofs.Units.{units_again}
 use Rattle.lt_mark_typing.proofs.laws.units_are_typed_again.Goals as goal
 
 pub returns : goal.returns
-returns c = λ new greatest model unit marked after program d e h. units greatest model unit marked after program d e h
+returns c = units_again

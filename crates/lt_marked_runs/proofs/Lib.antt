@@ -1,0 +1,11 @@
+mod Renaming
+mod Twice
+mod Itself
+mod Flags
+mod Objects
+mod Steps
+mod Sizes
+mod Along
+mod Types
+mod Room
+mod Runs
