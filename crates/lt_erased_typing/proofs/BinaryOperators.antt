@@ -1,6 +1,6 @@
 -- Operators on two and three operands make the same of them without their marks: C11 6.5.5 to 6.5.17.
 use Rattle.std.proofs.Common.{◌≡◌, List, [], ◌∷◌, Bool, true, false, refl, sym, ap, ◌∙◌, subst, inl, inr}
-use Rattle.std.proofs.lemmas.Bool.{false≢true}
+use Rattle.std.proofs.lemmas.Bool.{false≢true, and_parts, and_from}
 use Rattle.std.specs.Prelude.{◌⊎◌, ◌||◌, ◌&&◌, if◌then◌else◌}
 use Rattle.lt_model.specs.declared.scalar.Scalar.{Scalar}
 use Rattle.lt_model.specs.declared.scalar.Scalar.TheVariants as S
@@ -25,7 +25,7 @@ use Rattle.lt_erased_typing.proofs.Constants.{IsOf, operated_sees, applied_is, c
 use Rattle.lt_erased_typing.proofs.Operands.{BareValue, a_bare_value, BareTruth, BareJudged, value_type_same, kin_pointer, bare_varies, bare_valued}
 use Rattle.lt_erased_typing.proofs.Operators.{pointers}
 use Rattle.lt_erased_typing.proofs.Ends.{unless_true, true_unless, left_empty, right_empty, empty_both}
-use Rattle.lt_erased_typing.proofs.Conditions.{pointer_no_integer, added, subtracted, compared_more, chosen_more, null_beside, null_behind, and_first, and_second, both_true}
+use Rattle.lt_erased_typing.proofs.Conditions.{pointer_no_integer, added, subtracted, compared_more, chosen_more, null_beside, null_behind}
 
 result_no_pointer : (b : Bool) (s : Scalar) → is_pointer (if b then Num S.Int else Num s) ≡ false
 result_no_pointer true s = refl
@@ -131,7 +131,7 @@ unfolding judge_logical
 logical_bare {x} {y} {v} {w} op p q = λ h.
     let both = unless_true (is_scalar (own_type x) && is_scalar (own_type v)) not_scalar h in (
       true_unless (is_scalar (own_type y) && is_scalar (own_type w)) not_scalar
-          (both_true (is_scalar (own_type y)) (is_scalar (own_type w)) (p.scalar (and_first (is_scalar (own_type x)) (is_scalar (own_type v)) both)) (q.scalar (and_second (is_scalar (own_type x)) (is_scalar (own_type v)) both))),
+          (and_from (is_scalar (own_type y)) (is_scalar (own_type w)) (p.scalar (and_parts (is_scalar (own_type x)) (is_scalar (own_type v)) both).0) (q.scalar (and_parts (is_scalar (own_type x)) (is_scalar (own_type v)) both).1)),
       a_bare_value (bare_valued refl (record {
         sees = connected_sees (settles op) p.constancy q.constancy;
         marked = connected_is (settles op) (Num S.Int) x.constancy v.constancy refl;

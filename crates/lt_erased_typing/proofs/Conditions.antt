@@ -1,26 +1,11 @@
 -- What the conditions of operators say of kinds of types.
 use Rattle.std.proofs.Common.{◌≡◌, Bool, true, false, refl, sym, ap, ◌∙◌, inl, inr}
-use Rattle.std.proofs.lemmas.Bool.{false≢true}
+use Rattle.std.proofs.lemmas.Bool.{false≢true, and_parts, or_cases}
 use Rattle.std.specs.Prelude.{◌⊎◌, ◌||◌, ◌&&◌}
 use Rattle.lt_tree.specs.Typing.Types.{CType, Void, Num, Pointer, Array, Struct, Function, Floating, Qualified, is_void, is_integer, is_pointer, is_struct, unqualified, same, same_qualifiers, alike}
 use Rattle.lt_tree.specs.Typing.Extents.{Structs, has_size}
 use Rattle.lt_tree.specs.Typing.Constants.{Constancy, is_zero, is_null_constant}
 use Rattle.lt_tree.specs.Typing.Operands.{are_integers, points_to, is_movable, point_alike, is_pointer_to_void, can_be_added, can_be_subtracted, can_be_ordered, are_structs_alike, goes_with_any_pointer, can_be_compared, can_be_chosen_from, can_be_cast}
-
-pub and_first : (a b : Bool) → a && b ≡ true → a ≡ true
-and_first true b h = refl
-and_first false b h = absurd (false≢true h)
-
-pub and_second : (a b : Bool) → a && b ≡ true → b ≡ true
-and_second true b h = h
-and_second false b h = absurd (false≢true h)
-
-pub both_true : (a b : Bool) → a ≡ true → b ≡ true → a && b ≡ true
-both_true a b h k = ap (λ it. it && b) h ∙ k
-
-either : (a b : Bool) → a || b ≡ true → (a ≡ true) ⊎ (b ≡ true)
-either true b h = inl refl
-either false b h = inr h
 
 or_first : (a b : Bool) → a ≡ true → a || b ≡ true
 or_first a b h = ap (λ it. it || b) h
@@ -102,7 +87,7 @@ unqualified_struct (Function t ts dots) = refl
 unqualified_struct Floating = refl
 
 -- what points to something is a pointer
-pub pointing : (test : CType → Bool) (t : CType) → points_to test t ≡ true → is_pointer t ≡ true
+pointing : (test : CType → Bool) (t : CType) → points_to test t ≡ true → is_pointer t ≡ true
 pointing test (Pointer t) h = refl
 pointing test (Qualified q t) h = pointing test t h
 pointing test Void h = absurd (false≢true h)
@@ -122,7 +107,7 @@ struct_by (Struct k) (Num r) h s p = false≢true p
 struct_by (Struct k) (Array u n) h s p = false≢true p
 struct_by (Struct k) (Function u us dots) h s p = false≢true p
 struct_by (Struct k) Floating h s p = false≢true p
-struct_by (Qualified q t) (Qualified r u) h s p = struct_by t u (and_second (same_qualifiers q r) (same t u) h) s p
+struct_by (Qualified q t) (Qualified r u) h s p = struct_by t u (and_parts (same_qualifiers q r) (same t u) h).1 s p
 struct_by (Qualified q t) (Pointer u) h s p = false≢true h
 struct_by (Qualified q t) (Struct j) h s p = false≢true p
 struct_by (Qualified q t) Void h s p = false≢true p
@@ -141,26 +126,26 @@ struct_by Floating u h s p = false≢true s
 
 -- `a + b` that isn't of integers, and `a - b`, have a pointer
 pub added : (structs : Structs) (t u : CType) → are_integers t u ≡ false → can_be_added structs t u ≡ true → (is_pointer t ≡ true) ⊎ (is_pointer u ≡ true)
-added structs t u i h = by (either (are_integers t u || (is_movable structs t && is_integer u)) (is_movable structs u && is_integer t) h)
+added structs t u i h = by (or_cases (are_integers t u || (is_movable structs t && is_integer u)) (is_movable structs u && is_integer t) h)
   where
     front : (are_integers t u ≡ true) ⊎ ((is_movable structs t && is_integer u) ≡ true) → (is_pointer t ≡ true) ⊎ (is_pointer u ≡ true)
     front (inl g) = absurd (false≢true (sym i ∙ g))
-    front (inr g) = inl (pointing (has_size structs) t (and_first (is_movable structs t) (is_integer u) g))
+    front (inr g) = inl (pointing (has_size structs) t (and_parts (is_movable structs t) (is_integer u) g).0)
 
     by : (are_integers t u || (is_movable structs t && is_integer u) ≡ true) ⊎ ((is_movable structs u && is_integer t) ≡ true) → (is_pointer t ≡ true) ⊎ (is_pointer u ≡ true)
-    by (inl g) = front (either (are_integers t u) (is_movable structs t && is_integer u) g)
-    by (inr g) = inr (pointing (has_size structs) u (and_first (is_movable structs u) (is_integer t) g))
+    by (inl g) = front (or_cases (are_integers t u) (is_movable structs t && is_integer u) g)
+    by (inr g) = inr (pointing (has_size structs) u (and_parts (is_movable structs u) (is_integer t) g).0)
 
 pub subtracted : (structs : Structs) (t u : CType) → are_integers t u ≡ false → can_be_subtracted structs t u ≡ true → is_pointer t ≡ true
-subtracted structs t u i h = by (either (are_integers t u || (is_movable structs t && is_integer u)) (is_movable structs t && is_movable structs u && point_alike t u) h)
+subtracted structs t u i h = by (or_cases (are_integers t u || (is_movable structs t && is_integer u)) (is_movable structs t && is_movable structs u && point_alike t u) h)
   where
     front : (are_integers t u ≡ true) ⊎ ((is_movable structs t && is_integer u) ≡ true) → is_pointer t ≡ true
     front (inl g) = absurd (false≢true (sym i ∙ g))
-    front (inr g) = pointing (has_size structs) t (and_first (is_movable structs t) (is_integer u) g)
+    front (inr g) = pointing (has_size structs) t (and_parts (is_movable structs t) (is_integer u) g).0
 
     by : (are_integers t u || (is_movable structs t && is_integer u) ≡ true) ⊎ ((is_movable structs t && is_movable structs u && point_alike t u) ≡ true) → is_pointer t ≡ true
-    by (inl g) = front (either (are_integers t u) (is_movable structs t && is_integer u) g)
-    by (inr g) = pointing (has_size structs) t (and_first (is_movable structs t) (is_movable structs u) (and_first (is_movable structs t && is_movable structs u) (point_alike t u) g))
+    by (inl g) = front (or_cases (are_integers t u) (is_movable structs t && is_integer u) g)
+    by (inr g) = pointing (has_size structs) t (and_parts (is_movable structs t) (is_movable structs u) (and_parts (is_movable structs t && is_movable structs u) (point_alike t u) g).0).0
 
 -- a cast to an integer is one of an integer
 pub cast_integer : (t u : CType) (c : Constancy) → can_be_cast t u c ≡ true → is_integer (unqualified t) ≡ true → is_integer u ≡ true
@@ -185,7 +170,7 @@ cast_zero t u c h p q = by (is_void t) (pointer_no_void t whole) (is_integer t) 
     whole = sym (unqualified_pointer t) ∙ p
 
     last : (a b : Bool) → (a && b && is_zero c) ≡ true → is_zero c ≡ true
-    last a b g = and_second (a && b) (is_zero c) g
+    last a b g = (and_parts (a && b) (is_zero c) g).1
 
     by : (v : Bool) → v ≡ false → (i : Bool) → i ≡ false → (b r : Bool) → r ≡ false → v || (i && b) || (is_pointer t && r) || (is_pointer t && b && is_zero c) ≡ true → is_zero c ≡ true
     by true h i j b r k g = absurd (false≢true (sym h))
@@ -235,7 +220,7 @@ module _ (t u : CType) (c d k m : Constancy) (n : is_null_constant c ≡ true �
 
 -- what is no pointer and chosen beside one is a null pointer constant
 pub null_beside : (t u : CType) (c d : Constancy) → is_pointer t ≡ false → is_pointer u ≡ true → can_be_chosen_from t c u d ≡ true → is_null_constant c ≡ true
-null_beside t u c d p q h = last (either front (goes_with_any_pointer u d t) h)
+null_beside t u c d p q h = last (or_cases front (goes_with_any_pointer u d t) h)
   where
     front : Bool
     front = can_be_ordered t u || (is_void t && is_void u) || are_structs_alike t u || goes_with_any_pointer t c u
@@ -244,34 +229,34 @@ null_beside t u c d p q h = last (either front (goes_with_any_pointer u d t) h)
     no_pointer test g = false≢true (sym p ∙ pointing test t g)
 
     ordered : (are_integers t u ≡ true) ⊎ (point_alike t u ≡ true) → ⊥
-    ordered (inl g) = false≢true (sym (pointer_no_integer u q) ∙ and_second (is_integer t) (is_integer u) g)
+    ordered (inl g) = false≢true (sym (pointer_no_integer u q) ∙ (and_parts (is_integer t) (is_integer u) g).1)
     ordered (inr g) = no_pointer (λ a. points_to (alike a) u) g
 
     structs : are_structs_alike t u ≡ true → ⊥
-    structs g = struct_by (unqualified t) (unqualified u) (and_second (is_struct t) (alike t u) g) (unqualified_struct t ∙ and_first (is_struct t) (alike t u) g) (unqualified_pointer u ∙ q)
+    structs g = struct_by (unqualified t) (unqualified u) (and_parts (is_struct t) (alike t u) g).1 (unqualified_struct t ∙ (and_parts (is_struct t) (alike t u) g).0) (unqualified_pointer u ∙ q)
 
     voids : (is_void t && is_void u) ≡ true → ⊥
-    voids g = false≢true (sym (pointer_no_void u q) ∙ and_second (is_void t) (is_void u) g)
+    voids g = false≢true (sym (pointer_no_void u q) ∙ (and_parts (is_void t) (is_void u) g).1)
 
     null : (is_null_constant c ≡ true) ⊎ (is_pointer_to_void t ≡ true) → is_null_constant c ≡ true
     null (inl g) = g
     null (inr g) = absurd (no_pointer is_void g)
 
     one : (can_be_ordered t u ≡ true) ⊎ ((is_void t && is_void u) ≡ true) → is_null_constant c ≡ true
-    one (inl g) = absurd (ordered (either (are_integers t u) (point_alike t u) g))
+    one (inl g) = absurd (ordered (or_cases (are_integers t u) (point_alike t u) g))
     one (inr g) = absurd (voids g)
 
     two : (can_be_ordered t u || (is_void t && is_void u) ≡ true) ⊎ (are_structs_alike t u ≡ true) → is_null_constant c ≡ true
-    two (inl g) = one (either (can_be_ordered t u) (is_void t && is_void u) g)
+    two (inl g) = one (or_cases (can_be_ordered t u) (is_void t && is_void u) g)
     two (inr g) = absurd (structs g)
 
     three : (can_be_ordered t u || (is_void t && is_void u) || are_structs_alike t u ≡ true) ⊎ (goes_with_any_pointer t c u ≡ true) → is_null_constant c ≡ true
-    three (inl g) = two (either (can_be_ordered t u || (is_void t && is_void u)) (are_structs_alike t u) g)
-    three (inr g) = null (either (is_null_constant c) (is_pointer_to_void t) (and_second (is_pointer u) (is_null_constant c || is_pointer_to_void t) g))
+    three (inl g) = two (or_cases (can_be_ordered t u || (is_void t && is_void u)) (are_structs_alike t u) g)
+    three (inr g) = null (or_cases (is_null_constant c) (is_pointer_to_void t) (and_parts (is_pointer u) (is_null_constant c || is_pointer_to_void t) g).1)
 
     last : (front ≡ true) ⊎ (goes_with_any_pointer u d t ≡ true) → is_null_constant c ≡ true
-    last (inl g) = three (either (can_be_ordered t u || (is_void t && is_void u) || are_structs_alike t u) (goes_with_any_pointer t c u) g)
-    last (inr g) = absurd (false≢true (sym p ∙ and_first (is_pointer t) (is_null_constant d || is_pointer_to_void u) g))
+    last (inl g) = three (or_cases (can_be_ordered t u || (is_void t && is_void u) || are_structs_alike t u) (goes_with_any_pointer t c u) g)
+    last (inr g) = absurd (false≢true (sym p ∙ (and_parts (is_pointer t) (is_null_constant d || is_pointer_to_void u) g).0))
 
 pointing_second : (test : CType → CType → Bool) (t u : CType) → points_to (λ a. points_to (test a) u) t ≡ true → is_pointer u ≡ true
 pointing_second test (Pointer t) u h = pointing (test t) u h
@@ -294,13 +279,13 @@ pointer_no_struct (Function t ts dots) h = refl
 pointer_no_struct Floating h = refl
 
 pub null_behind : (t u : CType) (c d : Constancy) → is_pointer t ≡ true → is_pointer u ≡ false → can_be_chosen_from t c u d ≡ true → is_null_constant d ≡ true
-null_behind t u c d p q h = last (either front (goes_with_any_pointer u d t) h)
+null_behind t u c d p q h = last (or_cases front (goes_with_any_pointer u d t) h)
   where
     front : Bool
     front = can_be_ordered t u || (is_void t && is_void u) || are_structs_alike t u || goes_with_any_pointer t c u
 
     ordered : (are_integers t u ≡ true) ⊎ (point_alike t u ≡ true) → ⊥
-    ordered (inl g) = false≢true (sym (pointer_no_integer t p) ∙ and_first (is_integer t) (is_integer u) g)
+    ordered (inl g) = false≢true (sym (pointer_no_integer t p) ∙ (and_parts (is_integer t) (is_integer u) g).0)
     ordered (inr g) = false≢true (sym q ∙ pointing_second alike t u g)
 
     null : (is_null_constant d ≡ true) ⊎ (is_pointer_to_void u ≡ true) → is_null_constant d ≡ true
@@ -308,17 +293,17 @@ null_behind t u c d p q h = last (either front (goes_with_any_pointer u d t) h)
     null (inr g) = absurd (false≢true (sym q ∙ pointing is_void u g))
 
     one : (can_be_ordered t u ≡ true) ⊎ ((is_void t && is_void u) ≡ true) → ⊥
-    one (inl g) = ordered (either (are_integers t u) (point_alike t u) g)
-    one (inr g) = false≢true (sym (pointer_no_void t p) ∙ and_first (is_void t) (is_void u) g)
+    one (inl g) = ordered (or_cases (are_integers t u) (point_alike t u) g)
+    one (inr g) = false≢true (sym (pointer_no_void t p) ∙ (and_parts (is_void t) (is_void u) g).0)
 
     two : (can_be_ordered t u || (is_void t && is_void u) ≡ true) ⊎ (are_structs_alike t u ≡ true) → ⊥
-    two (inl g) = one (either (can_be_ordered t u) (is_void t && is_void u) g)
-    two (inr g) = false≢true (sym (pointer_no_struct t p) ∙ and_first (is_struct t) (alike t u) g)
+    two (inl g) = one (or_cases (can_be_ordered t u) (is_void t && is_void u) g)
+    two (inr g) = false≢true (sym (pointer_no_struct t p) ∙ (and_parts (is_struct t) (alike t u) g).0)
 
     three : (can_be_ordered t u || (is_void t && is_void u) || are_structs_alike t u ≡ true) ⊎ (goes_with_any_pointer t c u ≡ true) → ⊥
-    three (inl g) = two (either (can_be_ordered t u || (is_void t && is_void u)) (are_structs_alike t u) g)
-    three (inr g) = false≢true (sym q ∙ and_first (is_pointer u) (is_null_constant c || is_pointer_to_void t) g)
+    three (inl g) = two (or_cases (can_be_ordered t u || (is_void t && is_void u)) (are_structs_alike t u) g)
+    three (inr g) = false≢true (sym q ∙ (and_parts (is_pointer u) (is_null_constant c || is_pointer_to_void t) g).0)
 
     last : (front ≡ true) ⊎ (goes_with_any_pointer u d t ≡ true) → is_null_constant d ≡ true
-    last (inl g) = absurd (three (either (can_be_ordered t u || (is_void t && is_void u) || are_structs_alike t u) (goes_with_any_pointer t c u) g))
-    last (inr g) = null (either (is_null_constant d) (is_pointer_to_void u) (and_second (is_pointer t) (is_null_constant d || is_pointer_to_void u) g))
+    last (inl g) = absurd (three (or_cases (can_be_ordered t u || (is_void t && is_void u) || are_structs_alike t u) (goes_with_any_pointer t c u) g))
+    last (inr g) = null (or_cases (is_null_constant d) (is_pointer_to_void u) (and_parts (is_pointer t) (is_null_constant d || is_pointer_to_void u) g).1)

@@ -16,15 +16,15 @@ abbrev pub seen : Constancy → Constancy
 seen (address object offset) = varying
 seen c = c
 
-pub null_seen : (c : Constancy) → is_null_constant (seen c) ≡ is_null_constant c
+null_seen : (c : Constancy) → is_null_constant (seen c) ≡ is_null_constant c
 null_seen (address object offset) = refl
 null_seen _ = refl
 
-pub zero_seen : (c : Constancy) → is_zero (seen c) ≡ is_zero c
+zero_seen : (c : Constancy) → is_zero (seen c) ≡ is_zero c
 zero_seen (address object offset) = refl
 zero_seen _ = refl
 
-pub form_seen : (c : Constancy) → is_form (seen c) ≡ is_form c
+form_seen : (c : Constancy) → is_form (seen c) ≡ is_form c
 form_seen (address object offset) = refl
 form_seen _ = refl
 
@@ -58,7 +58,7 @@ pub sees_itself : (c : Constancy) → Sees c c c
 sees_itself c = record { bare = refl; hidden = inl refl }
 
 module _ (f : Constancy → Constancy) where
-  pub sees_one : ((c : Constancy) → f (seen c) ≡ f c) → f varying ≡ varying → {c d p : Constancy} → Sees c d p → Sees (f c) (f d) (f p)
+  sees_one : ((c : Constancy) → f (seen c) ≡ f c) → f varying ≡ varying → {c d p : Constancy} → Sees c d p → Sees (f c) (f d) (f p)
   sees_one blind strict {c} {d} {p} h = record { bare = ap seen (sym (blind p) ∙ ap f h.bare ∙ blind d); hidden = by h.hidden }
     where
       by : (seen c ≡ seen d) ⊎ (seen c ≡ varying) → (seen (f c) ≡ seen (f d)) ⊎ (seen (f c) ≡ varying)
@@ -74,7 +74,7 @@ module _ (f : Constancy → Constancy) where
       by (inr e) = inr (ap seen (ap f (sym i ∙ e) ∙ strict))
 
 module _ (f : Constancy → Constancy → Constancy) where
-  pub sees_two : ((a b : Constancy) → f (seen a) (seen b) ≡ f a b) → ((b : Constancy) → f varying b ≡ varying) → ((a : Constancy) → f a varying ≡ varying)
+  sees_two : ((a b : Constancy) → f (seen a) (seen b) ≡ f a b) → ((b : Constancy) → f varying b ≡ varying) → ((a : Constancy) → f a varying ≡ varying)
       → {c d p k m q : Constancy} → Sees c d p → Sees k m q → Sees (f c k) (f d m) (f p q)
   sees_two blind left right {c} {d} {p} {k} {m} {q} h g = record {
     bare = ap seen (sym (blind p q) ∙ ap (λ it. f it (seen q)) h.bare ∙ ap (f (seen d)) g.bare ∙ blind d m);
@@ -92,7 +92,7 @@ converted_seen : (m : DataModel) (s : Scalar) (c : Constancy) → converted m s 
 converted_seen m s (address object offset) = refl
 converted_seen m s _ = refl
 
-pub negated_seen : (c : Constancy) → negated (seen c) ≡ negated c
+negated_seen : (c : Constancy) → negated (seen c) ≡ negated c
 negated_seen (address object offset) = refl
 negated_seen _ = refl
 
@@ -253,7 +253,7 @@ chosen_third (address object offset) b c h = refl
 
 -- ---- conversions
 
-pub number_varies : (m : DataModel) (s : Scalar) → constancy_as_number m s varying ≡ varying
+number_varies : (m : DataModel) (s : Scalar) → constancy_as_number m s varying ≡ varying
 number_varies m S.Bool = refl
 number_varies m _ = refl
 

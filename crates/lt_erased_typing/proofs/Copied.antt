@@ -1,6 +1,6 @@
 -- What predicates copy is plain, where it is typed.
 use Rattle.std.proofs.Common.{◌≡◌, ℕ, List, [], Option, Bool, true, false, refl, sym}
-use Rattle.std.proofs.lemmas.Bool.{false≢true}
+use Rattle.std.proofs.lemmas.Bool.{false≢true, and_parts, and_from}
 use Rattle.std.specs.Prelude.{◌&&◌, ◌||◌, not}
 use Rattle.lt_tree.specs.Tree as c
 use Rattle.lt_tree.specs.Comma.{comma_of, followed_by}
@@ -21,7 +21,6 @@ use Rattle.lt_erased_typing.specs.Erasable.{entered, unmarked, in_scope}
 use Rattle.lt_erased_typing.specs.Plain.{IsPlainWith, ArePlain, IsPlainDeclarator, ArePlainParts, ArePlainParameters, IsPlainList}
 use Rattle.lt_erased_typing.specs.Simple.{IsSimpleWith, AreSimple, IsSimpleDeclarator, AreSimpleParts, AreSimpleParameters, IsSimpleList}
 use Rattle.lt_erased_typing.specs.Laws.{CopiesWithLiteralsCanBeErased}
-use Rattle.lt_erased_typing.proofs.Conditions.{and_first, and_second, both_true}
 use Rattle.lt_erased_typing.proofs.TypeNames.{written_somewhere}
 use Rattle.lt_erased_typing.proofs.Shows.{or_none}
 use Rattle.lt_erased_typing.proofs.PlainWalks.{IsNear, here_near, went, bind, entered_near, constant_near, constant_walk, near_behind}
@@ -39,9 +38,9 @@ use Rattle.lt_erased_typing.proofs.MarksGoOn.{plain_marks, core_there, takes}
 followed_pure : (parts others : c.Expressions) → are_pure (followed_by parts others) ≡ true → are_pure parts && are_pure others ≡ true
 followed_pure c.no_expressions others h = h
 followed_pure (c.an_expression first rest) others h =
-    let both = followed_pure rest others (and_second (is_pure first) (are_pure (followed_by rest others)) h) in
-    both_true (is_pure first && are_pure rest) (are_pure others)
-    (both_true (is_pure first) (are_pure rest) (and_first (is_pure first) (are_pure (followed_by rest others)) h) (and_first (are_pure rest) (are_pure others) both)) (and_second (are_pure rest) (are_pure others) both)
+    let both = followed_pure rest others (and_parts (is_pure first) (are_pure (followed_by rest others)) h).1 in
+    and_from (is_pure first && are_pure rest) (are_pure others)
+    (and_from (is_pure first) (are_pure rest) (and_parts (is_pure first) (are_pure (followed_by rest others)) h).0 (and_parts (are_pure rest) (are_pure others) both).0) (and_parts (are_pure rest) (are_pure others) both).1
 
 comma_pure : (d second : c.Expression) (rest : c.Expressions) → is_pure (comma_of d (c.an_expression second rest)) ≡ true
     → is_pure d && (is_pure second && are_pure rest) ≡ true
@@ -102,8 +101,8 @@ mutual
   plain (c.Constant text) role o p h s e = tt
   plain (c.Text bytes) role o p h s e = h
   plain (c.Index whole index) role o p h s e =
-      two_operands as_value whole index _ (λ k x l s e. plain whole as_value (first_open (hides whole) (hides index) o) (and_first (is_pure (erased whole)) (is_pure (erased index)) p) h.0 s e)
-      (λ k x l s e. plain index as_value (second_open (hides whole) (hides index) o) (and_second (is_pure (erased whole)) (is_pure (erased index)) p) h.1 s e) (entered_near s) e
+      two_operands as_value whole index _ (λ k x l s e. plain whole as_value (first_open (hides whole) (hides index) o) (and_parts (is_pure (erased whole)) (is_pure (erased index)) p).0 h.0 s e)
+      (λ k x l s e. plain index as_value (second_open (hides whole) (hides index) o) (and_parts (is_pure (erased whole)) (is_pure (erased index)) p).1 h.1 s e) (entered_near s) e
   plain (c.Call callee arguments) role o p h s e = absurd (false≢true p)
   plain {k = k} (c.Member whole name) role o p h s e =
       let one = went_on (expression whole as_place (entered k)) _ e in
@@ -124,25 +123,25 @@ mutual
   plain {k = k} (c.SizeofType sp (c.declarator name ps)) role o p h s e =
       let one = went_on (specifiers sp (setting_in_sizeof (c.declarator name ps)) (entered k)) _ e in
       let two = went_on (declarator (c.declarator name ps) one.0 false (λ name known b. type_name_faults b) one.1) _ one.3 in
-      (h.0, plain_declarator any_type_name (c.declarator name ps) one.0 (and_second (is_pure_specifiers (erased_specifiers sp)) (is_pure_declarator (erased_declarator (c.declarator name ps))) p) h.1 (near_behind (found_specifiers sp (setting_in_sizeof (c.declarator name ps)) (written_somewhere name ps) (entered_near s) h.0) one.2) two.2)
+      (h.0, plain_declarator any_type_name (c.declarator name ps) one.0 (and_parts (is_pure_specifiers (erased_specifiers sp)) (is_pure_declarator (erased_declarator (c.declarator name ps))) p).1 h.1 (near_behind (found_specifiers sp (setting_in_sizeof (c.declarator name ps)) (written_somewhere name ps) (entered_near s) h.0) one.2) two.2)
   plain {k = k} (c.Cast sp d operand) role o p h s e =
       let one = went_on (specifiers sp elsewhere (entered k)) _ e in
       let two = went_on (declarator d one.0 false (λ name known b. type_name_faults b) one.1) _ one.3 in
       let three = went_on (expression operand as_value two.1) _ two.3 in
       let types = is_pure_specifiers (erased_specifiers sp) in
-      let front = and_first (types && is_pure_declarator (erased_declarator d)) (is_pure (erased operand)) p in
+      let front = (and_parts (types && is_pure_declarator (erased_declarator d)) (is_pure (erased operand)) p).0 in
       let behind = near_behind (found_specifiers sp elsewhere refl (entered_near s) h.0) one.2 in
-      let lengths = plain_declarator any_type_name d one.0 (and_second types (is_pure_declarator (erased_declarator d)) front) h.1 behind two.2 in (
+      let lengths = plain_declarator any_type_name d one.0 (and_parts types (is_pure_declarator (erased_declarator d)) front).1 h.1 behind two.2 in (
         h.0,
         lengths,
-        plain operand as_value o (and_second (types && is_pure_declarator (erased_declarator d)) (is_pure (erased operand)) p) h.2 (near_behind (found_declarator any_type_name d one.0 behind lengths) two.2) three.2,
+        plain operand as_value o (and_parts (types && is_pure_declarator (erased_declarator d)) (is_pure (erased operand)) p).1 h.2 (near_behind (found_declarator any_type_name d one.0 behind lengths) two.2) three.2,
       )
   plain (c.Binary op left right) role o p h s e =
-      two_operands as_value left right _ (λ k x l s e. plain left as_value (first_open (hides left) (hides right) o) (and_first (is_pure (erased left)) (is_pure (erased right)) p) h.0 s e)
-      (λ k x l s e. plain right as_value (second_open (hides left) (hides right) o) (and_second (is_pure (erased left)) (is_pure (erased right)) p) h.1 s e) (entered_near s) e
+      two_operands as_value left right _ (λ k x l s e. plain left as_value (first_open (hides left) (hides right) o) (and_parts (is_pure (erased left)) (is_pure (erased right)) p).0 h.0 s e)
+      (λ k x l s e. plain right as_value (second_open (hides left) (hides right) o) (and_parts (is_pure (erased left)) (is_pure (erased right)) p).1 h.1 s e) (entered_near s) e
   plain (c.Logical op left right) role o p h s e =
-      two_operands as_truth left right _ (λ k x l s e. plain left as_truth (first_open (hides left) (hides right) o) (and_first (is_pure (erased left)) (is_pure (erased right)) p) h.0 s e)
-      (λ k x l s e. plain right as_truth (second_open (hides left) (hides right) o) (and_second (is_pure (erased left)) (is_pure (erased right)) p) h.1 s e) (entered_near s) e
+      two_operands as_truth left right _ (λ k x l s e. plain left as_truth (first_open (hides left) (hides right) o) (and_parts (is_pure (erased left)) (is_pure (erased right)) p).0 h.0 s e)
+      (λ k x l s e. plain right as_truth (second_open (hides left) (hides right) o) (and_parts (is_pure (erased left)) (is_pure (erased right)) p).1 h.1 s e) (entered_near s) e
   plain {k = k} (c.Conditional test left right) role o p h s e =
       let one = went_on (expression test as_truth (entered k)) _ e in
       let two = went_on (expression left as_value one.1) _ one.3 in
@@ -150,12 +149,12 @@ mutual
       let both = first_open (hides test || (is_marked_cast left || hides left)) (is_marked_cast right || hides right) o in
       let second_o = second_open (hides test) (is_marked_cast left || hides left) both in
       let third_o = second_open (hides test || (is_marked_cast left || hides left)) (is_marked_cast right || hides right) o in
-      let front = and_first (is_pure (erased test) && is_pure (erased left)) (is_pure (erased right)) p in
-      let first = plain test as_truth (first_open (hides test) (is_marked_cast left || hides left) both) (and_first (is_pure (erased test)) (is_pure (erased left)) front) h.0 (entered_near s) one.2 in
+      let front = (and_parts (is_pure (erased test) && is_pure (erased left)) (is_pure (erased right)) p).0 in
+      let first = plain test as_truth (first_open (hides test) (is_marked_cast left || hides left) both) (and_parts (is_pure (erased test)) (is_pure (erased left)) front).0 h.0 (entered_near s) one.2 in
       let there = near_behind (found_expression test as_truth (entered_near s) first) one.2 in
-      let second = plain left as_value (second_open (is_marked_cast left) (hides left) second_o) (and_second (is_pure (erased test)) (is_pure (erased left)) front) h.1 there two.2 in
+      let second = plain left as_value (second_open (is_marked_cast left) (hides left) second_o) (and_parts (is_pure (erased test)) (is_pure (erased left)) front).1 h.1 there two.2 in
       let behind = near_behind (found_expression left as_value there second) two.2 in
-      let third = plain right as_value (second_open (is_marked_cast right) (hides right) third_o) (and_second (is_pure (erased test) && is_pure (erased left)) (is_pure (erased right)) p) h.2 behind three.2 in (
+      let third = plain right as_value (second_open (is_marked_cast right) (hides right) third_o) (and_parts (is_pure (erased test) && is_pure (erased left)) (is_pure (erased right)) p).1 h.2 behind three.2 in (
         first,
         no_cast_chosen left second_o there second h.1 two.2,
         second,
@@ -183,9 +182,9 @@ mutual
   plain_each {k = k} (c.an_expression first rest) o p h s e =
       let one = went_on (expression first as_value k) _ e in
       let two = went_on (expressions rest one.1) _ one.3 in
-      let it = plain first as_value (first_open (hides first) (any_hides rest) o) (and_first (is_pure (erased first)) (are_pure (erased_expressions rest)) p) h.0 s one.2 in (
+      let it = plain first as_value (first_open (hides first) (any_hides rest) o) (and_parts (is_pure (erased first)) (are_pure (erased_expressions rest)) p).0 h.0 s one.2 in (
         it,
-        plain_each rest (second_open (hides first) (any_hides rest) o) (and_second (is_pure (erased first)) (are_pure (erased_expressions rest)) p) h.1 (near_behind (found_expression first as_value s it) one.2) two.2,
+        plain_each rest (second_open (hides first) (any_hides rest) o) (and_parts (is_pure (erased first)) (are_pure (erased_expressions rest)) p).1 h.1 (near_behind (found_expression first as_value s it) one.2) two.2,
       )
 
   plain_parts : {texts : Bool} {known k : Known} {b : Built} {l : Known} (them : c.Parts) (t : CType) (is_outermost : Bool)
@@ -199,9 +198,9 @@ mutual
       let two = went_on (marked_again k.is_unmarked (expression length as_value (unmarked k))) _ one.2 in
       let three = marked_went_on k.is_unmarked (expression length as_value (unmarked k)) two.2 in
       let four = went_on (parts rest t false false one.1) _ one.3 in
-      let it = plain {known = unmarked known} length as_value (never refl) (and_first (is_pure (erased length)) (are_pure_parts (erased_parts rest)) p) h.0 (constant_near s) three.1 in (
+      let it = plain {known = unmarked known} length as_value (never refl) (and_parts (is_pure (erased length)) (are_pure_parts (erased_parts rest)) p).0 h.0 (constant_near s) three.1 in (
         it,
-        plain_parts rest t false (and_second (is_pure (erased length)) (are_pure_parts (erased_parts rest)) p) h.1
+        plain_parts rest t false (and_parts (is_pure (erased length)) (are_pure_parts (erased_parts rest)) p).1 h.1
             (near_behind (bind (constant_walk s (found_expression {known = unmarked known} length as_value (constant_near s) it)) (λ x l s. went s)) one.2) four.2,
       )
   plain_parts {texts} {known} {k = k} (c.Function them rest) t is_outermost p h s e =
@@ -209,11 +208,11 @@ mutual
       let two = scope_went_on k.frames (parameters them false (in_scope k)) one.2 in
       let three = went_on (parts rest t false false one.1) _ one.3 in
       let there = scope_tags s in
-      let inner = plain_parameters {known = in_scope k} {k = in_scope k} h.0 them (and_first (are_pure_parameters (erased_parameters them)) (are_pure_parts (erased_parts rest)) p) (simple_parameters there texts them h.1)
+      let inner = plain_parameters {known = in_scope k} {k = in_scope k} h.0 them (and_parts (are_pure_parameters (erased_parameters them)) (are_pure_parts (erased_parts rest)) p).0 (simple_parameters there texts them h.1)
       (here_near (in_scope k)) two.2 in (
         h.0,
         parameters_there (turned there) texts them inner,
-        plain_parts rest t false (and_second (are_pure_parameters (erased_parameters them)) (are_pure_parts (erased_parts rest)) p) h.2
+        plain_parts rest t false (and_parts (are_pure_parameters (erased_parameters them)) (are_pure_parts (erased_parts rest)) p).1 h.2
             (near_behind (scope_found s (found_parameters h.0 them (here_near (in_scope k)) inner)) one.2) three.2,
       )
 
@@ -240,17 +239,17 @@ mutual
       let one = went_on (specifiers sp elsewhere k) _ e in
       let two = went_on (declarator d one.0 false (parameter_faults false) one.1) _ one.3 in
       let behind = near_behind (found_specifiers sp elsewhere refl s h.0) one.2 in
-      let first = plain_declarator (parameter_faults false) d one.0 (and_second (is_pure_specifiers (erased_specifiers sp)) (is_pure_declarator (erased_declarator d)) (and_first types (is_pure_parameter_list (erased_parameter_list rest)) p)) h.1 behind two.2 in
+      let first = plain_declarator (parameter_faults false) d one.0 (and_parts (is_pure_specifiers (erased_specifiers sp)) (is_pure_declarator (erased_declarator d)) (and_parts types (is_pure_parameter_list (erased_parameter_list rest)) p).0).1 h.1 behind two.2 in
       let later = near_behind (found_declarator (parameter_faults false) d one.0 behind first) two.2 in
       let three = bound_went_on two.0.name (is_register one.0) two.0.node (adjusted two.0.type) later two.3 in
       let four = went_on (parameter_list rest false three.2) _ three.5 in (
         h.0,
         first,
-        list_there (turned three.3) texts rest (plain_list is rest (and_second types (is_pure_parameter_list (erased_parameter_list rest)) p) (simple_list three.3 texts rest h.2) three.4 four.2),
+        list_there (turned three.3) texts rest (plain_list is rest (and_parts types (is_pure_parameter_list (erased_parameter_list rest)) p).1 (simple_list three.3 texts rest h.2) three.4 four.2),
       )
 
 -- what predicates copy is plain, so marks can be taken off it
 pub copies_with_literals : CopiesWithLiteralsCanBeErased
 copies_with_literals known next it x w c h e =
     erasable {known = known} {k = known} (λ is. w) it as_value refl (λ q. absurd cc) (here_near known)
-    (plain {known = known} {k = known} it as_value (shown (not_true (hides it) (and_second (is_pure (erased it)) (not (hides it)) c))) (and_first (is_pure (erased it)) (not (hides it)) c) h (here_near known) e)
+    (plain {known = known} {k = known} it as_value (shown (not_true (hides it) (and_parts (is_pure (erased it)) (not (hides it)) c).1)) (and_parts (is_pure (erased it)) (not (hides it)) c).0 h (here_near known) e)

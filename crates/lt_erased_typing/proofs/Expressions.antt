@@ -139,7 +139,7 @@ mutual
   of_expression alike (c.After operand id tag) as_place n b h = absurd h.0
   of_expression alike (c.After operand id tag) as_callee n b h = absurd (false≢true (sym n))
 
-  pub of_expressions : {texts : Bool} {known : Known} {own : Own} {k j : Known} → AreScopesAlike texts known own → (them : c.Expressions)
+  of_expressions : {texts : Bool} {known : Known} {own : Own} {k j : Known} → AreScopesAlike texts known own → (them : c.Expressions)
       → IsBeside texts known own k j → CanEachBeErased texts k them
       → Follows texts known own BareEach (expressions them k) (expressions (erased_expressions them) j)
   of_expressions alike c.no_expressions b h = goes none_bare b

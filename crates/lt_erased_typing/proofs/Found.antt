@@ -98,7 +98,7 @@ mutual
       bind (found_expression operand (inside_after role) (entered_near s) h) (λ x l s.
       bind (finished k.next role (judge_after role x id tag l) s) (λ z i t. went (labels_near (i.labels ++ label_of id tag [] ∷ []) t)))
 
-  pub found_expressions : {texts : Bool} {known k : Known} (them : c.Expressions) → IsNear texts known k → ArePlain texts known.frames them
+  found_expressions : {texts : Bool} {known k : Known} (them : c.Expressions) → IsNear texts known k → ArePlain texts known.frames them
       → Finds texts known (expressions them k)
   found_expressions c.no_expressions s h = went s
   found_expressions (c.an_expression first rest) s h = bind (found_expression first as_value s h.0) (λ x l s. bind (found_expressions rest s h.1) (λ xs l s. went s))
@@ -108,7 +108,7 @@ mutual
   found_marks c.no_marks s h = went s
   found_marks (c.a_mark first rest) s h = bind (found_mark first s h.0) (λ m l s. bind (found_marks rest s h.1) (λ ms l s. went s))
 
-  pub found_mark : {texts : Bool} {known k : Known} (it : c.Mark) → IsNear texts known k → IsPlainMark texts known.frames it → Finds texts known (mark it k)
+  found_mark : {texts : Bool} {known k : Known} (it : c.Mark) → IsNear texts known k → IsPlainMark texts known.frames it → Finds texts known (mark it k)
   found_mark {k = k} (c.mark predicate id tag bound) s h =
       bind (found_expression predicate as_value (entered_near s) h.0) (λ x l s. bind (found_bindings bound s h.1) (λ bs l s.
       settled k.next (unless (is_good_mark l predicate x id tag bs) bad_mark) _ (went (labels_near (l.labels ++ label_of id tag (names_of bs) ∷ []) s))))
@@ -118,7 +118,7 @@ mutual
   found_bindings c.no_bindings s h = went s
   found_bindings (c.a_binding name value rest) s h = bind (found_expression value as_value s h.0) (λ x l s. bind (found_bindings rest s h.1) (λ bs l s. went s))
 
-  pub found_parts : {texts : Bool} {known k : Known} (them : c.Parts) (t : CType) (is_outermost : Bool) → IsNear texts known k
+  found_parts : {texts : Bool} {known k : Known} (them : c.Parts) (t : CType) (is_outermost : Bool) → IsNear texts known k
       → ArePlainParts texts known.frames them → Finds texts known (parts them t false is_outermost k)
   found_parts c.no_parts t is_outermost s h = went s
   found_parts (c.Pointer q rest) t is_outermost s h = bind (found_parts rest t false s h) (λ x l s. went s)
@@ -140,7 +140,7 @@ mutual
   found_parameters is (c.Listed list) s h = found_list is list s h
   found_parameters is (c.Open list) s h = reach_last with_dots (found_list is list s h)
 
-  pub found_list : {texts : Bool} {known k : Known} → texts ≡ true → (them : c.ParameterList) → IsNear texts known k → IsPlainList texts known.frames them
+  found_list : {texts : Bool} {known k : Known} → texts ≡ true → (them : c.ParameterList) → IsNear texts known k → IsPlainList texts known.frames them
       → Reaches texts known (parameter_list them false k)
   found_list is c.no_parameters s h = reach_here s
   found_list {texts} is (c.a_parameter sp d rest) s h =

@@ -99,7 +99,7 @@ module _ {texts : Bool} {known : Known} {own : Own} where
   pub second_is : {k j : Known} → IsBeside texts known own k j → j ≡ own_with known own j.next j.objects j.facts
   second_is (beside more other) = refl
 
-  pub first_more : {k j : Known} → IsBeside texts known own k j → HasMoreTexts texts known.objects k.objects
+  first_more : {k j : Known} → IsBeside texts known own k j → HasMoreTexts texts known.objects k.objects
   first_more (beside more other) = more
 
   pub second_more : {k j : Known} → IsBeside texts known own k j → HasMoreTexts texts own.objects j.objects

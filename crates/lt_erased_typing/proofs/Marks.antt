@@ -1,6 +1,6 @@
 -- Nodes of marks: the expression behind them is the same without them.
 use Rattle.std.proofs.Common.{◌≡◌, ℕ, List, [], Bool, true, false, refl, sym, ap, ◌∙◌, subst, inr}
-use Rattle.std.proofs.lemmas.Bool.{false≢true}
+use Rattle.std.proofs.lemmas.Bool.{false≢true, and_parts}
 use Rattle.std.specs.Prelude.{◌==◌, ◌&&◌, not}
 use Rattle.lt_tree.specs.Typing.Types.{CType, is_scalar}
 use Rattle.lt_tree.specs.Typing.Constants.{varying}
@@ -12,7 +12,6 @@ use Rattle.lt_tree.specs.Typing.Expressions.{Form, a_value, a_place, a_designato
 use Rattle.lt_tree.specs.Typing.MarkRules.{judge_marked, judge_decide, judge_after, after_of, number_of_id, is_truth, is_good_decision, is_good_id, is_tag}
 use Rattle.lt_erased_typing.proofs.Operands.{IsKin, AreValues, values, BareValue, BareTruth, value_read, kin_varying}
 use Rattle.lt_erased_typing.proofs.Ends.{unless_true}
-use Rattle.lt_erased_typing.proofs.Conditions.{and_first, and_second}
 
 values_by : {f g : Form} (v : Value) → AreValues f g → type_of v ≡ elim (f) as (λ _. CType) [ a_value w ↦ type_of w | a_place place ↦ own_type (record { form = a_place place; is_register = false; is_after = false; constancy = varying; erased = varying }) | a_designator name type ↦ type ]
     → AreValues (a_value v) g
@@ -23,7 +22,7 @@ abbrev behind : Typed → Value → Bool → Typed
 behind x v is_after = record { form = a_value v; is_register = x.is_register; is_after = is_after; constancy = varying; erased = x.erased }
 
 module _ {x y : Typed} (v : Value) (is_after : Bool) (t : type_of v ≡ own_type x) where
-  pub marked_value : BareValue x y → BareValue (behind x v is_after) y
+  marked_value : BareValue x y → BareValue (behind x v is_after) y
   marked_value p = record {
     form = values_by v p.form t;
     register = p.register;
@@ -35,7 +34,7 @@ module _ {x y : Typed} (v : Value) (is_after : Bool) (t : type_of v ≡ own_type
     });
   }
 
-  pub marked_truth : BareTruth x y → BareTruth (behind x v is_after) y
+  marked_truth : BareTruth x y → BareTruth (behind x v is_after) y
   marked_truth p = record { scalar = λ s. p.scalar (ap is_scalar (sym t) ∙ s); value = refl; constancy = record { bare = p.constancy.bare; hidden = inr refl } }
 
 decided_scalar : (x : Typed) (when_true when_false tag : List ℕ) (k : Known) → is_good_decision as_truth k x when_true when_false tag ≡ true → is_scalar (own_type x) ≡ true
@@ -45,8 +44,8 @@ decided_scalar x when_true when_false tag k h =
     let one = is_good_id k when_true in
     let two = is_good_id k when_false in
     let three = not (number_of_id when_true == number_of_id when_false) in
-    and_second (is_truth as_truth && not k.is_unmarked) scalar
-    (and_first front one (and_first (front && one) two (and_first (front && one && two) three (and_first (front && one && two && three) (is_tag tag) h))))
+    (and_parts (is_truth as_truth && not k.is_unmarked) scalar
+    (and_parts front one (and_parts (front && one) two (and_parts (front && one && two) three (and_parts (front && one && two && three) (is_tag tag) h).0).0).0).0).1
 
 module _ {x y : Typed} where
   pub marks_value : (ms : e.Marks) → BareValue x y → BareValue (used as_value (judge_marked ms x).typed) y

@@ -1,7 +1,7 @@
 -- Marks that are typed have plain predicates, and stand neither in `sizeof` nor in constant expressions, nor around the operand of `&`.
 use Rattle.std.proofs.Common.{◌≡◌, ℕ, List, [], true, false, refl, sym, ap, ◌∙◌, subst, Bool}
 use Rattle.std.specs.List.{list_all}
-use Rattle.std.proofs.lemmas.Bool.{false≢true}
+use Rattle.std.proofs.lemmas.Bool.{false≢true, and_parts}
 use Rattle.std.specs.Prelude.{◌&&◌, not, ◌==◌}
 use Rattle.lt_tree.specs.declared.expression.UnaryOp.{UnaryOp}
 use Rattle.lt_tree.specs.declared.expression.UnaryOp.TheVariants as unary
@@ -21,7 +21,6 @@ use Rattle.lt_objectives.specs.Copies.{is_core}
 use Rattle.lt_erased_typing.specs.Erasable.{entered}
 use Rattle.lt_erased_typing.specs.Plain.{IsPlainWith, ArePlainMarks, IsPlainMark, ArePlainBindings, MayTake}
 use Rattle.lt_erased_typing.specs.Simple.{IsSimpleWith, AreSimpleMarks, IsSimpleMark, AreSimpleBindings}
-use Rattle.lt_erased_typing.proofs.Conditions.{and_first, and_second}
 use Rattle.lt_erased_typing.proofs.Ends.{unless_true}
 use Rattle.lt_erased_typing.proofs.PlainWalks.{IsNear, entered_near, unmarked_near, near_behind}
 use Rattle.lt_erased_typing.proofs.Found.{found_expression, found_bindings}
@@ -43,12 +42,12 @@ good_of known written x id tag bs h =
     let pure = is_pure written in
     let good = is_good_id known id in
     let bound = list_all is_good_binding bs in
-    let six = and_first (there && scalar && pure && good && is_tag tag && bound) (are_new_names known (names_of bs)) h in
-    let three = and_first (there && scalar && pure) good (and_first (there && scalar && pure && good) (is_tag tag) (and_first (there && scalar && pure && good && is_tag tag) bound six)) in
+    let six = (and_parts (there && scalar && pure && good && is_tag tag && bound) (are_new_names known (names_of bs)) h).0 in
+    let three = (and_parts (there && scalar && pure) good (and_parts (there && scalar && pure && good) (is_tag tag) (and_parts (there && scalar && pure && good && is_tag tag) bound six).0).0).0 in
     record {
-      marked = and_first there scalar (and_first (there && scalar) pure three);
-      pure = and_second (there && scalar) pure three;
-      bound = and_second (there && scalar && pure && good && is_tag tag) bound six;
+      marked = (and_parts there scalar (and_parts (there && scalar) pure three).0).0;
+      pure = (and_parts (there && scalar) pure three).1;
+      bound = (and_parts (there && scalar && pure && good && is_tag tag) bound six).1;
     }
 
 plain_bindings : (texts : Bool) (frames : List Frame) (them : c.Bindings) (k : Known) {bs : List TypedBinding} {l : Known}
@@ -60,8 +59,8 @@ plain_bindings texts frames (c.a_binding name value rest) k e g h =
     let two = went_on (bindings rest one.1) _ one.3 in
     let first : TypedBinding = record { name = name; written = value; typed = one.0 } in
     let all = subst (λ (bs : List TypedBinding). list_all is_good_binding bs ≡ true) (bound two.3) g in (
-      plain_of_pure texts frames value (and_second (is_integer (own_type one.0)) (is_pure value) (and_first (is_good_binding first) (list_all is_good_binding two.0) all)) h.0,
-      plain_bindings texts frames rest one.1 two.2 (and_second (is_good_binding first) (list_all is_good_binding two.0) all) h.1,
+      plain_of_pure texts frames value (and_parts (is_integer (own_type one.0)) (is_pure value) (and_parts (is_good_binding first) (list_all is_good_binding two.0) all).0).1 h.0,
+      plain_bindings texts frames rest one.1 two.2 (and_parts (is_good_binding first) (list_all is_good_binding two.0) all).1 h.1,
     )
   where
     bound : {bs cs : List TypedBinding} {k l : Known} → Goes cs k ≡ Goes bs l → bs ≡ cs
@@ -129,9 +128,9 @@ module _ {texts : Bool} {known : Known} (never : known.is_unmarked ≡ true) whe
           let one = is_good_id k when_true in
           let two = is_good_id k when_false in
           let three = not (number_of_id when_true == number_of_id when_false) in
-          and_second (is_truth role) (not k.is_unmarked)
-          (and_first front scalar
-          (and_first (front && scalar) one (and_first (front && scalar && one) two (and_first (front && scalar && one && two) three (and_first (front && scalar && one && two && three) (is_tag tag) h)))))
+          (and_parts (is_truth role) (not k.is_unmarked)
+          (and_parts front scalar
+          (and_parts (front && scalar) one (and_parts (front && scalar && one) two (and_parts (front && scalar && one && two) three (and_parts (front && scalar && one && two && three) (is_tag tag) h).0).0).0).0).0).1
   core_there (c.After operand id tag) role {k} s p h e =
       let one = went_on (expression operand (inside_after role) (entered k)) _ e in
       let two = went_on (finish k.next role (judge_after role one.0 id tag one.1) one.1) _ one.3 in
@@ -140,7 +139,7 @@ module _ {texts : Bool} {known : Known} (never : known.is_unmarked ≡ true) whe
       let good = unless_true (front && there && is_good_id one.1 id && is_tag tag) bad_mark (ended k.next role (judge_after role one.0 id tag one.1) one.1 two.2).0 in
       absurd
       (none_there (near_behind (found_expression operand (inside_after role) (entered_near s) p) one.2)
-      (and_second front there (and_first (front && there) (is_good_id one.1 id) (and_first (front && there && is_good_id one.1 id) (is_tag tag) good))))
+      (and_parts front there (and_parts (front && there) (is_good_id one.1 id) (and_parts (front && there && is_good_id one.1 id) (is_tag tag) good).0).0).1)
   core_there _ role s p h e = refl
 
 -- ---- the operand of `&`
@@ -174,7 +173,7 @@ core_lvalue _ k e h = refl
 pub takes : (op : UnaryOp) (operand : c.Expression) (k : Known) {x : Typed} {l : Known} → expression operand (operand_of op) k ≡ Goes x l
     → (judge_unary op x l).faults ≡ [] → MayTake op operand
 unfolding judge_address_of
-takes unary.AddressOf operand k {x} e h = core_lvalue operand k e (and_first (is_lvalue x) (not x.is_register) (unless_true (is_lvalue x && not x.is_register) bad_address h))
+takes unary.AddressOf operand k {x} e h = core_lvalue operand k e (and_parts (is_lvalue x) (not x.is_register) (unless_true (is_lvalue x && not x.is_register) bad_address h)).0
 takes unary.Not operand k e h = tt
 takes unary.Dereference operand k e h = tt
 takes unary.Plus operand k e h = tt

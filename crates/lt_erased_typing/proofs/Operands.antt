@@ -156,7 +156,7 @@ read_value : (x y : Typed) {f g : Form} → AreValues f g → y.is_register ≡ 
     → BareValue (as_it_is_read (record x { form = f })) (as_it_is_read (record y { form = g }))
 read_value x y (values h) r k = record { form = values h; register = r; constancy = k }
 
-pub as_read : {x y : Typed} → Bare x y → BareValue (as_it_is_read x) (as_it_is_read y)
+as_read : {x y : Typed} → Bare x y → BareValue (as_it_is_read x) (as_it_is_read y)
 as_read {x} {y} (a_bare_value h) = read_value x y h.form h.register h.constancy
 as_read {x} {y} (a_bare_place h) = read_form x y h.form h.register h.marked h.erasure h.bare
 
@@ -167,7 +167,7 @@ value_form x (values h) = refl
 pub value_read : {x y : Typed} → BareValue x y → as_it_is_read x ≡ x
 value_read {x} h = value_form x h.form
 
-pub truth_of : {x y : Typed} → BareValue x y → BareTruth x y
+truth_of : {x y : Typed} → BareValue x y → BareTruth x y
 truth_of h = record { scalar = λ s. ap is_scalar (value_type_same h) ∙ s; value = value_read h; constancy = h.constancy.sees }
 
 pub used_as : (role : Use) {x y : Typed} → Bare x y → BareAs role (used role x) (used role y)

@@ -1,6 +1,6 @@
 -- Operators make the same of expressions without their marks: C11 6.5.1 to 6.5.4.
 use Rattle.std.proofs.Common.{◌≡◌, ℕ, List, [], ◌∷◌, Option, Some, None, Bool, true, false, refl, sym, ap, ◌∙◌, subst}
-use Rattle.std.proofs.lemmas.Bool.{false≢true}
+use Rattle.std.proofs.lemmas.Bool.{false≢true, and_parts, and_from}
 use Rattle.std.specs.Prelude.{◌+◌, ◌&&◌, not, if◌then◌else◌, ℤ, pos, ◌-ℤ◌, option_and_then}
 use Rattle.lt_model.specs.declared.scalar.DataModel.{DataModel}
 use Rattle.lt_model.specs.declared.scalar.Scalar.{Scalar}
@@ -24,10 +24,10 @@ use Rattle.lt_erased_typing.proofs.Going.{IsBeside, beside, names_beside}
 use Rattle.lt_erased_typing.proofs.Constants.{seen, integral_seen, Sees, IsOf, sees_itself, sees_plain, converted_sees, converted_is, from_zero_sees, turned_sees, applied_is, negated_sees, negated_is, conversion_varies, conversion_is, pointer_sees, moved_seen, zero_more}
 use Rattle.lt_erased_typing.proofs.Operands.{AreValues, values, ArePlaces, places, BareValue, BarePlace, Bare, a_bare_value, a_bare_place, BareTruth, BareAs, BareJudged, value_type_same, type_same, lvalue_same, register_same, kin_pointer, bare_valued}
 use Rattle.lt_erased_typing.proofs.Ends.{unless_true, true_unless}
-use Rattle.lt_erased_typing.proofs.Conditions.{cast_integer, cast_more, and_first, and_second, both_true}
+use Rattle.lt_erased_typing.proofs.Conditions.{cast_integer, cast_more}
 
 -- a constant of an integer type is itself
-pub bare_number : (s : Scalar) (z : ℤ) → BareValue (constant s z) (constant s z)
+bare_number : (s : Scalar) (z : ℤ) → BareValue (constant s z) (constant s z)
 bare_number s z = record {
   form = values refl;
   register = refl;
@@ -136,16 +136,16 @@ module _ {x y : Typed} where
   -- what has an address isn't seen as a constant
   pub address_marked : Bare x y → (judge_address_of x).faults ≡ [] → seen x.constancy ≡ varying
   unfolding judge_address_of
-  address_marked p h = (address_by p (and_first (is_lvalue x) (not x.is_register) (unless_true (is_lvalue x && not x.is_register) bad_address h))).marked
+  address_marked p h = (address_by p (and_parts (is_lvalue x) (not x.is_register) (unless_true (is_lvalue x && not x.is_register) bad_address h)).0).marked
 
   address_of_bare : Bare x y → BareJudged (judge_address_of x) (judge_address_of y)
   unfolding judge_address_of
   address_of_bare p = λ h.
       let both = unless_true (is_lvalue x && not x.is_register) bad_address h in
-      let place = address_by p (and_first (is_lvalue x) (not x.is_register) both) in (
+      let place = address_by p (and_parts (is_lvalue x) (not x.is_register) both).0 in (
         true_unless (is_lvalue y && not y.is_register) bad_address
-            (both_true (is_lvalue y) (not y.is_register) (lvalue_same p ∙ and_first (is_lvalue x) (not x.is_register) both)
-            (ap not (register_same p) ∙ and_second (is_lvalue x) (not x.is_register) both)),
+            (and_from (is_lvalue y) (not y.is_register) (lvalue_same p ∙ (and_parts (is_lvalue x) (not x.is_register) both).0)
+            (ap not (register_same p) ∙ (and_parts (is_lvalue x) (not x.is_register) both).1)),
         a_bare_value (bare_valued (ap Pointer (type_same p)) (kin_pointer (Pointer (own_type x)) x.constancy x.constancy y.constancy refl place.marked place.marked place.bare)),
       )
 
@@ -223,7 +223,7 @@ part_bare {x} {y} (Some member) m = λ h. (
 )
 
 -- one of two operands
-pub pick : {x y v w : Typed} (b : Bool) → BareValue x y → BareValue v w → BareValue (if b then x else v) (if b then y else w)
+pick : {x y v w : Typed} (b : Bool) → BareValue x y → BareValue v w → BareValue (if b then x else v) (if b then y else w)
 pick true p q = p
 pick false p q = q
 

@@ -46,7 +46,7 @@ module _ {texts : Bool} {known : Known} {own : Own} where
   pub lead_here : {A B : Type 0} {R : A → B → Type 0} {a : A} {b : B} {k j : Known} → R a b → IsBeside texts known own k j → Leads texts known own R (Goes a k) (Goes b j)
   lead_here r (beside more other) = leads r (within_scopes more other)
 
-  pub lead_then : {A B C D : Type 0} {R : A → B → Type 0} {Q : C → D → Type 0} {P : A → Known → Type 0} {o : Outcome A} {p : Outcome B} {f : A → Known → Outcome C} {g : B → Known → Outcome D}
+  lead_then : {A B C D : Type 0} {R : A → B → Type 0} {Q : C → D → Type 0} {P : A → Known → Type 0} {o : Outcome A} {p : Outcome B} {f : A → Known → Outcome C} {g : B → Known → Outcome D}
       → Follows texts known own R o p → Behind o P
       → ((a : A) (b : B) (k j : Known) → R a b → IsBeside texts known own k j → P a k → Leads texts known own Q (f a k) (g b j))
       → Leads texts known own Q (goes_on o f) (goes_on p g)
@@ -59,7 +59,7 @@ module _ {texts : Bool} {known : Known} {own : Own} where
   lead_last f g h ends = ends
 
   -- from a place with other names in scope
-  pub lead_on : {A B : Type 0} {R : A → B → Type 0} {o : Outcome A} {p : Outcome B} {k j : Known} {xs ys : List Object} (fs gs : List Frame)
+  lead_on : {A B : Type 0} {R : A → B → Type 0} {o : Outcome A} {p : Outcome B} {k j : Known} {xs ys : List Object} (fs gs : List Frame)
       → IsBeside texts known own k j → HasMoreTexts texts k.objects xs → HasMoreTexts texts j.objects ys
       → Leads texts (Later k fs xs) (itself (Later j gs ys)) R o p → Leads texts known own R o p
   lead_on fs gs (beside more other) m n (leads r (within_scopes a b)) = leads r (within_scopes (more_after more (more_after m a)) (more_after other (more_after n b)))

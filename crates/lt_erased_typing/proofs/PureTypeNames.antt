@@ -1,6 +1,6 @@
 -- Type names of pure expressions are the same in two places where the same is known but for the numbers of objects.
 use Rattle.std.proofs.Common.{◌≡◌, ℕ, List, [], ◌∷◌, length, Option, Some, None, Bool, true, false, refl, sym, ap, ◌∙◌, subst}
-use Rattle.std.proofs.lemmas.Bool.{false≢true}
+use Rattle.std.proofs.lemmas.Bool.{false≢true, and_parts}
 use Rattle.std.specs.Prelude.{◌++◌, if◌then◌else◌, is_some}
 use Rattle.std.specs.Str.{bytes_eq}
 use Rattle.lt_tree.specs.Tree as c
@@ -17,7 +17,6 @@ use Rattle.lt_tree.specs.Typing.Declarators.{Parameters, Built, built, Declares,
 use Rattle.lt_tree.specs.Typing.ExpressionTyping.{expression, type_specifiers, type_specifier, specifiers, declarator, parts}
 use Rattle.lt_erased_typing.specs.Literals.{none_more}
 use Rattle.lt_erased_typing.specs.Erasable.{entered}
-use Rattle.lt_erased_typing.proofs.Conditions.{and_first, and_second}
 use Rattle.lt_erased_typing.proofs.Scopes.{StandAlike, AreAlike, typedef_same}
 use Rattle.lt_erased_typing.proofs.Operators.{size_same, cast_bare}
 use Rattle.lt_erased_typing.proofs.TypeNames.{AreSame, AreBuiltAlike, DeclareAlike, declare_alike, AreParametersAlike, parameters_more, names_by, parameters_judged, also_bare, words_aside}
@@ -100,10 +99,10 @@ types_like : {k j : Known} (them : c.TypeSpecifiers) (setting : Setting) → is_
     → Together k.objects j.objects (AreSame {A = List Naming}) (type_specifiers them setting k) (type_specifiers them setting j)
 types_like c.no_types setting a p s = found_here refl s
 types_like (c.a_type first rest) setting a p s =
-    on (type_like first setting a (and_first (is_pure_type first) (are_pure_types rest) p) s) (λ x y l i e s.
-    so (λ xs. x ∷ xs) (λ ys. y ∷ ys) (λ xs ys f. ap (λ it. it ∷ ys) e ∙ ap (λ it. x ∷ it) f) (types_like rest setting a (and_second (is_pure_type first) (are_pure_types rest) p) s))
+    on (type_like first setting a (and_parts (is_pure_type first) (are_pure_types rest) p).0 s) (λ x y l i e s.
+    so (λ xs. x ∷ xs) (λ ys. y ∷ ys) (λ xs ys f. ap (λ it. it ∷ ys) e ∙ ap (λ it. x ∷ it) f) (types_like rest setting a (and_parts (is_pure_type first) (are_pure_types rest) p).1 s))
 
-pub specifiers_like : {k j : Known} (it : c.Specifiers) (setting : Setting) → is_alone setting ≡ false → is_pure_specifiers it ≡ true → IsLike k j
+specifiers_like : {k j : Known} (it : c.Specifiers) (setting : Setting) → is_alone setting ≡ false → is_pure_specifiers it ≡ true → IsLike k j
     → Together k.objects j.objects (AreSame {A = Specified}) (specifiers it setting k) (specifiers it setting j)
 specifiers_like (c.specifiers words types) setting a p s =
     so (specified words) (specified words) (λ xs ys e. ap (specified words) e) (types_like types (beside_words words setting) (words_aside words setting a) p s)

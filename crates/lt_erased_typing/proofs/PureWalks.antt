@@ -1,6 +1,6 @@
 -- Pure expressions are typed alike in two places where the same is known but for the numbers of objects.
 use Rattle.std.proofs.Common.{◌≡◌, ℕ, List, ◌∷◌, length, Option, Some, Bool, true, false, refl, sym, ◌∙◌}
-use Rattle.std.proofs.lemmas.Bool.{false≢true}
+use Rattle.std.proofs.lemmas.Bool.{false≢true, and_parts}
 use Rattle.std.specs.Prelude.{◌&&◌}
 use Rattle.lt_tree.specs.Tree as c
 use Rattle.lt_tree.specs.Purity.{is_pure, are_pure, is_pure_specifiers, is_pure_declarator, are_pure_parts, is_pure_maybe, are_pure_parameters, is_pure_parameter_list}
@@ -17,7 +17,6 @@ use Rattle.lt_tree.specs.Typing.Declarators.{Built, parameter_faults, function_o
 use Rattle.lt_tree.specs.Typing.ExpressionTyping.{expression, expressions, maybe, parts, declarator, parameters, parameter_list}
 use Rattle.lt_erased_typing.specs.Literals.{one_more, none_more}
 use Rattle.lt_erased_typing.specs.Erasable.{ShowsNull, entered}
-use Rattle.lt_erased_typing.proofs.Conditions.{and_first, and_second}
 use Rattle.lt_erased_typing.proofs.Operators.{name_bare, constant_bare, text_bare, unary_bare, size_bare, member_bare, arrow_bare, index_bare}
 use Rattle.lt_erased_typing.proofs.BinaryOperators.{binary_bare, logical_bare, conditional_bare, comma_bare, BareEach, none_bare, one_bare, last_same}
 use Rattle.lt_erased_typing.proofs.TypeNames.{length_same, AreSameLengths, AreBuiltAlike, DeclareAlike, AreParametersAlike, pointers_alike, arrays_alike, functions_alike, type_names_judged}
@@ -48,8 +47,8 @@ mutual
       (finished_like k.next j.next role (text_at (entered k) bytes (length k.objects)) (text_at (entered j) bytes (length j.objects))
       (text_bare (entered k) (entered j) bytes (length k.objects) (length j.objects), text_unmarked (entered k) bytes (length k.objects)))
   pure_expression {k} {j} (c.Index whole index) role n p s =
-      on (pure_expression whole as_value refl (and_first (is_pure whole) (is_pure index) p) (entered_like s)) (λ x x' l i q s.
-      on (pure_expression index as_value refl (and_second (is_pure whole) (is_pure index) p) s) (λ y y' l i r s.
+      on (pure_expression whole as_value refl (and_parts (is_pure whole) (is_pure index) p).0 (entered_like s)) (λ x x' l i q s.
+      on (pure_expression index as_value refl (and_parts (is_pure whole) (is_pure index) p).1 s) (λ y y' l i r s.
       finished_like k.next j.next role (judge_index x y l) (judge_index x' y' i) (index_bare (beside_like s) q.0 r.0, index_unmarked x y l) s))
   pure_expression (c.Call callee arguments) role n p s = absurd (false≢true p)
   pure_expression {k} {j} (c.Member whole w) role n p s =
@@ -67,26 +66,26 @@ mutual
       on (constant_like (entered_like s) (pure_expression operand as_place refl p (unmarked_like (entered_like s)))) (λ x x' l i q s.
       finished_like k.next j.next role (judge_size (own_type x) l) (judge_size (own_type x') i) (size_bare (beside_like s) q.0, size_unmarked (own_type x) l) s)
   pure_expression (c.SizeofType sp d) role n p s =
-      sized_like sp d role (and_first (is_pure_specifiers sp) (is_pure_declarator d) p) s
-      (λ it l i s. pure_declarator any_type_name names_like d it (and_second (is_pure_specifiers sp) (is_pure_declarator d) p) s)
+      sized_like sp d role (and_parts (is_pure_specifiers sp) (is_pure_declarator d) p).0 s
+      (λ it l i s. pure_declarator any_type_name names_like d it (and_parts (is_pure_specifiers sp) (is_pure_declarator d) p).1 s)
   pure_expression (c.Cast sp d operand) role n p s =
-      let front = and_first (is_pure_specifiers sp && is_pure_declarator d) (is_pure operand) p in
-      cast_like sp d operand role (and_first (is_pure_specifiers sp) (is_pure_declarator d) front) s
-      (λ it l i s. pure_declarator any_type_name names_like d it (and_second (is_pure_specifiers sp) (is_pure_declarator d) front) s)
-      (λ l i s. pure_expression operand as_value refl (and_second (is_pure_specifiers sp && is_pure_declarator d) (is_pure operand) p) s)
+      let front = (and_parts (is_pure_specifiers sp && is_pure_declarator d) (is_pure operand) p).0 in
+      cast_like sp d operand role (and_parts (is_pure_specifiers sp) (is_pure_declarator d) front).0 s
+      (λ it l i s. pure_declarator any_type_name names_like d it (and_parts (is_pure_specifiers sp) (is_pure_declarator d) front).1 s)
+      (λ l i s. pure_expression operand as_value refl (and_parts (is_pure_specifiers sp && is_pure_declarator d) (is_pure operand) p).1 s)
   pure_expression {k} {j} (c.Binary op left right) role n p s =
-      on (pure_expression left as_value refl (and_first (is_pure left) (is_pure right) p) (entered_like s)) (λ x x' l i q s.
-      on (pure_expression right as_value refl (and_second (is_pure left) (is_pure right) p) s) (λ y y' l i r s.
+      on (pure_expression left as_value refl (and_parts (is_pure left) (is_pure right) p).0 (entered_like s)) (λ x x' l i q s.
+      on (pure_expression right as_value refl (and_parts (is_pure left) (is_pure right) p).1 s) (λ y y' l i r s.
       finished_like k.next j.next role (judge_binary op x y l) (judge_binary op x' y' i) (binary_bare op (beside_like s) q.0 r.0, binary_unmarked op x y l q.1 r.1) s))
   pure_expression {k} {j} (c.Logical op left right) role n p s =
-      on (pure_expression left as_truth refl (and_first (is_pure left) (is_pure right) p) (entered_like s)) (λ x x' l i q s.
-      on (pure_expression right as_truth refl (and_second (is_pure left) (is_pure right) p) s) (λ y y' l i r s.
+      on (pure_expression left as_truth refl (and_parts (is_pure left) (is_pure right) p).0 (entered_like s)) (λ x x' l i q s.
+      on (pure_expression right as_truth refl (and_parts (is_pure left) (is_pure right) p).1 s) (λ y y' l i r s.
       finished_like k.next j.next role (judge_logical op x y) (judge_logical op x' y') (logical_bare op q.0 r.0, logical_unmarked op x y q.1 r.1) s))
   pure_expression {k} {j} (c.Conditional test left right) role n p s =
-      let front = and_first (is_pure test && is_pure left) (is_pure right) p in
-      on (pure_expression test as_truth refl (and_first (is_pure test) (is_pure left) front) (entered_like s)) (λ o o' l i t s.
-      on (pure_expression left as_value refl (and_second (is_pure test) (is_pure left) front) s) (λ x x' l i q s.
-      on (pure_expression right as_value refl (and_second (is_pure test && is_pure left) (is_pure right) p) s) (λ y y' l i r s.
+      let front = (and_parts (is_pure test && is_pure left) (is_pure right) p).0 in
+      on (pure_expression test as_truth refl (and_parts (is_pure test) (is_pure left) front).0 (entered_like s)) (λ o o' l i t s.
+      on (pure_expression left as_value refl (and_parts (is_pure test) (is_pure left) front).1 s) (λ x x' l i q s.
+      on (pure_expression right as_value refl (and_parts (is_pure test && is_pure left) (is_pure right) p).1 s) (λ y y' l i r s.
       finished_like k.next j.next role (judge_conditional o x y l) (judge_conditional o' x' y' i)
       (conditional_bare (beside_like s) t.0 q.0 (shows_null x q.1) r.0 (shows_null y r.1), conditional_unmarked o x y l t.1 q.1 r.1) s)))
   pure_expression (c.Assign op target value) role n p s = absurd (false≢true p)
@@ -99,8 +98,8 @@ mutual
   pure_expressions : {k j : Known} (them : c.Expressions) → are_pure them ≡ true → IsLike k j → Together k.objects j.objects BareEach (expressions them k) (expressions them j)
   pure_expressions c.no_expressions p s = found_here none_bare s
   pure_expressions (c.an_expression first rest) p s =
-      on (pure_expression first as_value refl (and_first (is_pure first) (are_pure rest) p) s) (λ x y l i q s.
-      so (λ xs. x ∷ xs) (λ ys. y ∷ ys) (λ xs ys qs. one_bare q.0 qs) (pure_expressions rest (and_second (is_pure first) (are_pure rest) p) s))
+      on (pure_expression first as_value refl (and_parts (is_pure first) (are_pure rest) p).0 s) (λ x y l i q s.
+      so (λ xs. x ∷ xs) (λ ys. y ∷ ys) (λ xs ys qs. one_bare q.0 qs) (pure_expressions rest (and_parts (is_pure first) (are_pure rest) p).1 s))
 
   pure_maybe : {k j : Known} (it : c.Maybe) → is_pure_maybe it ≡ true → IsLike k j → Together k.objects j.objects AreSameLengths (maybe it k) (maybe it j)
   pure_maybe c.absent p s = found_here (λ o l. refl) s
@@ -111,11 +110,11 @@ mutual
   pure_parts c.no_parts t is_outermost p s = found_here (λ r. (refl, refl)) s
   pure_parts (c.Pointer q rest) t is_outermost p s = so (pointer_to q) (pointer_to q) (λ x y h. pointers_alike q x y h) (pure_parts rest t false p s)
   pure_parts (c.Array length rest) t is_outermost p s =
-      on (pure_maybe length (and_first (is_pure_maybe length) (are_pure_parts rest) p) s) (λ n m l i e s.
-      on (pure_parts rest t false (and_second (is_pure_maybe length) (are_pure_parts rest) p) s) (λ x y l i h s. found_here (arrays_alike x y (beside_like s) (e is_outermost) h) s))
+      on (pure_maybe length (and_parts (is_pure_maybe length) (are_pure_parts rest) p).0 s) (λ n m l i e s.
+      on (pure_parts rest t false (and_parts (is_pure_maybe length) (are_pure_parts rest) p).1 s) (λ x y l i h s. found_here (arrays_alike x y (beside_like s) (e is_outermost) h) s))
   pure_parts (c.Function them rest) t is_outermost p s =
-      on (scope_left_like s (pure_parameters them (and_first (are_pure_parameters them) (are_pure_parts rest) p) (scope_like s))) (λ x x' l i g s.
-      so (function_of x) (function_of x') (λ y y' h. functions_alike x x' y y' g h) (pure_parts rest t false (and_second (are_pure_parameters them) (are_pure_parts rest) p) s))
+      on (scope_left_like s (pure_parameters them (and_parts (are_pure_parameters them) (are_pure_parts rest) p).0 (scope_like s))) (λ x x' l i g s.
+      so (function_of x) (function_of x') (λ y y' h. functions_alike x x' y y' g h) (pure_parts rest t false (and_parts (are_pure_parameters them) (are_pure_parts rest) p).1 s))
 
   pure_declarator : {k j : Known} (judge : Option (List ℕ) → Known → Built → List Rule) → AreJudgedLike judge → (d : c.Declarator) (it : Specified) → is_pure_declarator d ≡ true → IsLike k j
       → Together k.objects j.objects (DeclareAlike (name_in d)) (declarator d it false judge k) (declarator d it false judge j)
@@ -132,7 +131,7 @@ mutual
       → Together k.objects j.objects AreParametersAlike (parameter_list them false k) (parameter_list them false j)
   pure_list c.no_parameters p s = found_here (λ r. (refl, refl, refl)) s
   pure_list (c.a_parameter sp d rest) p s =
-      let front = and_first (is_pure_specifiers sp && is_pure_declarator d) (is_pure_parameter_list rest) p in
-      listed_like sp d (λ k. parameter_list rest false k) (and_first (is_pure_specifiers sp) (is_pure_declarator d) front) s
-      (λ it l i s. pure_declarator (parameter_faults false) parameters_like d it (and_second (is_pure_specifiers sp) (is_pure_declarator d) front) s)
-      (λ l i s. pure_list rest (and_second (is_pure_specifiers sp && is_pure_declarator d) (is_pure_parameter_list rest) p) s)
+      let front = (and_parts (is_pure_specifiers sp && is_pure_declarator d) (is_pure_parameter_list rest) p).0 in
+      listed_like sp d (λ k. parameter_list rest false k) (and_parts (is_pure_specifiers sp) (is_pure_declarator d) front).0 s
+      (λ it l i s. pure_declarator (parameter_faults false) parameters_like d it (and_parts (is_pure_specifiers sp) (is_pure_declarator d) front).1 s)
+      (λ l i s. pure_list rest (and_parts (is_pure_specifiers sp && is_pure_declarator d) (is_pure_parameter_list rest) p).1 s)

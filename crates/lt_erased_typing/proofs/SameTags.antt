@@ -27,12 +27,12 @@ module _ {fs gs : List Frame} (same : HaveSameTags fs gs) where
   types_there c.no_types h = tt
   types_there (c.a_type first rest) h = (type_there first h.0, types_there rest h.1)
 
-  pub known_there : (it : c.Specifiers) → AreKnown fs it → AreKnown gs it
+  known_there : (it : c.Specifiers) → AreKnown fs it → AreKnown gs it
   known_there (c.specifiers words types) h = types_there types h
 
   module _ (texts : Bool) where
     mutual
-      pub plain_there : (it : c.Expression) → IsPlainWith texts fs it → IsPlainWith texts gs it
+      plain_there : (it : c.Expression) → IsPlainWith texts fs it → IsPlainWith texts gs it
       plain_there (c.Name name) h = tt
       plain_there (c.Constant text) h = tt
       plain_there (c.Text bytes) h = h
@@ -63,7 +63,7 @@ module _ {fs gs : List Frame} (same : HaveSameTags fs gs) where
       all_there c.no_expressions h = tt
       all_there (c.an_expression first rest) h = (plain_there first h.0, all_there rest h.1)
 
-      pub marks_there : (them : c.Marks) → ArePlainMarks texts fs them → ArePlainMarks texts gs them
+      marks_there : (them : c.Marks) → ArePlainMarks texts fs them → ArePlainMarks texts gs them
       marks_there c.no_marks h = tt
       marks_there (c.a_mark first rest) h = (mark_there first h.0, marks_there rest h.1)
 
@@ -74,7 +74,7 @@ module _ {fs gs : List Frame} (same : HaveSameTags fs gs) where
       bindings_there c.no_bindings h = tt
       bindings_there (c.a_binding name value rest) h = (plain_there value h.0, bindings_there rest h.1)
 
-      pub declarator_there : (it : c.Declarator) → IsPlainDeclarator texts fs it → IsPlainDeclarator texts gs it
+      declarator_there : (it : c.Declarator) → IsPlainDeclarator texts fs it → IsPlainDeclarator texts gs it
       declarator_there (c.declarator name ps) h = parts_there ps h
 
       parts_there : (them : c.Parts) → ArePlainParts texts fs them → ArePlainParts texts gs them
@@ -95,7 +95,7 @@ module _ {fs gs : List Frame} (same : HaveSameTags fs gs) where
       list_there (c.a_parameter s d rest) h = (known_there s h.0, declarator_there d h.1, list_there rest h.2)
 
     mutual
-      pub simple_there : (it : c.Expression) → IsSimpleWith texts fs it → IsSimpleWith texts gs it
+      simple_there : (it : c.Expression) → IsSimpleWith texts fs it → IsSimpleWith texts gs it
       simple_there (c.Name name) h = tt
       simple_there (c.Constant text) h = tt
       simple_there (c.Text bytes) h = h

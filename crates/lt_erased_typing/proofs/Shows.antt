@@ -49,7 +49,7 @@ pub data Holds {A : Type 0} (P : A → Known → Type 0) : Outcome A → Type 0 
   holds : {a : A} {k : Known} → P a k → Holds P (Goes a k)
   broken : {rule : Rule} {node : ℕ} → Holds P (Breaks rule node)
 
-pub given : {A : Type 0} {P : A → Known → Type 0} (o : Outcome A) → Behind o P → Holds P o
+given : {A : Type 0} {P : A → Known → Type 0} (o : Outcome A) → Behind o P → Holds P o
 given (Goes a k) h = holds h
 given (Breaks rule node) h = broken
 
@@ -57,13 +57,13 @@ pub taken : {A : Type 0} {P : A → Known → Type 0} {o : Outcome A} → Holds 
 taken (holds h) = h
 taken broken = tt
 
-pub behind_bind : {A B : Type 0} {P : A → Known → Type 0} {Q : B → Known → Type 0} (o : Outcome A) (f : A → Known → Outcome B) → Holds P o
+behind_bind : {A B : Type 0} {P : A → Known → Type 0} {Q : B → Known → Type 0} (o : Outcome A) (f : A → Known → Outcome B) → Holds P o
     → ((a : A) (k : Known) → P a k → Holds Q (f a k)) → Holds Q (goes_on o f)
 behind_bind (Goes a k) f (holds h) g = g a k h
 behind_bind (Breaks rule node) f h g = broken
 
 -- whatever the part is
-pub behind_last : {A B : Type 0} {Q : B → Known → Type 0} (o : Outcome A) (f : A → Known → Outcome B) → ((a : A) (k : Known) → Holds Q (f a k))
+behind_last : {A B : Type 0} {Q : B → Known → Type 0} (o : Outcome A) (f : A → Known → Outcome B) → ((a : A) (k : Known) → Holds Q (f a k))
     → Holds Q (goes_on o f)
 behind_last (Goes a k) f g = g a k
 behind_last (Breaks rule node) f g = broken
@@ -81,7 +81,7 @@ behind_rules : (P : Typed → Type 0) (n : ℕ) (rules : List Rule) (typed z : T
 behind_rules P n [] typed z k h = holds (h refl)
 behind_rules P n (rule ∷ rules) typed z k h = broken
 
-pub behind_end : (P : Typed → Type 0) (n : ℕ) (role : Use) (it : Judged) (k : Known) → (it.faults ≡ [] → P (used role it.typed))
+behind_end : (P : Typed → Type 0) (n : ℕ) (role : Use) (it : Judged) (k : Known) → (it.faults ≡ [] → P (used role it.typed))
     → Holds (λ x j. P x) (finish n role it k)
 unfolding finish
 behind_end P n role it k h = behind_rules P n (it.faults ++ faults_of_any k.structs role it.typed) it.typed (used role it.typed) k (λ r. h (left_empty it.faults (faults_of_any k.structs role it.typed) r))
@@ -101,7 +101,7 @@ or_none true b h = absurd (false≢true (sym h))
 or_none false b h = (refl, h)
 
 -- what is said of an expression beside itself without its marks
-pub itself_bare : {texts : Bool} (k : Known) (it : c.Expression) → IsNamed texts k → CanBeErasedWith texts as_value k it
+itself_bare : {texts : Bool} (k : Known) (it : c.Expression) → IsNamed texts k → CanBeErasedWith texts as_value k it
     → Holds (λ x j. (y : Typed) × BareValue x y × IsNamed texts j) (expression it as_value k)
 itself_bare k it w h = first_of w (of_expression {known = k} {own = itself k} {k = k} {j = k} (scopes_itself k w) it as_value refl (beside none_more none_more) h)
 

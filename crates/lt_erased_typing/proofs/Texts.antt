@@ -19,7 +19,7 @@ more_after h (one_more node known bytes is more) = one_more node known bytes is 
 more_after h (one_unmade object is never more) = one_unmade object is never (more_after h more)
 
 -- none, where they aren't allowed
-pub no_more : {xs ys : List Object} → HasMoreTexts false xs ys → ys ≡ xs
+no_more : {xs ys : List Object} → HasMoreTexts false xs ys → ys ≡ xs
 no_more none_more = refl
 no_more (one_more node known bytes is more) = absurd (false≢true is)
 no_more (one_unmade object is never more) = absurd (false≢true is)

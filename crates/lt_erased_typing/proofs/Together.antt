@@ -49,7 +49,7 @@ noted_like : {k j : Known} (fact other : Fact) → IsLike k j → IsLike (record
 noted_like {k} {j} fact other h = record { same = ap (λ (it : Known). record it { facts = j.facts ++ other ∷ [] }) h.same; alike = h.alike }
 
 -- with other names in scope and other objects
-pub with_like : {k j : Known} (fs gs : List Frame) (xs ys : List Object) → IsLike k j → AreAlike true fs gs xs ys
+with_like : {k j : Known} (fs gs : List Frame) (xs ys : List Object) → IsLike k j → AreAlike true fs gs xs ys
     → IsLike (record k { frames = fs; objects = xs }) (record j { frames = gs; objects = ys })
 with_like fs gs xs ys h alike = record { same = ap (λ (it : Known). record it { frames = gs; objects = ys }) h.same; alike = alike }
 

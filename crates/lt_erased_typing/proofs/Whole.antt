@@ -1,5 +1,5 @@
 -- What is known of an expression without its marks where it stands.
-use Rattle.std.proofs.Common.{◌≡◌, ℕ, Bool, List, refl, ap, subst, true, false}
+use Rattle.std.proofs.Common.{◌≡◌, ℕ, Bool, List, refl, ap, subst, true}
 use Rattle.std.proofs.lemmas.Bool.{false≢true}
 use Rattle.lt_tree.specs.Tree as c
 use Rattle.lt_tree.specs.Erasure.{erased}

@@ -1,5 +1,6 @@
 -- Going over a text where ids to a greater number are good: the same is found.
-use Rattle.std.proofs.Common.{◌≡◌, ◌≤◌, ℕ, ◌+◌, List, [], ◌∷◌, ◌++◌, Bool, true, false, Option, Some, None, refl, sym, subst, arith}
+use Rattle.std.proofs.Common.{◌≡◌, ◌≤◌, ℕ, ◌+◌, List, [], ◌∷◌, ◌++◌, Bool, true, Option, Some, None, refl, sym, subst, arith}
+use Rattle.std.proofs.lemmas.Bool.{and_parts, and_from}
 use Rattle.std.specs.Prelude.{◌&&◌, nat_le}
 use Rattle.std.proofs.lemmas.Bool.Decides.{nat_tests}
 use Rattle.lt_tree.specs.Typing.Rules.{Rule}
@@ -8,7 +9,6 @@ use Rattle.lt_tree.specs.Typing.MarkRules.{is_new_id, is_good_id, id_of}
 use Rattle.lt_tree.specs.Typing.Entities.{Known, Frame, no_names}
 use Rattle.lt_tree.specs.Typing.Steps.{Outcome, Goes, Breaks, goes_on, settle, left, marked_again, gives}
 use Rattle.lt_tree.specs.Typing.Expressions.{Use, Judged, judgement, faults_of_any, finish}
-use Rattle.lt_mark_typing.proofs.GoodIds.{second_of, both_hold}
 use Rattle.lt_mark_typing.proofs.Operators.{left_empty, right_empty, empty_both}
 
 -- what is known there, where ids to this number are good
@@ -19,10 +19,6 @@ raised more known = record known { greatest_id = more }
 pub data Rises {A : Type 0} (more : ℕ) : Outcome A → Outcome A → Type 0 where
   goes : {a b : A} {known : Known} → b ≡ a → known.greatest_id ≤ more → Rises more (Goes a known) (Goes b (raised more known))
   breaks : {rule : Rule} {node : ℕ} {o : Outcome A} → Rises more (Breaks rule node) o
-
-first_of : (a b : Bool) → (a && b) ≡ true → a ≡ true
-first_of true b h = refl
-first_of false b h = absurd cc
 
 no_more : (n few more : ℕ) → few ≤ more → nat_le n few ≡ true → nat_le n more ≡ true
 no_more n few more h g = grind (arith, nat_tests)
@@ -81,7 +77,7 @@ module _ {more : ℕ} where
   good_by : (known : Known) (found : Option ℕ) → known.greatest_id ≤ more → holds (λ n. nat_le n known.greatest_id && is_new_id known n) found ≡ true → holds (λ n. nat_le n more && is_new_id known n) found ≡ true
   good_by known None h g = g
   good_by known (Some n) h g =
-      both_hold (nat_le n more) (is_new_id known n) (no_more n known.greatest_id more h (first_of (nat_le n known.greatest_id) (is_new_id known n) g)) (second_of (nat_le n known.greatest_id) (is_new_id known n) g)
+      and_from (nat_le n more) (is_new_id known n) (no_more n known.greatest_id more h (and_parts (nat_le n known.greatest_id) (is_new_id known n) g).0) (and_parts (nat_le n known.greatest_id) (is_new_id known n) g).1
 
   pub good_id : (known : Known) (text : List ℕ) → known.greatest_id ≤ more → is_good_id known text ≡ true → is_good_id (raised more known) text ≡ true
   good_id known text h g = good_by known (id_of text) h g

@@ -2,31 +2,20 @@
 use Rattle.std.proofs.Common.{◌≡◌, ℕ, List, [], ◌∷◌, Option, Some, None, Bool, true, false, refl, sym, ap, ◌∙◌, subst}
 use Rattle.std.proofs.lemmas.Bool.{false≢true}
 use Rattle.std.specs.Prelude.{◌++◌, if◌then◌else◌, Result, Ok, Err}
-use Rattle.lt_model.specs.declared.cell.CellType.{CellType}
 use Rattle.lt_model.specs.declared.operator.Ub.{Ub}
-use Rattle.lt_model.specs.State.{Made, Footprint, Valued, Gives, Ends}
+use Rattle.lt_model.specs.State.{Made, Gives, Ends}
 use Rattle.lt_model.specs.declared.run.End.{End}
 use Rattle.lt_model.specs.declared.run.End.TheVariants.{Undefined}
 use Rattle.lt_ir.specs.Running.{At, Answer, Step, ◌>>=◌, gives, over, defined, quietly}
 use Rattle.lt_mark_laws.specs.Laws.{without_new}
-use Rattle.lt_mark_laws.proofs.Cells.{AreListed}
 
 abbrev pub remarked : List Made → At → At
 remarked ms at = record at { marks = ms }
 
--- what is compared: which marks are new, and which types the cells in memory have
-pub record Comparison : Type 0 where
-  pub new : ℕ → Bool
-  pub listed : CellType → Bool
-
-module _ (seen : Comparison) where
-  -- the same marks, new ones aside, in a state in whose memory all cells have listed types
-  abbrev pub AreSame : At → List Made → Type 0
-  AreSame at ms = (without_new seen.new at.marks ≡ without_new seen.new ms) × AreListed seen.listed at.memory
-
+module _ (new : ℕ → Bool) where
   -- the second state is the first with other new marks
   abbrev pub AlikeAt : At → At → Type 0
-  AlikeAt at1 at2 = (at2 ≡ remarked at2.marks at1) × AreSame at1 at2.marks
+  AlikeAt at1 at2 = (at2 ≡ remarked at2.marks at1) × (without_new new at1.marks ≡ without_new new at2.marks)
 
   abbrev pub Alike : {A : Type 0} → Answer A → Answer A → Type 0
   Alike (Gives a at1) (Gives b at2) = (a ≡ b) × AlikeAt at1 at2
@@ -36,13 +25,13 @@ module _ (seen : Comparison) where
 
   -- two steps that give such answers in such states
   pub record Same {A : Type 0} (s r : Step A) : Type 0 where
-    pub alike : (at : At) (ms : List Made) → AreSame at ms → Alike (s at) (r (remarked ms at))
+    pub alike : (at : At) (ms : List Made) → without_new new at.marks ≡ without_new new ms → Alike (s at) (r (remarked ms at))
 
   pub same_at : {A : Type 0} (s r : Step A) (at1 at2 : At) → Same s r → AlikeAt at1 at2 → Alike (s at1) (r at2)
   same_at s r at1 at2 h a = subst (λ at. Alike (s at1) (r at)) (sym a.0) (h.alike at1 at2.marks a.1)
 
   -- both go on
-  pub alike_then : {A B : Type 0} (m n : Answer A) (f g : A → Step B) → Alike m n → ((a : A) → Same (f a) (g a)) → Alike (elim (m) [ Gives x at1 ↦ f x at1 | Ends end at1 ↦ Ends end at1 ]) (elim (n) [ Gives x at1 ↦ g x at1 | Ends end at1 ↦ Ends end at1 ])
+  alike_then : {A B : Type 0} (m n : Answer A) (f g : A → Step B) → Alike m n → ((a : A) → Same (f a) (g a)) → Alike (elim (m) [ Gives x at1 ↦ f x at1 | Ends end at1 ↦ Ends end at1 ]) (elim (n) [ Gives x at1 ↦ g x at1 | Ends end at1 ↦ Ends end at1 ])
   alike_then (Gives x at1) (Gives y at2) f g h k = subst (λ a. Alike (f x at1) (g a at2)) h.0 (same_at (f x) (g x) at1 at2 (k x) h.1)
   alike_then (Ends x at1) (Ends y at2) f g h k = h
   alike_then (Gives x at1) (Ends y at2) f g h k = absurd h
@@ -75,10 +64,9 @@ module _ (seen : Comparison) where
   pub quietly_same : {A : Type 0} (s r : Step A) → Same s r → (at1 at2 : At) → AlikeAt at1 at2 → quietly s at1 ≡ quietly r at2
   quietly_same s r h at1 at2 a = quietly_alike (s at1) (r at2) (same_at s r at1 at2 h a)
 
-module _ (new : ℕ → Bool) where
   -- ---- marks
 
-  pub without_new_append : (ms ns : List Made) → without_new new (ms ++ ns) ≡ without_new new ms ++ without_new new ns
+  without_new_append : (ms ns : List Made) → without_new new (ms ++ ns) ≡ without_new new ms ++ without_new new ns
   without_new_append [] ns = refl
   without_new_append (m ∷ ms) ns = by (new m.id) (without_new_append ms ns)
     where

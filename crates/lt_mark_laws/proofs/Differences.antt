@@ -1,5 +1,5 @@
 -- A label that two pure expressions differ is true exactly where both have values of the type and these differ.
-use Rattle.std.proofs.Common.{◌≡◌, ℕ, ℤ, List, [], Option, Some, None, Bool, true, false, refl, sym, ap, ◌∙◌, subst}
+use Rattle.std.proofs.Common.{◌≡◌, ℤ, Option, Some, None, Bool, true, false, refl, sym, subst}
 use Rattle.std.specs.Prelude.{pos, not, ◌&&◌, if◌then◌else◌}
 use Rattle.std.specs.Ordering.{int_eq}
 use Rattle.lt_model.specs.declared.cell.Content.{Content}
@@ -8,13 +8,12 @@ use Rattle.lt_model.specs.declared.operator.Op.TheVariants as O
 use Rattle.lt_model.specs.declared.scalar.Scalar.{Scalar}
 use Rattle.lt_model.specs.Operators.{truth, value_of, is_value}
 use Rattle.lt_model.specs.State.{Footprint, Valued, Gives, Ends}
-use Rattle.lt_tree.specs.Typing.Types.{CType}
 use Rattle.lt_tree.specs.Typing.TypedTree as e
 use Rattle.lt_tree.specs.Typing.TypedTree.{Value}
 use Rattle.lt_ir.specs.Running.{At, Answer, Step, ◌>>=◌, gives, defined, absurdity, quietly}
 use Rattle.lt_ir.specs.Evaluation.{valued, number_in, truth_in, applied}
 use Rattle.lt_meaning.specs.Expressions.{is_pure, pure_only, Around, wanted, tracking, eval}
-use Rattle.lt_mark_laws.specs.Laws.{is_quietly_true, number_at, differ, DifferencesAreExact}
+use Rattle.lt_mark_laws.specs.Laws.{number_at, differ, DifferencesAreExact}
 use Rattle.lt_mark_laws.proofs.Pure.{Leaves, value_still}
 
 -- the number and the truth that an answer has

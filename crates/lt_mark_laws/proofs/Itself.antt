@@ -3,7 +3,6 @@ use Rattle.std.proofs.Common.{ℕ, Bool, List, [], ◌∷◌, Option, Some, None
 use Rattle.lt_tree.specs.Typing.TypedTree as e
 use Rattle.lt_tree.specs.Typing.TypedTree.{Value, Values, Place, Marks, Mark, Bindings, Statement, Items, Cases, Local, Start, StartPart}
 use Rattle.lt_tree.specs.Typing.Entities.{Function, Object}
-use Rattle.lt_tree.specs.Typing.Programs.{Program}
 use Rattle.lt_mark_laws.specs.Added as a
 use Rattle.lt_mark_laws.specs.Added.{Adds, AddsTruth, AddsAll, AddsPlace, AddsMarks, Keeps, KeepsBound, AddsPart, AddsParts, AddsStart, AddsLocal, AddsLocals, AddsOptional, AddsForStart, AddsStatement, AddsItems, AddsCases, AddsFunction, AddsFunctions, AddsProgram, AreSameObjects}
 use Rattle.lt_mark_laws.specs.Laws.{ProgramsAreThemselves}
@@ -41,7 +40,7 @@ module _ (new : ℕ → Bool) where
     all e.no_values = a.no_values
     all (e.a_value v vs) = a.a_value (itself v) (all vs)
 
-    place : (p : Place) → AddsPlace new p p
+    pub place : (p : Place) → AddsPlace new p p
     place (e.Object t n) = a.Object
     place (e.Pointed t v) = a.Pointed (itself v)
     place (e.Element t size side x y) = a.Element (itself x) (itself y)
@@ -52,7 +51,7 @@ module _ (new : ℕ → Bool) where
     marks e.no_marks = a.no_marks
     marks (e.a_mark m ms) = a.kept (mark m) (marks ms)
 
-    mark : (m : Mark) → Keeps new m
+    pub mark : (m : Mark) → Keeps new m
     mark (e.mark predicate id bound) = a.a_kept_mark (itself predicate) (bindings bound)
 
     bindings : (bound : Bindings) → KeepsBound new bound
@@ -66,7 +65,7 @@ module _ (new : ℕ → Bool) where
   part (e.fixed offset t c) = refl
   part (e.letters offset s bytes) = refl
 
-  parts : (ps : List StartPart) → AddsParts new ps ps
+  pub parts : (ps : List StartPart) → AddsParts new ps ps
   parts [] = tt
   parts (p ∷ ps) = (part p, parts ps)
 
@@ -74,10 +73,10 @@ module _ (new : ℕ → Bool) where
   start None = tt
   start (Some x) = (refl, parts x.parts)
 
-  pub local : (x : Local) → AddsLocal new x x
+  local : (x : Local) → AddsLocal new x x
   local x = (refl, start x.start)
 
-  locals : (xs : List Local) → AddsLocals new xs xs
+  pub locals : (xs : List Local) → AddsLocals new xs xs
   locals [] = tt
   locals (x ∷ xs) = (local x, locals xs)
 
@@ -97,7 +96,7 @@ module _ (new : ℕ → Bool) where
   for_start (e.Locals xs) = locals xs
 
   mutual
-    pub statement : (c : Statement) → AddsStatement new c c
+    statement : (c : Statement) → AddsStatement new c c
     statement (e.Compound is) = a.Compound (items is)
     statement (e.Evaluates v) = a.Evaluates (itself v)
     statement e.Null = a.Null

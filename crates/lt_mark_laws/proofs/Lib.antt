@@ -1,12 +1,11 @@
-mod Cells
 mod Alike
 mod Machine
 mod Values
 mod Expressions
 mod Objects
 mod Statements
-pub mod Runs
-pub mod TypeLists
+mod Runs
+pub mod Lists
 pub mod Itself
 mod Truths
 mod Pure

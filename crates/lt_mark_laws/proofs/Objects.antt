@@ -1,5 +1,5 @@
 -- What is asked of objects doesn't depend on the nodes that declare them.
-use Rattle.std.proofs.Common.{◌≡◌, ℕ, zero, suc, List, [], ◌∷◌, Option, Some, None, Bool, true, false, refl, sym, ap, ◌∙◌}
+use Rattle.std.proofs.Common.{◌≡◌, ℕ, zero, suc, List, [], ◌∷◌, Option, Some, None, Bool, false, refl, sym, ap, ◌∙◌}
 use Rattle.std.specs.Prelude.{if◌then◌else◌, slice_get}
 use Rattle.lt_tree.specs.Typing.Types.{CType, Void}
 use Rattle.lt_tree.specs.Typing.TypedTree.{Start}

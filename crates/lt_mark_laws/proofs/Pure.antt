@@ -1,7 +1,7 @@
 -- Pure expressions leave the state as it is.
-use Rattle.std.proofs.Common.{◌≡◌, ℕ, List, [], ◌∷◌, Option, Some, None, Bool, true, false, refl, sym, subst}
-use Rattle.std.proofs.lemmas.Bool.{false≢true}
-use Rattle.std.specs.Prelude.{pos, negsuc, not, ◌&&◌, if◌then◌else◌, Result, Ok, Err}
+use Rattle.std.proofs.Common.{◌≡◌, ℕ, Option, Some, None, Bool, true, false, refl, subst}
+use Rattle.std.proofs.lemmas.Bool.{false≢true, and_parts}
+use Rattle.std.specs.Prelude.{pos, not, ◌&&◌, if◌then◌else◌, Result, Ok, Err}
 use Rattle.lt_model.specs.declared.cell.Content.{Content}
 use Rattle.lt_model.specs.declared.cell.Content.TheVariants as content
 use Rattle.lt_model.specs.declared.operator.Op.{Op}
@@ -14,24 +14,15 @@ use Rattle.lt_model.specs.declared.scalar.Scalar.{Scalar}
 use Rattle.lt_model.specs.declared.scalar.DataModel.{DataModel}
 use Rattle.lt_model.specs.Operators.{value_of, is_value}
 use Rattle.lt_model.specs.Memory.{Memory}
-use Rattle.lt_model.specs.State.{Footprint, Valued, untouched, Gives, Ends}
+use Rattle.lt_model.specs.State.{Footprint, untouched, Gives, Ends}
 use Rattle.lt_tree.specs.Typing.Types.{CType}
 use Rattle.lt_tree.specs.Typing.TypedTree as e
 use Rattle.lt_tree.specs.Typing.TypedTree.{Value, Values, Place, Conversion}
 use Rattle.lt_ir.specs.declared.variable.Variable.{Variable}
-use Rattle.lt_ir.specs.Running.{At, Answer, Step, ◌>>=◌, gives, over, defined, absurdity, asked, place, with_block, living_block}
-use Rattle.lt_ir.specs.Evaluation.{valued, number_in, address_in, truth_in, of_truth, settled_in, grown, apart, loaded, is_integer, is_right_operand, moved, member_at, applied, counted, compared}
-use Rattle.lt_meaning.specs.Expressions.{is_pure, is_pure_place, are_pure, Around, Fate, wanted, unconverted, dropped, dropped_branch, untaken, inside, of_branch, of_last, fate_of_part, tracking, converted, converted_here, in_type, all_ones, cell_type, scalar_in, pointer_of, count_of, decides, second_truth, comma_from, eval, place_of, parts_of}
+use Rattle.lt_ir.specs.Running.{At, Answer, Step, ◌>>=◌, gives, over, defined, absurdity, asked, place, living_block}
+use Rattle.lt_ir.specs.Evaluation.{valued, number_in, address_in, truth_in, of_truth, is_integer, is_right_operand, moved, applied, counted, compared}
+use Rattle.lt_meaning.specs.Expressions.{is_pure, is_pure_place, are_pure, Around, Fate, wanted, unconverted, dropped, dropped_branch, untaken, inside, of_branch, of_last, fate_of_part, tracking, converted, converted_here, in_type, all_ones, scalar_in, pointer_of, count_of, decides, eval, place_of, parts_of}
 use Rattle.lt_mark_laws.proofs.Values.{parts_behind}
-
-and_left : (a b : Bool) → (a && b) ≡ true → a ≡ true
-and_left true b h = refl
-and_left false b h = h
-
-and_right : (a b : Bool) → (a && b) ≡ true → b ≡ true
-and_right true b h = h
-and_right false true h = refl
-and_right false false h = h
 
 -- the answer leaves this state
 abbrev pub Leaves : {A : Type 0} → At → Answer A → Type 0
@@ -140,12 +131,12 @@ module _ (here : Around) where
     value_still (e.Minus t v) fate h = then_still _ _ (value_still v wanted h) (λ x. then_still _ _ (applied_still here.program.model O.Sub (scalar_in t) (content.Number (pos 0)) x.value) (λ z. gives_still (valued (content.Number z) x.footprint)))
     value_still (e.Complement t v) fate h = then_still _ _ (value_still v wanted h) (λ x. then_still _ _ (applied_still here.program.model O.Xor (scalar_in t) x.value (all_ones here.program t)) (λ z. gives_still (valued (content.Number z) x.footprint)))
     value_still (e.Not t v) fate h = then_still _ _ (value_still v wanted h) (λ x. then_still _ _ (truth_still x.value) (λ b. gives_still (valued (of_truth (not b)) x.footprint)))
-    value_still (e.Arithmetic t op s v w) fate h = then_still _ _ (value_still v wanted (and_left _ _ h)) (λ x. then_still _ _ (value_still w wanted (and_right _ _ h)) (λ y. then_still _ _ (applied_still here.program.model op s x.value y.value) (λ z. gives_still (valued (content.Number z) x.footprint))))
-    value_still (e.Move t op size side v w) fate h = then_still _ _ (value_still v wanted (and_left _ _ h)) (λ x. then_still _ _ (value_still w wanted (and_right _ _ h)) (λ y. then_still _ _ (moved_still op size (pointer_of side x.value y.value) (count_of side x.value y.value)) (λ p. gives_still (valued (content.Address p) x.footprint))))
-    value_still (e.Distance t size v w) fate h = then_still _ _ (value_still v wanted (and_left _ _ h)) (λ x. then_still _ _ (value_still w wanted (and_right _ _ h)) (λ y. then_still _ _ (counted_still size x.value y.value) (λ z. gives_still (valued (content.Number z) x.footprint))))
-    value_still (e.Compare t op v w) fate h = then_still _ _ (value_still v wanted (and_left _ _ h)) (λ x. then_still _ _ (value_still w wanted (and_right _ _ h)) (λ y. then_still _ _ (compared_still op x.value y.value) (λ b. gives_still (valued (of_truth b) x.footprint))))
-    value_still (e.Logical t op v w) fate h = then_still _ _ (value_still v wanted (and_left _ _ h)) (λ x. then_still _ _ (truth_still x.value) (λ b. if_still (decides op b) _ _ (gives_still (valued (of_truth b) x.footprint)) (then_still _ _ (value_still w wanted (and_right _ _ h)) (λ y. then_still _ _ (truth_still y.value) (λ c. gives_still (valued (of_truth c) x.footprint))))))
-    value_still (e.Conditional t test v w) fate h = then_still _ _ (value_still test wanted (and_left _ _ h)) (λ x. then_still _ _ (truth_still x.value) (λ b. then_still _ _ (if_still b _ _ (value_still v (of_branch fate) (and_left _ _ (and_right _ _ h))) (value_still w (of_branch fate) (and_right _ _ (and_right _ _ h)))) (λ y. gives_still (valued y.value x.footprint))))
+    value_still (e.Arithmetic t op s v w) fate h = then_still _ _ (value_still v wanted (and_parts _ _ h).0) (λ x. then_still _ _ (value_still w wanted (and_parts _ _ h).1) (λ y. then_still _ _ (applied_still here.program.model op s x.value y.value) (λ z. gives_still (valued (content.Number z) x.footprint))))
+    value_still (e.Move t op size side v w) fate h = then_still _ _ (value_still v wanted (and_parts _ _ h).0) (λ x. then_still _ _ (value_still w wanted (and_parts _ _ h).1) (λ y. then_still _ _ (moved_still op size (pointer_of side x.value y.value) (count_of side x.value y.value)) (λ p. gives_still (valued (content.Address p) x.footprint))))
+    value_still (e.Distance t size v w) fate h = then_still _ _ (value_still v wanted (and_parts _ _ h).0) (λ x. then_still _ _ (value_still w wanted (and_parts _ _ h).1) (λ y. then_still _ _ (counted_still size x.value y.value) (λ z. gives_still (valued (content.Number z) x.footprint))))
+    value_still (e.Compare t op v w) fate h = then_still _ _ (value_still v wanted (and_parts _ _ h).0) (λ x. then_still _ _ (value_still w wanted (and_parts _ _ h).1) (λ y. then_still _ _ (compared_still op x.value y.value) (λ b. gives_still (valued (of_truth b) x.footprint))))
+    value_still (e.Logical t op v w) fate h = then_still _ _ (value_still v wanted (and_parts _ _ h).0) (λ x. then_still _ _ (truth_still x.value) (λ b. if_still (decides op b) _ _ (gives_still (valued (of_truth b) x.footprint)) (then_still _ _ (value_still w wanted (and_parts _ _ h).1) (λ y. then_still _ _ (truth_still y.value) (λ c. gives_still (valued (of_truth c) x.footprint))))))
+    value_still (e.Conditional t test v w) fate h = then_still _ _ (value_still test wanted (and_parts _ _ h).0) (λ x. then_still _ _ (truth_still x.value) (λ b. then_still _ _ (if_still b _ _ (value_still v (of_branch fate) (and_parts _ _ (and_parts _ _ h).1).0) (value_still w (of_branch fate) (and_parts _ _ (and_parts _ _ h).1).1)) (λ y. gives_still (valued y.value x.footprint))))
     value_still (e.Comma t vs) fate h = parts_still vs (of_last fate) h untouched
     value_still (e.Assign t p v) fate h = absurd (false≢true h)
     value_still (e.Update t op s p v) fate h = absurd (false≢true h)
@@ -160,10 +151,10 @@ module _ (here : Around) where
     lvalue_still : (p : Place) → is_pure_place p ≡ true → Still (place_of F p)
     lvalue_still (e.Object t n) h = then_still _ _ (place_still (here.variable n)) (λ a. gives_still (valued a untouched))
     lvalue_still (e.Pointed t v) h = then_still _ _ (value_still v wanted h) (λ x. then_still _ _ (address_still x.value) (λ a. gives_still (valued a x.footprint)))
-    lvalue_still (e.Element t size side v w) h = then_still _ _ (value_still v wanted (and_left _ _ h)) (λ x. then_still _ _ (value_still w wanted (and_right _ _ h)) (λ y. then_still _ _ (moved_still O.Add size (pointer_of side x.value y.value) (count_of side x.value y.value)) (λ p. gives_still (valued p x.footprint))))
+    lvalue_still (e.Element t size side v w) h = then_still _ _ (value_still v wanted (and_parts _ _ h).0) (λ x. then_still _ _ (value_still w wanted (and_parts _ _ h).1) (λ y. then_still _ _ (moved_still O.Add size (pointer_of side x.value y.value) (count_of side x.value y.value)) (λ p. gives_still (valued p x.footprint))))
     lvalue_still (e.Part t offset p) h = then_still _ _ (lvalue_still p h) (λ x. then_still _ _ (asked_still _) (λ a. gives_still (valued a x.footprint)))
     lvalue_still (e.Held t v) h = then_still _ _ (value_still v wanted h) (λ x. then_still _ _ (address_still x.value) (λ a. gives_still (valued a x.footprint)))
 
     parts_still : (vs : Values) (fate : Fate) → are_pure vs ≡ true → (before : Footprint) → Still (parts_behind (parts_of F fate vs) before)
     parts_still e.no_values fate h before = gives_still (valued content.Unset untouched)
-    parts_still (e.a_value v vs) fate h before = part_still fate v vs (value_still v (fate_of_part fate vs) (and_left _ _ h)) (parts_still vs fate (and_right _ _ h)) before
+    parts_still (e.a_value v vs) fate h before = part_still fate v vs (value_still v (fate_of_part fate vs) (and_parts _ _ h).0) (parts_still vs fate (and_parts _ _ h).1) before

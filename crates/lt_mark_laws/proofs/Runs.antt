@@ -1,7 +1,6 @@
 -- Runs of a program with marks added are the same, new marks aside.
-use Rattle.std.proofs.Common.{◌≡◌, ℕ, ℤ, zero, suc, List, [], ◌∷◌, Option, Some, None, Bool, true, false, refl, sym, ap, ◌∙◌, subst}
-use Rattle.std.specs.Prelude.{◌++◌, ◌+◌, ◌&&◌, not, if◌then◌else◌, map, length, slice_get}
-use Rattle.std.specs.List.{AllByRecursion}
+use Rattle.std.proofs.Common.{◌≡◌, ℕ, zero, suc, List, [], ◌∷◌, Option, Some, None, Bool, true, false, refl, sym, ap, ◌∙◌, subst}
+use Rattle.std.specs.Prelude.{◌++◌, ◌&&◌, not, if◌then◌else◌, map, length}
 use Rattle.std.specs.Str.{bytes_eq}
 use Rattle.lt_model.specs.declared.cell.Content.{Content}
 use Rattle.lt_model.specs.declared.cell.Content.TheVariants as content
@@ -14,32 +13,30 @@ use Rattle.lt_model.specs.declared.input.BlockIn.{BlockIn}
 use Rattle.lt_model.specs.declared.input.CellSet.{CellSet}
 use Rattle.lt_model.specs.declared.input.CellSet.TheVariants as cellset
 use Rattle.lt_model.specs.declared.scalar.DataModel.{DataModel}
-use Rattle.lt_model.specs.declared.run.End.TheVariants.{Returned, Stopped, Steps}
+use Rattle.lt_model.specs.declared.run.End.TheVariants.{Stopped, Steps}
 use Rattle.lt_model.specs.Memory.{new_cell}
 use Rattle.lt_model.specs.State.{Made, untouched, Gives, Ends}
 use Rattle.lt_tree.specs.Tree.{Unit as SourceUnit}
-use Rattle.lt_tree.specs.Typing.Types.{CType, Void, is_void, is_struct}
+use Rattle.lt_tree.specs.Typing.Types.{CType, is_void}
 use Rattle.lt_tree.specs.Typing.Constants.{Constancy, number, address, varying, faulty, null_constant, null_address}
-use Rattle.lt_tree.specs.Typing.Shapes.{shape_of, pointer_type}
 use Rattle.lt_tree.specs.Typing.TypedTree as e
 use Rattle.lt_tree.specs.Typing.TypedTree.{Value, Statement, Items, Cases, Local as Local', StartPart}
-use Rattle.lt_tree.specs.Typing.Entities.{Function, Label, Fact, Declared, Frame, Object, is_static, is_sealed}
+use Rattle.lt_tree.specs.Typing.Entities.{Function, Label, Fact, Declared, Frame, Object, is_static}
 use Rattle.lt_tree.specs.Typing.Programs.{Program}
 use Rattle.lt_ir.specs.declared.variable.Variable.{Variable}
 use Rattle.lt_ir.specs.declared.variable.Variable.TheVariants.{Parameter, Local, Static as StaticObject}
 use Rattle.lt_ir.specs.declared.code.Static.{Static}
-use Rattle.lt_ir.specs.Running.{At, Answer, Step, Over, ◌>>=◌, ◌>>◌, gives, over, tick, one_deeper, seals, stub_value, with_scope, statics_of, begin_parameters, end_parameters}
+use Rattle.lt_ir.specs.Running.{At, Answer, Step, gives, seals, statics_of, begin_parameters, end_parameters}
 use Rattle.lt_ir.specs.Evaluation.{store_parameters}
 use Rattle.lt_ir.specs.Starting.{Root, put, fill, start_static, start_statics, seal_statics, start_blocks, start_parameters, root_among, point_named, type_at, put_if_there, put_in, set_one, set_all, sets, started, parameter_roots, static_roots, nowhere}
 use Rattle.lt_meaning.specs.Expressions.{Around, Calls, shape}
 use Rattle.lt_meaning.specs.Statements.{Flow, Next, Breaks, Continues, Returns, exec_items, parts_in, is_sealed_object, type_of_object}
-use Rattle.lt_meaning.specs.Runs.{run, name_in_files, is_there_first, statics_before, place_among, other_variable, variable_of, begun_by, locals_in, locals_of, locals_among, fixed_content, fixed_in, part_in, all_parts_in, initial, initials, stops, without_body, shapes_of, seal_parameters, back, value_of_call, value_at_end, inside_of, body_of, with_body, function_among, call_of, invoke, name_of_object, over_by, begun}
-use Rattle.lt_mark_laws.specs.Laws.{AreAlike, MarksChangeNothing, without_new}
+use Rattle.lt_meaning.specs.Runs.{run, is_there_first, statics_before, place_among, variable_of, begun_by, locals_in, locals_of, locals_among, fixed_content, fixed_in, part_in, all_parts_in, initial, initials, stops, without_body, shapes_of, seal_parameters, back, value_of_call, inside_of, body_of, with_body, function_among, invoke, name_of_object, over_by, begun}
+use Rattle.lt_mark_laws.specs.Laws.{AreAlike, MarksChangeNothing}
 use Rattle.lt_mark_laws.specs.Added as a
 use Rattle.lt_mark_laws.specs.Added.{AddsLocal, AddsLocals, AddsForStart, AddsOptional, AddsStatement, AddsItems, AddsCases, AddsFunction, AddsFunctions, AddsProgram, AreSameObjects}
-use Rattle.lt_mark_laws.proofs.Cells.{IsShapeListed, MeetAlike, alike}
-use Rattle.lt_mark_laws.proofs.Alike.{remarked, Comparison, AlikeAt, Alike, Same, same_at, then_same, gives_same, over_same, if_same}
-use Rattle.lt_mark_laws.proofs.Machine.{ShapesListed, tick_same, deeper_same, scope_same, begin_parameters_same, end_parameters_same, store_parameters_same, seals_same, stub_same, begins_same, bound_same, created_same, stored_same}
+use Rattle.lt_mark_laws.proofs.Alike.{remarked, Alike, Same, then_same, gives_same, over_same, if_same}
+use Rattle.lt_mark_laws.proofs.Machine.{tick_same, deeper_same, scope_same, begin_parameters_same, end_parameters_same, store_parameters_same, seals_same, stub_same, begins_same, bound_same, created_same, stored_same}
 use Rattle.lt_mark_laws.proofs.Objects as objects
 use Rattle.lt_mark_laws.proofs.Objects.{each}
 use Rattle.lt_mark_laws.proofs.Statements.{items_same}
@@ -91,35 +88,12 @@ mutual
 
 -- ---- programs
 
-module _ (seen : Comparison) (P : Program) (u : SourceUnit) (ds : List Declared) (fs : List Function) (fr : Frame) (ls : List Label) (xs : List Fact) (os : List Object) (ts : List CType)
-    (types_alike : (t : CType) → MeetAlike seen.listed (pointer_type P.types t) (pointer_type ts t)) (structs_same : (t : CType) → is_struct t ≡ true → shape_of P.model P.structs P.types t ≡ shape_of P.model P.structs ts t)
-    (objects_same : AreSameObjects P.objects os)
-    (objects_alike : AllByRecursion (λ (object : Object). (shape_of P.model P.structs P.types object.type ≡ shape_of P.model P.structs ts object.type) × IsShapeListed seen.listed (shape_of P.model P.structs P.types object.type)) P.objects) where
-  abbrev new : ℕ → Bool
-  new = seen.new
-
+module _ (new : ℕ → Bool) (P : Program) (u : SourceUnit) (ds : List Declared) (fs : List Function) (fr : Frame) (ls : List Label) (xs : List Fact) (os : List Object) (objects_same : AreSameObjects P.objects os) where
   abbrev S : {A : Type 0} → Step A → Step A → Type 0
-  S s r = Same seen s r
+  S s r = Same new s r
 
   abbrev Q : Program
-  Q = record P { unit = u; declared = ds; functions = fs; file = fr; labels = ls; facts = xs; objects = os; types = ts }
-
-  -- ---- shapes
-
-  -- a type whose objects have the same cells in both programs, of listed types
-  abbrev IsAlike : CType → Type 0
-  IsAlike t = (shape_of P.model P.structs P.types t ≡ shape_of P.model P.structs ts t) × IsShapeListed seen.listed (shape_of P.model P.structs P.types t)
-
-  found_alike : (objects : List Object) → AllByRecursion (λ (object : Object). IsAlike object.type) objects → (n : ℕ) → IsAlike (elim (slice_get objects n) as (λ _. CType) [ None ↦ Void | Some object ↦ object.type ])
-  found_alike [] h n = (refl, tt)
-  found_alike (x ∷ xs') h zero = h.0
-  found_alike (x ∷ xs') h (suc n) = found_alike xs' h.1 n
-
-  shape_same : (n : ℕ) → shape P (type_of_object P n) ≡ shape Q (type_of_object P n)
-  shape_same n = (found_alike P.objects objects_alike n).0
-
-  shape_listed : (n : ℕ) → IsShapeListed seen.listed (shape P (type_of_object P n))
-  shape_listed n = (found_alike P.objects objects_alike n).1
+  Q = record P { unit = u; declared = ds; functions = fs; file = fr; labels = ls; facts = xs; objects = os }
 
   -- ---- objects that are there from the start
 
@@ -140,10 +114,8 @@ module _ (seen : Comparison) (P : Program) (u : SourceUnit) (ds : List Declared)
   parts_same [] cells = refl
   parts_same (part ∷ parts) cells = parts_same parts (part_in P part cells) ∙ ap (all_parts_in Q parts) (part_same part cells)
 
-  initial_same : (object : Object) → IsAlike object.type → initial P object ≡ initial Q object
-  initial_same object h =
-      ap (λ (it : Shape). record { block = record { name = name_in_files object; shape = it }; cells = map (λ cell. cell.holds) (all_parts_in P (parts_in object.start) (map (new_cell true) it.cells)); writable = not (is_sealed object) }) h.0
-      ∙ ap (λ cells. record (initial Q object) { cells = map (λ cell. cell.holds) cells }) (parts_same (parts_in object.start) (map (new_cell true) (shape Q object.type).cells))
+  initial_same : (object : Object) → initial P object ≡ initial Q object
+  initial_same object = ap (λ cells. record (initial P object) { cells = map (λ cell. cell.holds) cells }) (parts_same (parts_in object.start) (map (new_cell true) (shape P object.type).cells))
 
   renumbered_same : (x : Object) (n : ℕ) → initial Q (record x { node = n }) ≡ initial Q x
   renumbered_same x n = ap (λ name. record (initial Q x) { block = record { name = name; shape = shape Q x.type } }) (objects.file_name_same x n)
@@ -152,28 +124,15 @@ module _ (seen : Comparison) (P : Program) (u : SourceUnit) (ds : List Declared)
   initials_by true x y xs' ys h k = ap (λ it. it ∷ initials P xs') h ∙ ap (λ l. initial Q y ∷ l) k
   initials_by false x y xs' ys h k = k
 
-  initials_same : (xs' ys : List Object) → AreSameObjects xs' ys → AllByRecursion (λ (object : Object). IsAlike object.type) xs' → initials P xs' ≡ initials Q ys
-  initials_same [] [] h g = refl
-  initials_same (x ∷ xs') (y ∷ ys) h g = initials_by (is_static x.life) x y xs' ys (initial_same x g.0 ∙ sym (renumbered_same x y.node) ∙ ap (initial Q) h.0) (initials_same xs' ys h.1 g.1) ∙ ap (λ life. if is_static life then initial Q y ∷ initials Q ys else initials Q ys) (ap (λ o. o.life) h.0)
-  initials_same [] (y ∷ ys) h g = absurd h
-  initials_same (x ∷ xs') [] h g = absurd h
-
-  initials_listed_by : (b : Bool) (x : Object) (statics : List Static) → IsAlike x.type → AllByRecursion (λ (it : Static). IsShapeListed seen.listed it.block.shape) statics
-      → AllByRecursion (λ (it : Static). IsShapeListed seen.listed it.block.shape) (if b then initial P x ∷ statics else statics)
-  initials_listed_by true x statics h g = (h.1, g)
-  initials_listed_by false x statics h g = g
-
-  initials_listed : (xs' : List Object) → AllByRecursion (λ (object : Object). IsAlike object.type) xs' → AllByRecursion (λ (it : Static). IsShapeListed seen.listed it.block.shape) (initials P xs')
-  initials_listed [] h = tt
-  initials_listed (x ∷ xs') h = initials_listed_by (is_static x.life) x (initials P xs') h.0 (initials_listed xs' h.1)
+  initials_same : (xs' ys : List Object) → AreSameObjects xs' ys → initials P xs' ≡ initials Q ys
+  initials_same [] [] h = refl
+  initials_same (x ∷ xs') (y ∷ ys) h = initials_by (is_static x.life) x y xs' ys (initial_same x ∙ sym (renumbered_same x y.node) ∙ ap (initial Q) h.0) (initials_same xs' ys h.1) ∙ ap (λ life. if is_static life then initial Q y ∷ initials Q ys else initials Q ys) (ap (λ o. o.life) h.0)
+  initials_same [] (y ∷ ys) h = absurd h
+  initials_same (x ∷ xs') [] h = absurd h
 
   shapes_same : (ns : List ℕ) → shapes_of P ns ≡ shapes_of Q ns
   shapes_same [] = refl
-  shapes_same (n ∷ ns) = ap (λ it. it ∷ shapes_of P ns) (shape_same n ∙ ap (shape Q) (objects.type_same P.objects os objects_same n)) ∙ ap (λ l. shape Q (type_of_object Q n) ∷ l) (shapes_same ns)
-
-  shapes_listed : (ns : List ℕ) → ShapesListed seen (shapes_of P ns)
-  shapes_listed [] = tt
-  shapes_listed (n ∷ ns) = (shape_listed n, shapes_listed ns)
+  shapes_same (n ∷ ns) = ap (λ t. shape P t ∷ shapes_of P ns) (objects.type_same P.objects os objects_same n) ∙ ap (λ l. shape P (type_of_object Q n) ∷ l) (shapes_same ns)
 
   -- ---- functions
 
@@ -191,17 +150,17 @@ module _ (seen : Comparison) (P : Program) (u : SourceUnit) (ds : List Declared)
   variable_same f body node d = each (variable_of P f) (variable_of Q (record f { node = node; body = body })) (variable_at f body node d)
 
   seal_one : (b : Bool) (k : ℕ) → S (if b then seals (Parameter k) else gives (tt {0})) (if b then seals (Parameter k) else gives (tt {0}))
-  seal_one b k = if_same seen b (seals (Parameter k)) (gives (tt {0})) (seals (Parameter k)) (gives (tt {0})) (seals_same seen (Parameter k)) (gives_same seen (tt {0}))
+  seal_one b k = if_same new b (seals (Parameter k)) (gives (tt {0})) (seals (Parameter k)) (gives (tt {0})) (seals_same new (Parameter k)) (gives_same new (tt {0}))
 
   seal_at : (n k : ℕ) → S (if is_sealed_object P n then seals (Parameter k) else gives (tt {0})) (if is_sealed_object Q n then seals (Parameter k) else gives (tt {0}))
   seal_at n k = subst (λ b. S (if is_sealed_object P n then seals (Parameter k) else gives (tt {0})) (if b then seals (Parameter k) else gives (tt {0}))) (objects.sealed_same P.objects os objects_same n) (seal_one (is_sealed_object P n) k)
 
   seal_same : (k : ℕ) (ns : List ℕ) → S (seal_parameters P k ns) (seal_parameters Q k ns)
-  seal_same k [] = gives_same seen (tt {0})
-  seal_same k (n ∷ ns) = then_same seen _ _ _ _ (seal_at n k) (λ _. seal_same (suc k) ns)
+  seal_same k [] = gives_same new (tt {0})
+  seal_same k (n ∷ ns) = then_same new _ _ _ _ (seal_at n k) (λ _. seal_same (suc k) ns)
 
   without_body_same : (name : List ℕ) (t : CType) (b : Bool) → S (without_body name t b) (without_body name t b)
-  without_body_same name t b = if_same seen (stops name) _ _ _ _ (over_same seen _ Stopped) (if_same seen (b && not (is_void t)) _ _ _ _ (stub_same seen name) (gives_same seen content.Unset))
+  without_body_same name t b = if_same new (stops name) _ _ _ _ (over_same new _ Stopped) (if_same new (b && not (is_void t)) _ _ _ _ (stub_same new name) (gives_same new content.Unset))
 
   value_same_of : (f : Function) (body : Items) (node : ℕ) (flow : Flow) → value_of_call f flow ≡ value_of_call (record f { node = node; body = body }) flow
   value_same_of f body node Next = refl
@@ -216,22 +175,22 @@ module _ (seen : Comparison) (P : Program) (u : SourceUnit) (ds : List Declared)
   abbrev in_body : Calls → (ℕ → Variable) → Around
   in_body calls' variable = record { program = Q; variable = variable; calls = calls'; tracks = true }
 
-  items_in_body : (calls calls' : Calls) (calls_same : (f : List ℕ) (t : CType) (cs : List Content) (b : Bool) → Same seen (calls f t cs b) (calls' f t cs b)) (f : Function) (body : Items) (node : ℕ) → AddsItems new f.body body → S (exec_items (inside_of P calls f) f.body) (exec_items (inside_of Q calls' (record f { node = node; body = body })) body)
-  items_in_body calls calls' calls_same f body node d = subst (λ variable. S (exec_items (inside_of P calls f) f.body) (exec_items (in_body calls' variable) body)) (variable_same f body node d) (items_same seen P u ds fs fr ls xs os ts types_alike structs_same objects_same shape_same shape_listed (variable_of P f) calls calls' calls_same true d)
+  items_in_body : (calls calls' : Calls) (calls_same : (f : List ℕ) (t : CType) (cs : List Content) (b : Bool) → Same new (calls f t cs b) (calls' f t cs b)) (f : Function) (body : Items) (node : ℕ) → AddsItems new f.body body → S (exec_items (inside_of P calls f) f.body) (exec_items (inside_of Q calls' (record f { node = node; body = body })) body)
+  items_in_body calls calls' calls_same f body node d = subst (λ variable. S (exec_items (inside_of P calls f) f.body) (exec_items (in_body calls' variable) body)) (variable_same f body node d) (items_same new P u ds fs fr ls xs os objects_same (variable_of P f) calls calls' calls_same true d)
 
-  body_same : (calls calls' : Calls) (calls_same : (f : List ℕ) (t : CType) (cs : List Content) (b : Bool) → Same seen (calls f t cs b) (calls' f t cs b)) (f : Function) (body : Items) (node : ℕ) → AddsItems new f.body body → S (body_of P calls f) (body_of Q calls' (record f { node = node; body = body }))
-  body_same calls calls' calls_same f body node d = then_same seen _ _ _ _ (seal_same 0 f.parameters) (λ _. then_same seen _ _ _ _ (items_in_body calls calls' calls_same f body node d) (λ flow. then_same seen _ _ _ _ (subst (λ shapes. S (end_parameters 0 (shapes_of P f.parameters)) (end_parameters 0 shapes)) (shapes_same f.parameters) (end_parameters_same seen 0 (shapes_of P f.parameters))) (λ _. gives_same seen flow)))
+  body_same : (calls calls' : Calls) (calls_same : (f : List ℕ) (t : CType) (cs : List Content) (b : Bool) → Same new (calls f t cs b) (calls' f t cs b)) (f : Function) (body : Items) (node : ℕ) → AddsItems new f.body body → S (body_of P calls f) (body_of Q calls' (record f { node = node; body = body }))
+  body_same calls calls' calls_same f body node d = then_same new _ _ _ _ (seal_same 0 f.parameters) (λ _. then_same new _ _ _ _ (items_in_body calls calls' calls_same f body node d) (λ flow. then_same new _ _ _ _ (subst (λ shapes. S (end_parameters 0 (shapes_of P f.parameters)) (end_parameters 0 shapes)) (shapes_same f.parameters) (end_parameters_same new 0 (shapes_of P f.parameters))) (λ _. gives_same new flow)))
 
   back_same : (before : At) (ms : List Made) → S (back before) (back (remarked ms before))
   back_same before ms = record { alike = λ at ns same. (refl, (refl, same)) }
 
-  with_body_here : (calls calls' : Calls) (calls_same : (f : List ℕ) (t : CType) (cs : List Content) (b : Bool) → Same seen (calls f t cs b) (calls' f t cs b)) (f : Function) (body : Items) (node : ℕ) (cs : List Content) → AddsItems new f.body body → S (with_body P calls f cs) (with_body Q calls' (record f { node = node; body = body }) cs)
-  with_body_here calls calls' calls_same f body node cs d = record { alike = λ at ms same. (then_same seen _ _ _ _ (deeper_same seen) (λ _. then_same seen _ _ _ _ (scope_same seen (statics_of at.scope)) (λ _. then_same seen _ _ _ _ (subst (λ shapes. S (begin_parameters 0 (shapes_of P f.parameters)) (begin_parameters 0 shapes)) (shapes_same f.parameters) (begin_parameters_same seen 0 (shapes_of P f.parameters) (shapes_listed f.parameters))) (λ _. then_same seen _ _ _ _ (subst (λ shapes. S (store_parameters P.model 0 (shapes_of P f.parameters) cs) (store_parameters P.model 0 shapes cs)) (shapes_same f.parameters) (store_parameters_same seen P.model 0 (shapes_of P f.parameters) cs)) (λ _. then_same seen _ _ _ _ (body_same calls calls' calls_same f body node d) (λ flow. then_same seen _ _ _ _ (back_same at ms) (λ _. subst (λ c. S (gives (value_of_call f flow)) (gives c)) (value_same_of f body node flow) (gives_same seen (value_of_call f flow))))))))).alike at ms same }
+  with_body_here : (calls calls' : Calls) (calls_same : (f : List ℕ) (t : CType) (cs : List Content) (b : Bool) → Same new (calls f t cs b) (calls' f t cs b)) (f : Function) (body : Items) (node : ℕ) (cs : List Content) → AddsItems new f.body body → S (with_body P calls f cs) (with_body Q calls' (record f { node = node; body = body }) cs)
+  with_body_here calls calls' calls_same f body node cs d = record { alike = λ at ms same. (then_same new _ _ _ _ (deeper_same new) (λ _. then_same new _ _ _ _ (scope_same new (statics_of at.scope)) (λ _. then_same new _ _ _ _ (subst (λ shapes. S (begin_parameters 0 (shapes_of P f.parameters)) (begin_parameters 0 shapes)) (shapes_same f.parameters) (begin_parameters_same new 0 (shapes_of P f.parameters))) (λ _. then_same new _ _ _ _ (subst (λ shapes. S (store_parameters P.model 0 (shapes_of P f.parameters) cs) (store_parameters P.model 0 shapes cs)) (shapes_same f.parameters) (store_parameters_same new P.model 0 (shapes_of P f.parameters) cs)) (λ _. then_same new _ _ _ _ (body_same calls calls' calls_same f body node d) (λ flow. then_same new _ _ _ _ (back_same at ms) (λ _. subst (λ c. S (gives (value_of_call f flow)) (gives c)) (value_same_of f body node flow) (gives_same new (value_of_call f flow))))))))).alike at ms same }
 
-  with_body_same : (calls calls' : Calls) (calls_same : (f : List ℕ) (t : CType) (cs : List Content) (b : Bool) → Same seen (calls f t cs b) (calls' f t cs b)) (f g : Function) (cs : List Content) → AddsFunction new f g → S (with_body P calls f cs) (with_body Q calls' g cs)
+  with_body_same : (calls calls' : Calls) (calls_same : (f : List ℕ) (t : CType) (cs : List Content) (b : Bool) → Same new (calls f t cs b) (calls' f t cs b)) (f g : Function) (cs : List Content) → AddsFunction new f g → S (with_body P calls f cs) (with_body Q calls' g cs)
   with_body_same calls calls' calls_same f g cs h = subst (λ g. S (with_body P calls f cs) (with_body Q calls' g cs)) (renamed f g h) (with_body_here calls calls' calls_same f g.body g.node cs h.body)
 
-  found_same : (calls calls' : Calls) (calls_same : (f : List ℕ) (t : CType) (cs : List Content) (b : Bool) → Same seen (calls f t cs b) (calls' f t cs b)) (name : List ℕ) (t : CType) (cs : List Content) (b : Bool) (x y : Option Function) → AddsOptional (AddsFunction new) x y → S (elim (x) as (λ _. Step Content) [ None ↦ without_body name t b | Some f ↦ with_body P calls f cs ]) (elim (y) as (λ _. Step Content) [ None ↦ without_body name t b | Some f ↦ with_body Q calls' f cs ])
+  found_same : (calls calls' : Calls) (calls_same : (f : List ℕ) (t : CType) (cs : List Content) (b : Bool) → Same new (calls f t cs b) (calls' f t cs b)) (name : List ℕ) (t : CType) (cs : List Content) (b : Bool) (x y : Option Function) → AddsOptional (AddsFunction new) x y → S (elim (x) as (λ _. Step Content) [ None ↦ without_body name t b | Some f ↦ with_body P calls f cs ]) (elim (y) as (λ _. Step Content) [ None ↦ without_body name t b | Some f ↦ with_body Q calls' f cs ])
   found_same calls calls' calls_same name t cs b None None h = without_body_same name t b
   found_same calls calls' calls_same name t cs b (Some f) (Some g) h = with_body_same calls calls' calls_same f g cs h
   found_same calls calls' calls_same name t cs b None (Some g) h = absurd h
@@ -248,44 +207,44 @@ module _ (seen : Comparison) (P : Program) (u : SourceUnit) (ds : List Declared)
   functions_among name (f ∷ x) [] h = absurd h
 
   pub invoke_same : AddsFunctions new P.functions fs → (n : ℕ) (f : List ℕ) (t : CType) (cs : List Content) (b : Bool) → S (invoke P n f t cs b) (invoke Q n f t cs b)
-  invoke_same h zero f t cs b = over_same seen _ Steps
-  invoke_same h (suc n) f t cs b = then_same seen _ _ _ _ (tick_same seen) (λ _. found_same (invoke P n) (invoke Q n) (invoke_same h n) f t cs b (function_among f P.functions) (function_among f fs) (functions_among f P.functions fs h))
+  invoke_same h zero f t cs b = over_same new _ Steps
+  invoke_same h (suc n) f t cs b = then_same new _ _ _ _ (tick_same new) (λ _. found_same (invoke P n) (invoke Q n) (invoke_same h n) f t cs b (function_among f P.functions) (function_among f fs) (functions_among f P.functions fs h))
 
   -- ---- how a run begins
 
   put_same : (m : DataModel) (block offset : ℕ) (ty : CellType) (c : Content) → S (put m block offset ty c) (put m block offset ty c)
-  put_same m block offset ty c = then_same seen _ _ _ _ (stored_same seen false m ty (Some (record { block = block; offset = offset })) c untouched) (λ _. gives_same seen (tt {0}))
+  put_same m block offset ty c = then_same new _ _ _ _ (stored_same new false m ty (Some (record { block = block; offset = offset })) c untouched) (λ _. gives_same new (tt {0}))
 
   fill_same : (m : DataModel) (block : ℕ) (cells : List ShapeCell) (cs : List Content) → S (fill m block cells cs) (fill m block cells cs)
-  fill_same m block [] cs = gives_same seen (tt {0})
-  fill_same m block (cell ∷ cells) [] = gives_same seen (tt {0})
-  fill_same m block (cell ∷ cells) (c ∷ cs) = then_same seen _ _ _ _ (put_same m block cell.offset cell.ty c) (λ _. fill_same m block cells cs)
+  fill_same m block [] cs = gives_same new (tt {0})
+  fill_same m block (cell ∷ cells) [] = gives_same new (tt {0})
+  fill_same m block (cell ∷ cells) (c ∷ cs) = then_same new _ _ _ _ (put_same m block cell.offset cell.ty c) (λ _. fill_same m block cells cs)
 
-  static_same : (m : DataModel) (k : ℕ) (it : Static) → IsShapeListed seen.listed it.block.shape → S (start_static m k it) (start_static m k it)
-  static_same m k it h = then_same seen _ _ _ _ (created_same seen it.block.shape true h) (λ block. then_same seen _ _ _ _ (fill_same m block it.block.shape.cells it.cells) (λ _. bound_same seen (StaticObject k) block))
+  static_same : (m : DataModel) (k : ℕ) (it : Static) → S (start_static m k it) (start_static m k it)
+  static_same m k it = then_same new _ _ _ _ (created_same new it.block.shape true) (λ block. then_same new _ _ _ _ (fill_same m block it.block.shape.cells it.cells) (λ _. bound_same new (StaticObject k) block))
 
-  statics_same : (m : DataModel) (k : ℕ) (its : List Static) → AllByRecursion (λ (it : Static). IsShapeListed seen.listed it.block.shape) its → S (start_statics m k its) (start_statics m k its)
-  statics_same m k [] h = gives_same seen (tt {0})
-  statics_same m k (it ∷ its) h = then_same seen _ _ _ _ (static_same m k it h.0) (λ _. statics_same m (suc k) its h.1)
+  statics_same : (m : DataModel) (k : ℕ) (its : List Static) → S (start_statics m k its) (start_statics m k its)
+  statics_same m k [] = gives_same new (tt {0})
+  statics_same m k (it ∷ its) = then_same new _ _ _ _ (static_same m k it) (λ _. statics_same m (suc k) its)
 
   seal_statics_same : (k : ℕ) (its : List Static) → S (seal_statics k its) (seal_statics k its)
-  seal_statics_same k [] = gives_same seen (tt {0})
-  seal_statics_same k (it ∷ its) = then_same seen _ _ _ _ (if_same seen it.writable (gives (tt {0})) (seals (StaticObject k)) (gives (tt {0})) (seals (StaticObject k)) (gives_same seen (tt {0})) (seals_same seen (StaticObject k))) (λ _. seal_statics_same (suc k) its)
+  seal_statics_same k [] = gives_same new (tt {0})
+  seal_statics_same k (it ∷ its) = then_same new _ _ _ _ (if_same new it.writable (gives (tt {0})) (seals (StaticObject k)) (gives (tt {0})) (seals (StaticObject k)) (gives_same new (tt {0})) (seals_same new (StaticObject k))) (λ _. seal_statics_same (suc k) its)
 
-  blocks_same : (its : List BlockIn) → AllByRecursion (λ (it : BlockIn). IsShapeListed seen.listed it.shape) its → S (start_blocks its) (start_blocks its)
-  blocks_same [] h = gives_same seen []
-  blocks_same (it ∷ its) h = then_same seen _ _ _ _ (created_same seen it.shape true h.0) (λ block. then_same seen _ _ _ _ (blocks_same its h.1) (λ roots. gives_same seen (record { name = it.name; block = block; cells = it.shape.cells } ∷ roots)))
+  blocks_same : (its : List BlockIn) → S (start_blocks its) (start_blocks its)
+  blocks_same [] = gives_same new []
+  blocks_same (it ∷ its) = then_same new _ _ _ _ (created_same new it.shape true) (λ block. then_same new _ _ _ _ (blocks_same its) (λ roots. gives_same new (record { name = it.name; block = block; cells = it.shape.cells } ∷ roots)))
 
-  start_parameters_same : (k : ℕ) (shapes : List Shape) → ShapesListed seen shapes → S (start_parameters k shapes) (start_parameters k shapes)
-  start_parameters_same k [] h = gives_same seen (tt {0})
-  start_parameters_same k (shape ∷ shapes) h = then_same seen _ _ _ _ (begins_same seen (Parameter k) shape true h.0) (λ _. start_parameters_same (suc k) shapes h.1)
+  start_parameters_same : (k : ℕ) (shapes : List Shape) → S (start_parameters k shapes) (start_parameters k shapes)
+  start_parameters_same k [] = gives_same new (tt {0})
+  start_parameters_same k (shape ∷ shapes) = then_same new _ _ _ _ (begins_same new (Parameter k) shape true) (λ _. start_parameters_same (suc k) shapes)
 
   put_there_same : (m : DataModel) (block offset : ℕ) (ty : Option CellType) (c : Content) → S (put_if_there m block offset ty c) (put_if_there m block offset ty c)
-  put_there_same m block offset None c = gives_same seen (tt {0})
+  put_there_same m block offset None c = gives_same new (tt {0})
   put_there_same m block offset (Some ty) c = put_same m block offset ty c
 
   put_in_same : (m : DataModel) (root : Option Root) (offset : ℕ) (c : Content) → S (put_in m root offset c) (put_in m root offset c)
-  put_in_same m None offset c = gives_same seen (tt {0})
+  put_in_same m None offset c = gives_same new (tt {0})
   put_in_same m (Some root) offset c = put_there_same m root.block offset (type_at offset root.cells) c
 
   set_one_same : (m : DataModel) (roots : List Root) (it : CellSet) → S (set_one m roots it) (set_one m roots it)
@@ -293,71 +252,37 @@ module _ (seen : Comparison) (P : Program) (u : SourceUnit) (ds : List Declared)
   set_one_same m roots (cellset.Point p target) = put_in_same m (root_among roots p.root) p.offset (content.Address (point_named roots target))
 
   set_all_same : (m : DataModel) (roots : List Root) (its : List CellSet) → S (set_all m roots its) (set_all m roots its)
-  set_all_same m roots [] = gives_same seen (tt {0})
-  set_all_same m roots (it ∷ its) = then_same seen _ _ _ _ (set_one_same m roots it) (λ _. set_all_same m roots its)
+  set_all_same m roots [] = gives_same new (tt {0})
+  set_all_same m roots (it ∷ its) = then_same new _ _ _ _ (set_one_same m roots it) (λ _. set_all_same m roots its)
 
   sets_same : (m : DataModel) (statics : List Static) (names : List (List ℕ)) (shapes : List Shape) (its : List CellSet) (roots : List Root) → S (sets m statics names shapes its roots) (sets m statics names shapes its roots)
   sets_same m statics names shapes its roots = record { alike = λ at ms same. (set_all_same m (parameter_roots at.scope 0 names shapes (roots ++ static_roots 0 statics)) its).alike at ms same }
 
-  started_same : (m : DataModel) (statics : List Static) (names : List (List ℕ)) (shapes : List Shape) (input : Input) → AllByRecursion (λ (it : Static). IsShapeListed seen.listed it.block.shape) statics → ShapesListed seen shapes → AllByRecursion (λ (it : BlockIn). IsShapeListed seen.listed it.shape) input.blocks
-      → S (started m statics names shapes input) (started m statics names shapes input)
-  started_same m statics names shapes input h g f = then_same seen _ _ _ _ (statics_same m 0 statics h) (λ _. then_same seen _ _ _ _ (blocks_same input.blocks f) (λ roots. then_same seen _ _ _ _ (start_parameters_same 0 shapes g) (λ _. then_same seen _ _ _ _ (sets_same m statics names shapes input.cells roots) (λ _. seal_statics_same 0 statics))))
+  started_same : (m : DataModel) (statics : List Static) (names : List (List ℕ)) (shapes : List Shape) (input : Input) → S (started m statics names shapes input) (started m statics names shapes input)
+  started_same m statics names shapes input = then_same new _ _ _ _ (statics_same m 0 statics) (λ _. then_same new _ _ _ _ (blocks_same input.blocks) (λ roots. then_same new _ _ _ _ (start_parameters_same 0 shapes) (λ _. then_same new _ _ _ _ (sets_same m statics names shapes input.cells roots) (λ _. seal_statics_same 0 statics))))
 
-  begun_alike : (f : Function) (body : Items) (node : ℕ) (input : Input) → AllByRecursion (λ (it : BlockIn). IsShapeListed seen.listed it.shape) input.blocks → S (begun P f input) (begun Q (record f { node = node; body = body }) input)
-  begun_alike f body node input h =
+  begun_alike : (f : Function) (body : Items) (node : ℕ) (input : Input) → S (begun P f input) (begun Q (record f { node = node; body = body }) input)
+  begun_alike f body node input =
       subst (λ names. S (begun P f input) (started P.model (initials Q os) names (shapes_of Q f.parameters) input)) (names_same f.parameters)
-      (subst (λ statics. S (begun P f input) (started P.model statics (map (name_of_object P) f.parameters) (shapes_of Q f.parameters) input)) (initials_same P.objects os objects_same objects_alike)
-      (subst (λ shapes. S (begun P f input) (started P.model (initials P P.objects) (map (name_of_object P) f.parameters) shapes input)) (shapes_same f.parameters)
-      (started_same P.model (initials P P.objects) (map (name_of_object P) f.parameters) (shapes_of P f.parameters) input (initials_listed P.objects objects_alike) (shapes_listed f.parameters) h)))
+      (subst (λ statics. S (begun P f input) (started P.model statics (map (name_of_object P) f.parameters) (shapes_of Q f.parameters) input)) (initials_same P.objects os objects_same)
+      (subst (λ shapes. S (begun P f input) (started P.model (initials P P.objects) (map (name_of_object P) f.parameters) shapes input)) (shapes_same f.parameters) (started_same P.model (initials P P.objects) (map (name_of_object P) f.parameters) (shapes_of P f.parameters) input)))
 
-  over_alike : (m n : Answer Flow) → Alike seen m n → AreAlike new (over_by m) (over_by n)
-  over_alike (Gives x at1) (Gives y at2) h = record { end = refl; memory = ap (λ at. at.memory) (sym h.1.0); ticks = ap (λ at. at.ticks) (sym h.1.0); stubs = ap (λ at. at.stubs) (sym h.1.0); marks = h.1.1.0 }
-  over_alike (Ends x at1) (Ends y at2) h = record { end = h.0; memory = ap (λ at. at.memory) (sym h.1.0); ticks = ap (λ at. at.ticks) (sym h.1.0); stubs = ap (λ at. at.stubs) (sym h.1.0); marks = h.1.1.0 }
+  over_alike : (m n : Answer Flow) → Alike new m n → AreAlike new (over_by m) (over_by n)
+  over_alike (Gives x at1) (Gives y at2) h = record { end = refl; memory = ap (λ at. at.memory) (sym h.1.0); ticks = ap (λ at. at.ticks) (sym h.1.0); stubs = ap (λ at. at.stubs) (sym h.1.0); marks = h.1.1 }
+  over_alike (Ends x at1) (Ends y at2) h = record { end = h.0; memory = ap (λ at. at.memory) (sym h.1.0); ticks = ap (λ at. at.ticks) (sym h.1.0); stubs = ap (λ at. at.stubs) (sym h.1.0); marks = h.1.1 }
   over_alike (Gives x at1) (Ends y at2) h = absurd h
   over_alike (Ends x at1) (Gives y at2) h = absurd h
 
-  run_here : AddsFunctions new P.functions fs → (f : Function) (body : Items) (node : ℕ) (input : Input) (ticks : ℕ) → AllByRecursion (λ (it : BlockIn). IsShapeListed seen.listed it.shape) input.blocks → AddsItems new f.body body → AreAlike new (run P f input ticks) (run Q (record f { node = node; body = body }) input ticks)
-  run_here h f body node input ticks b d = over_alike _ _ ((then_same seen (begun P f input) (begun Q (record f { node = node; body = body }) input) _ _ (begun_alike f body node input b) (λ _. body_same (invoke P (suc ticks)) (invoke Q (suc ticks)) (invoke_same h (suc ticks)) f body node d)).alike (nowhere input ticks) [] (refl, tt))
+  run_here : AddsFunctions new P.functions fs → (f : Function) (body : Items) (node : ℕ) (input : Input) (ticks : ℕ) → AddsItems new f.body body → AreAlike new (run P f input ticks) (run Q (record f { node = node; body = body }) input ticks)
+  run_here h f body node input ticks d = over_alike _ _ ((then_same new (begun P f input) (begun Q (record f { node = node; body = body }) input) _ _ (begun_alike f body node input) (λ _. body_same (invoke P (suc ticks)) (invoke Q (suc ticks)) (invoke_same h (suc ticks)) f body node d)).alike (nowhere input ticks) [] refl)
 
-  run_same : AddsFunctions new P.functions fs → (f g : Function) (input : Input) (ticks : ℕ) → AllByRecursion (λ (it : BlockIn). IsShapeListed seen.listed it.shape) input.blocks → AddsFunction new f g → AreAlike new (run P f input ticks) (run Q g input ticks)
-  run_same h f g input ticks b d = subst (λ g. AreAlike new (run P f input ticks) (run Q g input ticks)) (renamed f g d) (run_here h f g.body g.node input ticks b d.body)
-
--- ---- programs whose lists of types are alike
-
-with_marks : {new : ℕ → Bool} (p q : Program) → AddsProgram new (record p { types = q.types }) q
-    → record p { unit = q.unit; declared = q.declared; functions = q.functions; file = q.file; labels = q.labels; facts = q.facts; objects = q.objects; types = q.types } ≡ q
-with_marks p q h = ap (λ x. record q { model = x; structs = p.structs }) h.model ∙ ap (λ x. record q { structs = x }) h.structs
-
-pub runs_alike : (new : ℕ → Bool) (listed : CellType → Bool) (p q : Program) → AddsProgram new (record p { types = q.types }) q
-    → ((t : CType) → MeetAlike listed (pointer_type p.types t) (pointer_type q.types t)) → ((t : CType) → is_struct t ≡ true → shape_of p.model p.structs p.types t ≡ shape_of p.model p.structs q.types t)
-    → AllByRecursion (λ (object : Object). (shape_of p.model p.structs p.types object.type ≡ shape_of p.model p.structs q.types object.type) × IsShapeListed listed (shape_of p.model p.structs p.types object.type)) p.objects
-    → (f g : Function) (input : Input) (ticks : ℕ) → AllByRecursion (λ (it : BlockIn). IsShapeListed listed it.shape) input.blocks → AddsFunction new f g → AreAlike new (run p f input ticks) (run q g input ticks)
-runs_alike new listed p q h types_alike structs_same objects_alike f g input ticks b d =
-    subst (λ q. AreAlike new (run p f input ticks) (run q g input ticks)) (with_marks {new = new} p q h)
-    (run_same (record { new = new; listed = listed }) p q.unit q.declared q.functions q.file q.labels q.facts q.objects q.types types_alike structs_same h.objects objects_alike h.functions f g input ticks b d)
-
--- ---- programs with the same list of types
-
-abbrev pub any : CellType → Bool
-any ty = true
-
-pub any_cells : (cells : List ShapeCell) → AllByRecursion (λ (cell : ShapeCell). any cell.ty ≡ true) cells
-any_cells [] = tt
-any_cells (c ∷ cs) = (refl, any_cells cs)
-
-any_blocks : (blocks : List BlockIn) → AllByRecursion (λ (it : BlockIn). IsShapeListed any it.shape) blocks
-any_blocks [] = tt
-any_blocks (it ∷ its) = (any_cells it.shape.cells, any_blocks its)
-
-pub any_objects : (p : Program) (types : List CType) → p.types ≡ types → (objects : List Object)
-    → AllByRecursion (λ (object : Object). (shape_of p.model p.structs p.types object.type ≡ shape_of p.model p.structs types object.type) × IsShapeListed any (shape_of p.model p.structs p.types object.type)) objects
-any_objects p types e [] = tt
-any_objects p types e (x ∷ xs) = ((ap (λ them. shape_of p.model p.structs them x.type) e, any_cells (shape_of p.model p.structs p.types x.type).cells), any_objects p types e xs)
+  run_same : AddsFunctions new P.functions fs → (f g : Function) (input : Input) (ticks : ℕ) → AddsFunction new f g → AreAlike new (run P f input ticks) (run Q g input ticks)
+  run_same h f g input ticks d = subst (λ g. AreAlike new (run P f input ticks) (run Q g input ticks)) (renamed f g d) (run_here h f g.body g.node input ticks d.body)
 
 -- ---- the law
 
+pub with_marks : {new : ℕ → Bool} (p q : Program) → AddsProgram new p q → record p { unit = q.unit; declared = q.declared; functions = q.functions; file = q.file; labels = q.labels; facts = q.facts; objects = q.objects } ≡ q
+with_marks p q h = ap (λ x. record q { model = x; structs = p.structs; types = p.types }) h.model ∙ ap (λ x. record q { structs = x; types = p.types }) h.structs ∙ ap (λ x. record q { types = x }) h.types
+
 pub nothing_changes : MarksChangeNothing
-nothing_changes new p q f g input ticks h d =
-    runs_alike new any p q (record { model = h.model; structs = h.structs; objects = h.objects; types = refl; functions = h.functions })
-    (λ t. subst (λ types. MeetAlike any (pointer_type p.types t) (pointer_type types t)) h.types alike) (λ t s. ap (λ types. shape_of p.model p.structs types t) h.types) (any_objects p q.types h.types p.objects) f g input ticks
-    (any_blocks input.blocks) d
+nothing_changes new p q f g input ticks h d = subst (λ q. AreAlike new (run p f input ticks) (run q g input ticks)) (with_marks p q h) (run_same new p q.unit q.declared q.functions q.file q.labels q.facts q.objects h.objects h.functions f g input ticks d)

@@ -1,34 +1,20 @@
 -- What a truth is used for, and marks that are made.
-use Rattle.std.proofs.Common.{◌≡◌, ℕ, ℤ, List, [], ◌∷◌, Option, Some, None, Bool, true, false, refl, sym, ap, ◌∙◌, subst}
+use Rattle.std.proofs.Common.{◌≡◌, ℕ, List, [], Option, Some, None, Bool, true, false, refl, ap, subst}
 use Rattle.std.proofs.lemmas.Bool.{false≢true}
-use Rattle.std.specs.Prelude.{◌++◌, pos, not, if◌then◌else◌}
-use Rattle.std.specs.Ordering.{int_eq}
-use Rattle.lt_model.specs.declared.cell.Address.{Address}
+use Rattle.std.specs.Prelude.{not, if◌then◌else◌}
 use Rattle.lt_model.specs.declared.cell.Content.{Content}
 use Rattle.lt_model.specs.declared.cell.Content.TheVariants as content
-use Rattle.lt_model.specs.declared.operator.Op.{Op}
-use Rattle.lt_model.specs.declared.operator.Op.TheVariants as O
-use Rattle.lt_model.specs.declared.scalar.Scalar.{Scalar}
-use Rattle.lt_model.specs.declared.cell.ShapeCell.{ShapeCell}
-use Rattle.lt_model.specs.Scalar.{convert_of}
-use Rattle.lt_model.specs.Operators.{truth}
 use Rattle.lt_model.specs.declared.run.End.{End}
-use Rattle.lt_model.specs.State.{Made, Binding, Footprint, Valued, untouched, Gives, Ends}
-use Rattle.lt_tree.specs.declared.expression.LogicalOp.{LogicalOp}
-use Rattle.lt_tree.specs.Tree.{Unit as SourceUnit}
-use Rattle.lt_tree.specs.Typing.Types.{CType, Void, Num, Pointer, Array, Struct, Function as FunctionType, Floating, Qualified, is_struct}
+use Rattle.lt_model.specs.State.{Binding, Footprint, Valued, untouched, Gives, Ends}
 use Rattle.lt_tree.specs.Typing.TypedTree as e
 use Rattle.lt_tree.specs.Typing.TypedTree.{Value, Values, Place, Marks, Mark, Bindings, Conversion, When, type_of}
-use Rattle.lt_tree.specs.Typing.Entities.{Function, Label, Fact, Declared, Frame}
 use Rattle.lt_tree.specs.Typing.Programs.{Program}
-use Rattle.lt_ir.specs.declared.variable.Variable.{Variable}
-use Rattle.lt_ir.specs.Running.{At, Answer, Step, ◌>>=◌, ◌>>◌, gives, place, marks, one_more, marked_with, quietly}
-use Rattle.lt_ir.specs.Evaluation.{valued, number_in, address_in, used, truth_in, of_truth, settled_in, grown, apart, aimed, one_cell, loaded, stored, copied, with_reads, moved, member_at, applied, counted, compared}
-use Rattle.lt_meaning.specs.Expressions.{is_pure, pure_only, Around, Calls, Fate, wanted, unconverted, dropped, dropped_branch, untaken, takes, inside, of_branch, of_last, fate_of_part, tracking, converted, converted_here, late, passed, called, with_argument, taken, assigned, updated, kept, cells_of, cell_type, shape, scalar_in, in_type, pointer_of, count_of, decides, second_truth, comma_from, eval, place_of, arguments_of, parts_of, bound_at, marked, marked_all}
-use Rattle.lt_mark_laws.specs.Laws.{without_new}
+use Rattle.lt_ir.specs.Running.{At, Answer, Step, ◌>>=◌, gives, marks, marked_with, quietly}
+use Rattle.lt_ir.specs.Evaluation.{valued, truth_in, of_truth, settled_in, grown}
+use Rattle.lt_meaning.specs.Expressions.{is_pure, pure_only, Around, Fate, wanted, unconverted, dropped, dropped_branch, untaken, of_branch, of_last, tracking, late, eval, parts_of, bound_at, marked, marked_all}
 use Rattle.lt_mark_laws.specs.Added as a
 use Rattle.lt_mark_laws.specs.Added.{AreNew, can_be_marked, Adds, AddsAll, AddsPlace, AddsTruth, AddsMarks, Keeps, KeepsBound}
-use Rattle.lt_mark_laws.proofs.Alike.{remarked, Comparison, AlikeAt, Alike, Same, same_at, alike_then, then_same, gives_same, over_same, defined_same, if_same, quietly_same, one_more_alike, a_new_alike}
+use Rattle.lt_mark_laws.proofs.Alike.{remarked, AlikeAt, Alike, Same, same_at, one_more_alike, a_new_alike}
 
 -- the parts of a comma expression, behind others
 abbrev pub parts_behind : Option (Footprint → Step (Valued Content)) → Footprint → Step (Valued Content)
@@ -74,24 +60,21 @@ late_alone program v c h = refl
 
 -- ---- truths
 
-module _ (seen : Comparison) where
-  abbrev new : ℕ → Bool
-  new = seen.new
-
+module _ (new : ℕ → Bool) where
   abbrev S : {A : Type 0} → Step A → Step A → Type 0
-  S s r = Same seen s r
+  S s r = Same new s r
 
-  truths_then : {B : Type 0} (p q : Footprint) (m n : Answer Bool) (k l : Bool → Footprint → Step B) → Alike seen {A = Valued Bool} (elim (m) [ Gives b at ↦ Gives (valued b p) at | Ends end at ↦ Ends end at ]) (elim (n) [ Gives b at ↦ Gives (valued b q) at | Ends end at ↦ Ends end at ]) → ((b : Bool) (f : Footprint) → S (k b f) (l b f)) → Alike seen (elim (m) [ Gives b at ↦ k b p at | Ends end at ↦ Ends end at ]) (elim (n) [ Gives b at ↦ l b q at | Ends end at ↦ Ends end at ])
-  truths_then p q (Gives b at1) (Gives c at2) k l h go = subst (λ x. Alike seen (k b p at1) (l x.value x.footprint at2)) h.0 (same_at seen (k b p) (l b p) at1 at2 (go b p) h.1)
+  truths_then : {B : Type 0} (p q : Footprint) (m n : Answer Bool) (k l : Bool → Footprint → Step B) → Alike new {A = Valued Bool} (elim (m) [ Gives b at ↦ Gives (valued b p) at | Ends end at ↦ Ends end at ]) (elim (n) [ Gives b at ↦ Gives (valued b q) at | Ends end at ↦ Ends end at ]) → ((b : Bool) (f : Footprint) → S (k b f) (l b f)) → Alike new (elim (m) [ Gives b at ↦ k b p at | Ends end at ↦ Ends end at ]) (elim (n) [ Gives b at ↦ l b q at | Ends end at ↦ Ends end at ])
+  truths_then p q (Gives b at1) (Gives c at2) k l h go = subst (λ x. Alike new (k b p at1) (l x.value x.footprint at2)) h.0 (same_at new (k b p) (l b p) at1 at2 (go b p) h.1)
   truths_then p q (Ends x at1) (Ends y at2) k l h go = h
   truths_then p q (Gives b at1) (Ends y at2) k l h go = absurd h
   truths_then p q (Ends x at1) (Gives c at2) k l h go = absurd h
 
-  truths_end : {B : Type 0} (p : Footprint) (m : Answer Bool) (x : End) (at1 : At) (k : Bool → Footprint → Step B) → Alike seen {A = Valued Bool} (elim (m) [ Gives b at ↦ Gives (valued b p) at | Ends end at ↦ Ends end at ]) (Ends x at1) → Alike seen {A = B} (elim (m) [ Gives b at ↦ k b p at | Ends end at ↦ Ends end at ]) (Ends x at1)
+  truths_end : {B : Type 0} (p : Footprint) (m : Answer Bool) (x : End) (at1 : At) (k : Bool → Footprint → Step B) → Alike new {A = Valued Bool} (elim (m) [ Gives b at ↦ Gives (valued b p) at | Ends end at ↦ Ends end at ]) (Ends x at1) → Alike new {A = B} (elim (m) [ Gives b at ↦ k b p at | Ends end at ↦ Ends end at ]) (Ends x at1)
   truths_end p (Gives b at) x at1 k h = absurd h
   truths_end p (Ends y at) x at1 k h = h
 
-  end_truths : {B : Type 0} (q : Footprint) (n : Answer Bool) (x : End) (at1 : At) (l : Bool → Footprint → Step B) → Alike seen {A = Valued Bool} (Ends x at1) (elim (n) [ Gives b at ↦ Gives (valued b q) at | Ends end at ↦ Ends end at ]) → Alike seen {A = B} (Ends x at1) (elim (n) [ Gives b at ↦ l b q at | Ends end at ↦ Ends end at ])
+  end_truths : {B : Type 0} (q : Footprint) (n : Answer Bool) (x : End) (at1 : At) (l : Bool → Footprint → Step B) → Alike new {A = Valued Bool} (Ends x at1) (elim (n) [ Gives b at ↦ Gives (valued b q) at | Ends end at ↦ Ends end at ]) → Alike new {A = B} (Ends x at1) (elim (n) [ Gives b at ↦ l b q at | Ends end at ↦ Ends end at ])
   end_truths q (Gives b at) x at1 l h = absurd h
   end_truths q (Ends y at) x at1 l h = h
 
@@ -99,30 +82,30 @@ module _ (seen : Comparison) where
   pub truth_then : {B : Type 0} (s r : Step (Valued Content)) (k l : Bool → Footprint → Step B) → S (truth_of s) (truth_of r) → ((b : Bool) (f : Footprint) → S (k b f) (l b f)) → S (s >>= (λ x. truth_in x.value >>= (λ b. k b x.footprint))) (r >>= (λ x. truth_in x.value >>= (λ b. l b x.footprint)))
   truth_then {B} s r k l h go = record { alike = λ at ms e. by (s at) (r (remarked ms at)) (h.alike at ms e) }
     where
-      by : (m n : Answer (Valued Content)) → Alike seen {A = Valued Bool} (elim (m) [ Gives x at1 ↦ (truth_in x.value >>= (λ b. gives (valued b x.footprint))) at1 | Ends end at1 ↦ Ends end at1 ]) (elim (n) [ Gives x at1 ↦ (truth_in x.value >>= (λ b. gives (valued b x.footprint))) at1 | Ends end at1 ↦ Ends end at1 ]) → Alike seen {A = B} (elim (m) [ Gives x at1 ↦ (truth_in x.value >>= (λ b. k b x.footprint)) at1 | Ends end at1 ↦ Ends end at1 ]) (elim (n) [ Gives x at1 ↦ (truth_in x.value >>= (λ b. l b x.footprint)) at1 | Ends end at1 ↦ Ends end at1 ])
+      by : (m n : Answer (Valued Content)) → Alike new {A = Valued Bool} (elim (m) [ Gives x at1 ↦ (truth_in x.value >>= (λ b. gives (valued b x.footprint))) at1 | Ends end at1 ↦ Ends end at1 ]) (elim (n) [ Gives x at1 ↦ (truth_in x.value >>= (λ b. gives (valued b x.footprint))) at1 | Ends end at1 ↦ Ends end at1 ]) → Alike new {A = B} (elim (m) [ Gives x at1 ↦ (truth_in x.value >>= (λ b. k b x.footprint)) at1 | Ends end at1 ↦ Ends end at1 ]) (elim (n) [ Gives x at1 ↦ (truth_in x.value >>= (λ b. l b x.footprint)) at1 | Ends end at1 ↦ Ends end at1 ])
       by (Gives x at1) (Gives y at2) h = truths_then x.footprint y.footprint (truth_in x.value at1) (truth_in y.value at2) k l h go
       by (Ends x at1) (Ends y at2) h = h
       by (Gives x at1) (Ends y at2) h = truths_end x.footprint (truth_in x.value at1) y at2 k h
       by (Ends x at1) (Gives y at2) h = end_truths y.footprint (truth_in y.value at2) x at1 l h
 
-  truths_alone : (p q : Footprint) (m n : Answer Bool) → Alike seen {A = Valued Bool} (elim (m) [ Gives b at ↦ Gives (valued b p) at | Ends end at ↦ Ends end at ]) (elim (n) [ Gives b at ↦ Gives (valued b q) at | Ends end at ↦ Ends end at ]) → Alike seen m n
+  truths_alone : (p q : Footprint) (m n : Answer Bool) → Alike new {A = Valued Bool} (elim (m) [ Gives b at ↦ Gives (valued b p) at | Ends end at ↦ Ends end at ]) (elim (n) [ Gives b at ↦ Gives (valued b q) at | Ends end at ↦ Ends end at ]) → Alike new m n
   truths_alone p q (Gives b at1) (Gives c at2) h = (ap (λ x. x.value) h.0, h.1)
   truths_alone p q (Ends x at1) (Ends y at2) h = h
   truths_alone p q (Gives b at1) (Ends y at2) h = absurd h
   truths_alone p q (Ends x at1) (Gives c at2) h = absurd h
 
-  truths_alone_end : (p : Footprint) (m : Answer Bool) (x : End) (at1 : At) → Alike seen {A = Valued Bool} (elim (m) [ Gives b at ↦ Gives (valued b p) at | Ends end at ↦ Ends end at ]) (Ends x at1) → Alike seen m (Ends x at1)
+  truths_alone_end : (p : Footprint) (m : Answer Bool) (x : End) (at1 : At) → Alike new {A = Valued Bool} (elim (m) [ Gives b at ↦ Gives (valued b p) at | Ends end at ↦ Ends end at ]) (Ends x at1) → Alike new m (Ends x at1)
   truths_alone_end p (Gives b at) x at1 h = absurd h
   truths_alone_end p (Ends y at) x at1 h = h
 
-  end_truths_alone : (q : Footprint) (n : Answer Bool) (x : End) (at1 : At) → Alike seen {A = Valued Bool} (Ends x at1) (elim (n) [ Gives b at ↦ Gives (valued b q) at | Ends end at ↦ Ends end at ]) → Alike seen (Ends x at1) n
+  end_truths_alone : (q : Footprint) (n : Answer Bool) (x : End) (at1 : At) → Alike new {A = Valued Bool} (Ends x at1) (elim (n) [ Gives b at ↦ Gives (valued b q) at | Ends end at ↦ Ends end at ]) → Alike new (Ends x at1) n
   end_truths_alone q (Gives b at) x at1 h = absurd h
   end_truths_alone q (Ends y at) x at1 h = h
 
   pub truth_alone : (s r : Step (Valued Content)) → S (truth_of s) (truth_of r) → S (s >>= (λ x. truth_in x.value)) (r >>= (λ x. truth_in x.value))
   truth_alone s r h = record { alike = λ at ms e. by (s at) (r (remarked ms at)) (h.alike at ms e) }
     where
-      by : (m n : Answer (Valued Content)) → Alike seen {A = Valued Bool} (elim (m) [ Gives x at1 ↦ (truth_in x.value >>= (λ b. gives (valued b x.footprint))) at1 | Ends end at1 ↦ Ends end at1 ]) (elim (n) [ Gives x at1 ↦ (truth_in x.value >>= (λ b. gives (valued b x.footprint))) at1 | Ends end at1 ↦ Ends end at1 ]) → Alike seen {A = Bool} (elim (m) [ Gives x at1 ↦ truth_in x.value at1 | Ends end at1 ↦ Ends end at1 ]) (elim (n) [ Gives x at1 ↦ truth_in x.value at1 | Ends end at1 ↦ Ends end at1 ])
+      by : (m n : Answer (Valued Content)) → Alike new {A = Valued Bool} (elim (m) [ Gives x at1 ↦ (truth_in x.value >>= (λ b. gives (valued b x.footprint))) at1 | Ends end at1 ↦ Ends end at1 ]) (elim (n) [ Gives x at1 ↦ (truth_in x.value >>= (λ b. gives (valued b x.footprint))) at1 | Ends end at1 ↦ Ends end at1 ]) → Alike new {A = Bool} (elim (m) [ Gives x at1 ↦ truth_in x.value at1 | Ends end at1 ↦ Ends end at1 ]) (elim (n) [ Gives x at1 ↦ truth_in x.value at1 | Ends end at1 ↦ Ends end at1 ])
       by (Gives x at1) (Gives y at2) h = truths_alone x.footprint y.footprint (truth_in x.value at1) (truth_in y.value at2) h
       by (Ends x at1) (Ends y at2) h = h
       by (Gives x at1) (Ends y at2) h = truths_alone_end x.footprint (truth_in x.value at1) y at2 h
@@ -130,18 +113,18 @@ module _ (seen : Comparison) where
 
   -- ---- marks that are made
 
-  pub new_mark_at : (at1 at2 : At) (id : ℕ) (b : Bool) (bound : List Binding) → new id ≡ true → AlikeAt seen at1 at2 → AlikeAt seen at1 (marks id b bound at2)
-  new_mark_at at1 at2 id b bound is_new h = (ap (marks id b bound) h.0, (a_new_alike new (record { id = id; truth = b; bound = bound }) at1.marks at2.marks is_new h.1.0, h.1.1))
+  new_mark_at : (at1 at2 : At) (id : ℕ) (b : Bool) (bound : List Binding) → new id ≡ true → AlikeAt new at1 at2 → AlikeAt new at1 (marks id b bound at2)
+  new_mark_at at1 at2 id b bound is_new h = (ap (marks id b bound) h.0, a_new_alike new (record { id = id; truth = b; bound = bound }) at1.marks at2.marks is_new h.1)
 
-  pub old_mark_at : (at1 at2 : At) (id : ℕ) (b : Bool) (bound : List Binding) → AlikeAt seen at1 at2 → AlikeAt seen (marks id b bound at1) (marks id b bound at2)
-  old_mark_at at1 at2 id b bound h = (ap (marks id b bound) h.0, (one_more_alike new (record { id = id; truth = b; bound = bound }) at1.marks at2.marks h.1.0, h.1.1))
+  pub old_mark_at : (at1 at2 : At) (id : ℕ) (b : Bool) (bound : List Binding) → AlikeAt new at1 at2 → AlikeAt new (marks id b bound at1) (marks id b bound at2)
+  old_mark_at at1 at2 id b bound h = (ap (marks id b bound) h.0, one_more_alike new (record { id = id; truth = b; bound = bound }) at1.marks at2.marks h.1)
 
-  new_mark_then : {A : Type 0} (m : Answer A) (y : A) (at2 : At) (id : ℕ) (b : Bool) → new id ≡ true → Alike seen m (Gives y at2) → Alike seen m (Gives y (marks id b [] at2))
+  new_mark_then : {A : Type 0} (m : Answer A) (y : A) (at2 : At) (id : ℕ) (b : Bool) → new id ≡ true → Alike new m (Gives y at2) → Alike new m (Gives y (marks id b [] at2))
   new_mark_then (Gives x at1) y at2 id b is_new h = (h.0, new_mark_at at1 at2 id b [] is_new h.1)
   new_mark_then (Ends x at1) y at2 id b is_new h = absurd h
 
   -- `pc_decide` round a truth
-  decided_by : (m : Answer (Valued Bool)) (f : Footprint) (t : Answer Bool) (p q : ℕ) → new p ≡ true → new q ≡ true → Alike seen m (elim (t) [ Gives b at ↦ Gives (valued b f) at | Ends end at ↦ Ends end at ]) → Alike seen m (elim (elim (t) as (λ _. Answer (Valued Content)) [ Gives b at ↦ Gives (valued (of_truth b) f) (marks q (not b) [] (marks p b [] at)) | Ends end at ↦ Ends end at ]) [ Gives y at ↦ (truth_in y.value >>= (λ b. gives (valued b y.footprint))) at | Ends end at ↦ Ends end at ])
+  decided_by : (m : Answer (Valued Bool)) (f : Footprint) (t : Answer Bool) (p q : ℕ) → new p ≡ true → new q ≡ true → Alike new m (elim (t) [ Gives b at ↦ Gives (valued b f) at | Ends end at ↦ Ends end at ]) → Alike new m (elim (elim (t) as (λ _. Answer (Valued Content)) [ Gives b at ↦ Gives (valued (of_truth b) f) (marks q (not b) [] (marks p b [] at)) | Ends end at ↦ Ends end at ]) [ Gives y at ↦ (truth_in y.value >>= (λ b. gives (valued b y.footprint))) at | Ends end at ↦ Ends end at ])
   decided_by m f (Gives true at) p q np nq h = new_mark_then m (valued true f) (marks p true [] at) q false nq (new_mark_then m (valued true f) at p true np h)
   decided_by m f (Gives false at) p q np nq h = new_mark_then m (valued false f) (marks p false [] at) q true nq (new_mark_then m (valued false f) at p false np h)
   decided_by m f (Ends x at) p q np nq h = h
@@ -149,23 +132,23 @@ module _ (seen : Comparison) where
   pub decided_same : (s : Step (Valued Bool)) (r : Step (Valued Content)) (p q : ℕ) → new p ≡ true → new q ≡ true → S s (truth_of r) → S s (truth_of (r >>= (λ x. truth_in x.value >>= (λ b at. Gives (valued (of_truth b) x.footprint) (marks q (not b) [] (marks p b [] at))))))
   decided_same s r p q np nq h = record { alike = λ at ms e. by (s at) (r (remarked ms at)) (h.alike at ms e) }
     where
-      by : (m : Answer (Valued Bool)) (n : Answer (Valued Content)) → Alike seen m (elim (n) [ Gives x at1 ↦ (truth_in x.value >>= (λ b. gives (valued b x.footprint))) at1 | Ends end at1 ↦ Ends end at1 ]) → Alike seen m (elim (elim (n) as (λ _. Answer (Valued Content)) [ Gives x at1 ↦ (truth_in x.value >>= (λ b at. Gives (valued (of_truth b) x.footprint) (marks q (not b) [] (marks p b [] at)))) at1 | Ends end at1 ↦ Ends end at1 ]) [ Gives y at2 ↦ (truth_in y.value >>= (λ b. gives (valued b y.footprint))) at2 | Ends end at2 ↦ Ends end at2 ])
+      by : (m : Answer (Valued Bool)) (n : Answer (Valued Content)) → Alike new m (elim (n) [ Gives x at1 ↦ (truth_in x.value >>= (λ b. gives (valued b x.footprint))) at1 | Ends end at1 ↦ Ends end at1 ]) → Alike new m (elim (elim (n) as (λ _. Answer (Valued Content)) [ Gives x at1 ↦ (truth_in x.value >>= (λ b at. Gives (valued (of_truth b) x.footprint) (marks q (not b) [] (marks p b [] at)))) at1 | Ends end at1 ↦ Ends end at1 ]) [ Gives y at2 ↦ (truth_in y.value >>= (λ b. gives (valued b y.footprint))) at2 | Ends end at2 ↦ Ends end at2 ])
       by m (Gives x at1) h = decided_by m x.footprint (truth_in x.value at1) p q np nq h
       by m (Ends x at1) h = h
 
   -- new labels
-  new_mark_by : (id : ℕ) (b : Option Bool) (bs : Option (List Binding)) (at1 at2 : At) → new id ≡ true → AlikeAt seen at1 at2 → AlikeAt seen at1 (marked_with id b bs at2)
+  new_mark_by : (id : ℕ) (b : Option Bool) (bs : Option (List Binding)) (at1 at2 : At) → new id ≡ true → AlikeAt new at1 at2 → AlikeAt new at1 (marked_with id b bs at2)
   new_mark_by id (Some b) (Some bs) at1 at2 is_new h = new_mark_at at1 at2 id b bs is_new h
   new_mark_by id None bs at1 at2 is_new h = new_mark_at at1 at2 id false [] is_new h
   new_mark_by id (Some b) None at1 at2 is_new h = new_mark_at at1 at2 id false [] is_new h
 
-  pub marked_new_at : (here : Around) (predicate : Value) (id : ℕ) (bound : Bindings) (at1 at2 : At) → new id ≡ true → AlikeAt seen at1 at2 → AlikeAt seen at1 (marked here (e.mark predicate id bound) at2)
+  pub marked_new_at : (here : Around) (predicate : Value) (id : ℕ) (bound : Bindings) (at1 at2 : At) → new id ≡ true → AlikeAt new at1 at2 → AlikeAt new at1 (marked here (e.mark predicate id bound) at2)
   marked_new_at here predicate id bound at1 at2 is_new h = new_mark_by id (pure_only (is_pure predicate) (quietly (eval (tracking false here) wanted predicate >>= (λ x. truth_in x.value)) at2)) (bound_at here bound at2) at1 at2 is_new h
 
-  pub all_new_at : (here : Around) (ms : Marks) (at1 at2 : At) → AreNew new ms → AlikeAt seen at1 at2 → AlikeAt seen at1 (marked_all here ms at2)
+  all_new_at : (here : Around) (ms : Marks) (at1 at2 : At) → AreNew new ms → AlikeAt new at1 at2 → AlikeAt new at1 (marked_all here ms at2)
   all_new_at here e.no_marks at1 at2 is_new h = h
   all_new_at here (e.a_mark (e.mark predicate id bound) ms) at1 at2 is_new h = all_new_at here ms at1 (marked here (e.mark predicate id bound) at2) is_new.1 (marked_new_at here predicate id bound at1 at2 is_new.0 h)
 
-  -- a step behind seen labels
+  -- a step behind new labels
   pub behind_new : {A : Type 0} (here : Around) (ms : Marks) (s r : Step A) → AreNew new ms → S s r → S s (λ at. r (marked_all here ms at))
-  behind_new here ms s r is_new h = record { alike = λ at ns e. same_at seen s r at (marked_all here ms (remarked ns at)) h (all_new_at here ms at (remarked ns at) is_new (refl, e)) }
+  behind_new here ms s r is_new h = record { alike = λ at ns e. same_at new s r at (marked_all here ms (remarked ns at)) h (all_new_at here ms at (remarked ns at) is_new (refl, e)) }

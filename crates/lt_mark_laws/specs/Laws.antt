@@ -1,5 +1,5 @@
 -- That marks change nothing.
-use Rattle.std.specs.Prelude.{◌≡◌, ℕ, ℤ, Bool, true, false, not, ◌&&◌, if◌then◌else◌, List, [], ◌∷◌, length, Option, Some, None}
+use Rattle.std.specs.Prelude.{◌≡◌, ℕ, ℤ, Bool, true, false, not, ◌&&◌, if◌then◌else◌, List, [], ◌∷◌, Option, Some, None}
 use Rattle.std.specs.Ordering.{int_eq}
 use Rattle.lt_model.specs.declared.operator.Op.TheVariants as O
 use Rattle.lt_model.specs.declared.scalar.DataModel.{DataModel}
@@ -17,7 +17,6 @@ use Rattle.lt_ir.specs.Evaluation.{number_in, truth_in}
 use Rattle.lt_meaning.specs.Expressions.{Around, wanted, tracking, is_pure, pure_only, eval, marked}
 use Rattle.lt_meaning.specs.Runs.{run, inside_of, invoke}
 use Rattle.lt_mark_laws.specs.Added.{AddsFunction, AddsProgram}
-use Rattle.lt_mark_laws.specs.TypeLists.{BeginAlike, AreBelow}
 
 -- the marks of a run without those whose ids are new
 abbrev pub without_new : (ℕ → Bool) → List Made → List Made
@@ -37,14 +36,6 @@ abbrev pub MarksChangeNothing : Type 0
 MarksChangeNothing =
     (new : ℕ → Bool) (p q : Program) (f g : Function) (input : Input) (ticks : ℕ)
     → AddsProgram new p q → AddsFunction new f g → AreAlike new (run p f input ticks) (run q g input ticks)
-
--- So does one whose list of types is another, where both lists begin with the types of which objects and members of structs are made, and the blocks of
--- the input have cells of such types.
-abbrev pub NumbersOfTypesChangeNothing : Type 0
-NumbersOfTypesChangeNothing =
-    (new : ℕ → Bool) (first : List CType) (p q : Program) (f g : Function) (input : Input) (ticks : ℕ)
-    → AddsProgram new (record p { types = q.types }) q → BeginAlike first p q → AddsFunction new f g → AreBelow (length first) input.blocks
-    → AreAlike new (run p f input ticks) (run q g input ticks)
 
 -- A program and a function are themselves with no marks added. So what has marks added in one place has them added as a whole.
 abbrev pub ProgramsAreThemselves : Type 0

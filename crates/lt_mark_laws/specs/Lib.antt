@@ -1,4 +1,3 @@
 pub use Rattle.lt_meaning.specs.Runs
 pub mod Added
-pub mod TypeLists
 pub mod Laws

@@ -1,16 +1,10 @@
 //! Laws of the definitions; the functions do nothing.
 
-ghost use Rattle.lt_mark_laws.specs.Laws.{DifferencesAreExact, MarksChangeNothing, LabelsNoteTheirPredicates, NumbersOfTypesChangeNothing, ProgramsAreThemselves, TruthsAreTheSame};
+ghost use Rattle.lt_mark_laws.specs.Laws.{DifferencesAreExact, MarksChangeNothing, LabelsNoteTheirPredicates, ProgramsAreThemselves, TruthsAreTheSame};
 
 /// A program with marks added has the same end, ticks, memory and other marks in each run.
 pub fn marks_change_nothing()
     ensures { MarksChangeNothing }
-{}
-
-/// A program with marks added runs alike also where its list of types is longer, or in another order behind the types of
-/// objects.
-pub fn numbers_of_types_change_nothing()
-    ensures { NumbersOfTypesChangeNothing }
 {}
 
 /// A label without bound names notes whether its predicate has a value that is true.

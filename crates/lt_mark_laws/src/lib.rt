@@ -5,5 +5,5 @@ mod laws;
 
 pub use laws::{
     differences_are_exact, labels_note_their_predicates, marks_change_nothing,
-    numbers_of_types_change_nothing, programs_are_themselves, truths_are_the_same,
+    programs_are_themselves, truths_are_the_same,
 };

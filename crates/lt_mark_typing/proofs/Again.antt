@@ -17,7 +17,7 @@ use Rattle.lt_tree.specs.Typing.Specifying.{elsewhere}
 use Rattle.lt_tree.specs.Typing.ExpressionTyping.{expression, expressions, marks}
 use Rattle.lt_mark_laws.specs.Added as a
 use Rattle.lt_mark_laws.specs.Added.{AreNew, AddsMarks, Keeps, KeepsBound}
-use Rattle.lt_mark_laws.proofs.Itself.{itself}
+use Rattle.lt_mark_laws.proofs.Itself as unmarked
 use Rattle.lt_object_laws.specs.Renamed.{marks_with, mark_with}
 use Rattle.lt_mark_typing.specs.Renumbered.{typed_with}
 use Rattle.lt_mark_typing.specs.Beside.{IsBeside, AddsMade, AddsEach, none_added, one_added, in_use, in_test, use_of, AddsAt, AddsWith, Position, Follows, goes}
@@ -43,13 +43,6 @@ use Rattle.lt_mark_typing.proofs.Fronts.{front, after_labels, around_by}
 module _ {new : ℕ → Bool} where
   -- ---- marks
 
-  bound_kept : (bound : Bindings) → KeepsBound new bound
-  bound_kept e.no_bindings = a.no_bindings
-  bound_kept (e.a_binding name v rest) = a.a_binding (itself new v) (bound_kept rest)
-
-  pub mark_kept : (m : Mark) → Keeps new m
-  mark_kept (e.mark predicate id bound) = a.a_kept_mark (itself new predicate) (bound_kept bound)
-
   new_added : (ms : Marks) → AreNew new ms → AddsMarks new e.no_marks ms
   new_added e.no_marks h = a.no_marks
   new_added (e.a_mark (e.mark predicate id bound) rest) h = a.added h.0 (new_added rest h.1)
@@ -65,7 +58,7 @@ module _ {new : ℕ → Bool} where
   joined_marks labels (c.a_mark first rest) {k} h b f =
       bind_at (of_mark first (old_first new (in_mark first) (in_marks rest) h) b) (λ m o next there behind q i s b.
       bind (joined_marks labels rest (old_second new (in_mark first) (in_marks rest) h) b (λ ts last t. f (e.a_mark m ts) last (ap (λ it. goes_on it (λ m k. goes_on (marks rest k) (λ ms k. Goes (e.a_mark m ms) k))) q ∙ ap (λ it. goes_on it (λ ms k. Goes (e.a_mark m ms) k)) t)))
-      (λ ts us k j later i d b. goes_here (λ r g. subst (λ it. AddsMarks new (e.a_mark (mark_with r m) (marks_with r ts)) (e.a_mark it us)) (sym (s r (agrees_before i g))) (a.kept (mark_kept (mark_with r m)) (d r g))) b))
+      (λ ts us k j later i d b. goes_here (λ r g. subst (λ it. AddsMarks new (e.a_mark (mark_with r m) (marks_with r ts)) (e.a_mark it us)) (sym (s r (agrees_before i g))) (a.kept (unmarked.mark new (mark_with r m)) (d r g))) b))
 
   -- ---- expressions
 
@@ -144,7 +137,7 @@ module _ {new : ℕ → Bool} where
     of_parts (p.AfterLabels {position = in_use as_place} h t u f are d) b = absurd (false≢true t)
     of_parts (p.AfterLabels {position = in_use as_callee} h t u f are d) b = absurd (false≢true t)
 
-    pub of_all : {used' last : List ℕ} {k : Known} {them others : c.Expressions} → AddsToAll new used' last k them others → {further : List Bool} {l : Known} → IsBeside new used' further k l
+    of_all : {used' last : List ℕ} {k : Known} {them others : c.Expressions} → AddsToAll new used' last k them others → {further : List Bool} {l : Known} → IsBeside new used' further k l
         → Follows new last further (λ r xs ys. AddsEach new (map (typed_with r) xs) ys) (expressions them k) (expressions others l)
     of_all p.no_expressions b = goes_here (λ r g. none_added) b
     of_all (p.an_expression d f) b = bind_at (of_to d b) (λ x y m n first q i o b. bind (of_all (f x m q) b) (λ xs ys m n last i s b. goes_here (λ r g. one_added (o r (agrees_before i g)) (s r g)) b))

@@ -46,7 +46,7 @@ abbrev pub declare_if_named : Specified → ℕ → CType → Option c.Initialis
 declare_if_named it node t i known None = no_object i
 declare_if_named it node t i known (Some name) = declare (kind_of known it.storage t) node name t i
 
-pub filling_of_itself : (known : Known) (t : CType) (list : c.Initialisers) (r : ℕ → ℕ) → Fills SameParts r (filling_of known 0 t list) (filling_of known 0 t list)
+filling_of_itself : (known : Known) (t : CType) (list : c.Initialisers) (r : ℕ → ℕ) → Fills SameParts r (filling_of known 0 t list) (filling_of known 0 t list)
 filling_of_itself known t list r = record { left = refl; parts = refl; surplus = refl }
 
 nothing_itself : (r : ℕ → ℕ) → Fills SameParts r nothing_to_fill nothing_to_fill

@@ -12,7 +12,7 @@ use Rattle.lt_tree.specs.Typing.Declaring.{an_object_of, kind_of, declaration_fa
 use Rattle.lt_tree.specs.Typing.InitialiserTyping.{object_initialiser}
 use Rattle.lt_tree.specs.Typing.DeclarationTyping.{DeclaredLocals, started_object, declare, init_declarators, has_no_declarator, declaration_by}
 use Rattle.lt_mark_laws.specs.Added.{AddsLocals}
-use Rattle.lt_mark_laws.proofs.Itself.{local}
+use Rattle.lt_mark_laws.proofs.Itself as unmarked
 use Rattle.lt_object_laws.specs.Renamed.{renumbered, locals_with}
 use Rattle.lt_mark_typing.specs.Further.{Agrees}
 use Rattle.lt_mark_typing.specs.Beside.{IsBeside, Follows}
@@ -38,10 +38,6 @@ pub record AddsDeclared (new : ℕ → Bool) (r : ℕ → ℕ) (a b : DeclaredLo
   pub faults : b.faults ≡ a.faults
 
 module _ (new : ℕ → Bool) where
-  locals_itself : (them : List Local) → AddsLocals new them them
-  locals_itself [] = tt
-  locals_itself (x ∷ xs) = (local new x, locals_itself xs)
-
   all_locals : (xs ys us vs : List Local) → AddsLocals new xs ys → AddsLocals new us vs → AddsLocals new (xs ++ us) (ys ++ vs)
   all_locals [] [] us vs h g = g
   all_locals (x ∷ xs) (y ∷ ys) us vs h g = (h.0, all_locals xs ys us vs h.1 g)
@@ -78,7 +74,7 @@ module _ {new : ℕ → Bool} where
   of_declarators p.no_declarators b = goes_here (λ r a. tt) b
   of_declarators (p.a_declarator {it = it} {d = d} h f) b =
       bind_at (of_init it d h b) (λ first first' m n behind q e s b. bind (of_declarators (f first m q) b) (λ rest rest' m n last e' t b.
-      goes_here (λ r a. locals_both new r first first' rest rest' (subst (λ l. AddsLocals new (locals_with r first) l) (sym (later e' s r a)) (locals_itself new (locals_with r first))) (t r a)) b))
+      goes_here (λ r a. locals_both new r first first' rest rest' (subst (λ l. AddsLocals new (locals_with r first) l) (sym (later e' s r a)) (unmarked.locals new (locals_with r first))) (t r a)) b))
   of_declarators (p.an_initialised {it = it} {d = d} {i = i} {j = other} h f g) b =
       bind_at (bind_declares_at (λ declared known. declare_if_named it declared.node declared.type (Some other) known declared.name known)
       (of_declarator d it false (declaration_faults it.storage true) (λ name further k j r a b built. declaration_known b r a it.storage true name built) h b)

@@ -12,7 +12,7 @@ use Rattle.lt_tree.specs.Typing.Operations.{fits}
 use Rattle.lt_tree.specs.Typing.Filling.{Filling, is_constant_content, value_faults, value_part}
 use Rattle.lt_object_laws.specs.Renamed.{constancy_with, part_with, parts_with, local_with, locals_with}
 use Rattle.lt_mark_typing.specs.Renumbered.{typed_with}
-use Rattle.lt_mark_typing.proofs.Renumbering.{own_type_with, value_in_with, counts_as_null_with, constancy_to_with, converted_to_with}
+use Rattle.lt_mark_typing.proofs.Renumbering.{value_in_with, fits_with, constancy_to_with, converted_to_with}
 
 -- The same is left to be filled, and what is filled is related.
 pub record Fills (related : (ℕ → ℕ) → List StartPart → List StartPart → Type 0) (r : ℕ → ℕ) (f g : Filling) : Type 0 where
@@ -43,12 +43,9 @@ module _ (r : ℕ → ℕ) where
   constant_with (address n offset) = refl
   constant_with c = refl
 
-  pub fits_with : (t : CType) (x : Typed) → fits t (typed_with r x) ≡ fits t x
-  fits_with t x = rw (own_type_with r x, counts_as_null_with r x) refl
-
   pub faults_with : (known : Known) (is_static : Bool) (t : CType) (x : Typed) → value_faults known is_static t (typed_with r x) ≡ value_faults known is_static t x
   faults_with known is_static t x =
-      ap (λ b. unless b bad_assignment ++ broken_if bad_initialiser (is_static && not (is_constant_content (constancy_to known.model (unqualified t) (constancy_with r x.constancy))))) (fits_with (unqualified t) x)
+      ap (λ b. unless b bad_assignment ++ broken_if bad_initialiser (is_static && not (is_constant_content (constancy_to known.model (unqualified t) (constancy_with r x.constancy))))) (fits_with r (unqualified t) x)
       ∙ ap (λ b. unless (fits (unqualified t) x) bad_assignment ++ broken_if bad_initialiser (is_static && not b))
       (ap is_constant_content (constancy_to_with r known.model (unqualified t) x.constancy) ∙ constant_with (constancy_to known.model (unqualified t) x.constancy))
 

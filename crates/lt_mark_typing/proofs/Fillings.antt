@@ -31,7 +31,7 @@ use Rattle.lt_mark_typing.proofs.Filled.{Fills, SameParts, parts_behind, faults_
 abbrev pub IsFilledBehind : ((ℕ → ℕ) → List StartPart → List StartPart → Type 0) → Type 0
 IsFilledBehind related = (r : ℕ → ℕ) (xs ys us : List StartPart) → related r xs ys → related r (xs ++ us) (ys ++ parts_with r us)
 
-pub filling_itself : (known : Known) (list : c.Initialisers) (runs : List Run) (r : ℕ → ℕ) → Fills SameParts r (filling_for known list runs) (filling_for known list runs)
+filling_itself : (known : Known) (list : c.Initialisers) (runs : List Run) (r : ℕ → ℕ) → Fills SameParts r (filling_for known list runs) (filling_for known list runs)
 filling_itself known list [] r = record { left = refl; parts = refl; surplus = refl }
 filling_itself known list (run ∷ runs) r = record { left = refl; parts = refl; surplus = refl }
 

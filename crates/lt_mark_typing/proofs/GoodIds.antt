@@ -1,20 +1,13 @@
 -- Ids as they are written: none passes the greatest that a label can have.
 use Rattle.std.proofs.Common.{◌≡◌, refl, subst, ℕ, List, Bool, true, false, Option, Some, None}
+use Rattle.std.proofs.lemmas.Bool.{and_parts}
 use Rattle.std.specs.Prelude.{ℤ, pos, negsuc, nat_le, ◌&&◌, if◌then◌else◌}
 use Rattle.lt_tree.specs.Constants.{value_of}
 use Rattle.lt_tree.specs.Typing.Entities.{greatest_label_id}
 use Rattle.lt_tree.specs.Typing.MarkRules.{id_from, id_of}
 
-pub second_of : (a b : Bool) → (a && b) ≡ true → b ≡ true
-second_of true b h = h
-second_of false b h = absurd cc
-
-pub both_hold : (a b : Bool) → a ≡ true → b ≡ true → (a && b) ≡ true
-both_hold true b h g = g
-both_hold false b h g = absurd cc
-
 number_small : (k n : ℕ) (b : Bool) → (nat_le 1 k && nat_le k greatest_label_id) ≡ b → (if b then Some k else None) ≡ Some n → nat_le n greatest_label_id ≡ true
-number_small k n true is e = subst (λ i. nat_le i greatest_label_id ≡ true) (number e) (second_of (nat_le 1 k) (nat_le k greatest_label_id) is)
+number_small k n true is e = subst (λ i. nat_le i greatest_label_id ≡ true) (number e) (and_parts (nat_le 1 k) (nat_le k greatest_label_id) is).1
   where
     number : Some k ≡ Some n → k ≡ n
     number e = cc

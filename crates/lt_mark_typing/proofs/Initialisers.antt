@@ -4,7 +4,6 @@ use Rattle.std.specs.Prelude.{◌++◌, ◌||◌, ◌&&◌, length, if◌then◌
 use Rattle.lt_tree.specs.Tree as c
 use Rattle.lt_tree.specs.Typing.Types.{CType, struct_of, is_array, is_scalar, unqualified}
 use Rattle.lt_tree.specs.Typing.Rules.{unless, broken_if, bad_assignment, bad_initialiser}
-use Rattle.lt_tree.specs.Typing.TypedTree as e
 use Rattle.lt_tree.specs.Typing.TypedTree.{StartPart}
 use Rattle.lt_tree.specs.Typing.Entities.{Known}
 use Rattle.lt_tree.specs.Typing.Steps.{Goes, goes_on, settle, gives}
@@ -14,7 +13,7 @@ use Rattle.lt_tree.specs.Typing.Declaring.{length_faults}
 use Rattle.lt_tree.specs.Typing.Filling.{Run, Filling, behind_first, opened, is_character_array, is_struct_of, value_faults, value_part, only_text, begins_with_braces, filling_of, list_faults, elements_begun}
 use Rattle.lt_tree.specs.Typing.InitialiserTyping.{filled_by, fill_value, value_initialiser, initialiser_without_braces, filling_for, faults_of_list, behind_list, initialiser, initialisers, Started, with_length, started, whole_value, whole_without_braces, listed_length, end_of_list, object_initialiser}
 use Rattle.lt_mark_laws.specs.Added.{AddsPart, AddsParts}
-use Rattle.lt_mark_laws.proofs.Itself.{itself}
+use Rattle.lt_mark_laws.proofs.Itself as unmarked
 use Rattle.lt_object_laws.specs.Renamed.{renumbered, part_with, parts_with}
 use Rattle.lt_mark_typing.specs.Renumbered.{typed_with}
 use Rattle.lt_mark_typing.specs.Further.{Agrees}
@@ -43,15 +42,6 @@ pub record AddsStarted (new : ℕ → Bool) (r : ℕ → ℕ) (a b : Started) : 
 -- ---- parts
 
 module _ (new : ℕ → Bool) where
-  part_itself : (part : StartPart) → AddsPart new part part
-  part_itself (e.stored offset v) = (refl, refl, itself new v)
-  part_itself (e.fixed offset t c) = refl
-  part_itself (e.letters offset s bytes) = refl
-
-  parts_itself : (parts : List StartPart) → AddsParts new parts parts
-  parts_itself [] = tt
-  parts_itself (part ∷ parts) = (part_itself part, parts_itself parts)
-
   all_parts : (xs ys us vs : List StartPart) → AddsParts new xs ys → AddsParts new us vs → AddsParts new (xs ++ us) (ys ++ vs)
   all_parts [] [] us vs h g = g
   all_parts (x ∷ xs) (y ∷ ys) us vs h g = (h.0, all_parts xs ys us vs h.1 g)
@@ -62,7 +52,7 @@ module _ (new : ℕ → Bool) where
   filled_both r xs ys us vs h g = subst (λ l. AddsParts new l (ys ++ vs)) (sym (parts_joined r xs us)) (all_parts (parts_with r xs) ys (parts_with r us) vs h g)
 
   filled_behind : IsFilledBehind (AddsFilled new)
-  filled_behind r xs ys us h = filled_both r xs ys us (parts_with r us) h (parts_itself (parts_with r us))
+  filled_behind r xs ys us h = filled_both r xs ys us (parts_with r us) h (unmarked.parts new (parts_with r us))
 
   nothing_filled : (r : ℕ → ℕ) (f : Filling) → f.parts ≡ [] → Fills (AddsFilled new) r f f
   nothing_filled r f h = record { left = refl; parts = subst (λ l. AddsFilled new r l l) (sym h) tt; surplus = refl }

@@ -22,7 +22,7 @@ use Rattle.lt_mark_typing.proofs.TwoOperands.{index_with, binary_with, condition
 use Rattle.lt_mark_typing.proofs.ObjectsThere.{type_same, static_same, size_same}
 
 module _ {new : ℕ → Bool} {used : List ℕ} {further : List Bool} {k j : Known} (b : IsBeside new used further k j) (r : ℕ → ℕ) (a : Agrees r further) where
-  pub object_named_known : (n : ℕ) (is_register : Bool) → object_named j (r n) is_register ≡ typed_with r (object_named k n is_register)
+  object_named_known : (n : ℕ) (is_register : Bool) → object_named j (r n) is_register ≡ typed_with r (object_named k n is_register)
   object_named_known n is_register = same_with r a (λ it. object_named it (r n) is_register) (typed_with r (object_named k n is_register)) b
       (λ m os fs ls facts h. rw (type_same k r a os h n) (rw (static_same k r a os h n) (rw (if_with r (lives_from_the_start k n) (address n 0) varying) refl)))
 

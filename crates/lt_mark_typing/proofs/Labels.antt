@@ -1,6 +1,6 @@
 -- Ids and names that marks of the text have: they break no rule where labels with new ids were added.
 use Rattle.std.proofs.Common.{◌≡◌, ℕ, List, [], ◌∷◌, Option, Some, None, Bool, true, false, refl, sym, ap, ◌∙◌}
-use Rattle.std.proofs.lemmas.Bool.{false≢true, eqb-true}
+use Rattle.std.proofs.lemmas.Bool.{false≢true, eqb-true, and_parts, and_from}
 use Rattle.std.specs.Prelude.{◌++◌, ◌==◌, ◌||◌, ◌&&◌, nat_le, not, unwrap_or, map}
 use Rattle.std.specs.List.{list_any, list_all}
 use Rattle.lt_tree.specs.Tree as c
@@ -17,7 +17,7 @@ use Rattle.lt_mark_typing.specs.Beside.{AddsLabels, no_labels, kept, added, IsBe
 use Rattle.lt_mark_typing.proofs.Numbers.{agrees_so_far}
 use Rattle.lt_mark_typing.proofs.Going.{same_of}
 use Rattle.lt_mark_typing.proofs.Operators.{unless_more}
-use Rattle.lt_mark_typing.proofs.GoodIds.{second_of, both_hold, id_small, third_more, fourth_more, fourth_and_fifth_more}
+use Rattle.lt_mark_typing.proofs.GoodIds.{id_small, third_more, fourth_more, fourth_and_fifth_more}
 use Rattle.lt_mark_typing.proofs.Renumbering.{own_type_with}
 use Rattle.lt_mark_typing.proofs.OneOperand.{typed_binding_with}
 
@@ -52,14 +52,14 @@ module _ {new : ℕ → Bool} {used : List ℕ} where
         → holds (λ n. nat_le n k.greatest_id && is_new_id k n) found ≡ true → holds (λ n. nat_le n j.greatest_id && is_new_id j n) found ≡ true
     good_id_by text None e h g = g
     good_id_by text (Some n) e h g =
-        both_hold (nat_le n j.greatest_id) (is_new_id j n) (ap (λ (it : Known). nat_le n it.greatest_id) (b.same _ (agrees_so_far further)) ∙ id_small text n e)
-        (old_id n (ap new (sym (number e)) ∙ h) ∙ second_of (nat_le n k.greatest_id) (is_new_id k n) g)
+        and_from (nat_le n j.greatest_id) (is_new_id j n) (ap (λ (it : Known). nat_le n it.greatest_id) (b.same _ (agrees_so_far further)) ∙ id_small text n e)
+        (old_id n (ap new (sym (number e)) ∙ h) ∙ (and_parts (nat_le n k.greatest_id) (is_new_id k n) g).1)
       where
         number : id_of text ≡ Some n → number_of_id text ≡ n
         number e = ap (λ it. unwrap_or it 0) e
 
     -- an id that is good in the first text is so in the second, where it may be greater
-    pub good_id : (text : List ℕ) → new (number_of_id text) ≡ false → is_good_id k text ≡ true → is_good_id j text ≡ true
+    good_id : (text : List ℕ) → new (number_of_id text) ≡ false → is_good_id k text ≡ true → is_good_id j text ≡ true
     good_id text h g = good_id_by text (id_of text) refl h g
 
     names_same : (names : List (List ℕ)) → are_new_names j names ≡ are_new_names k names

@@ -5,10 +5,10 @@ pub mod ObjectNumbers
 pub mod Nodes
 pub mod Operands
 pub mod Operators
-pub mod BinaryOperators
+mod BinaryOperators
 pub mod Renumbering
-pub mod OneOperand
-pub mod TwoOperands
+mod OneOperand
+mod TwoOperands
 pub mod Ends
 pub mod Names
 pub mod ObjectsThere
@@ -16,21 +16,21 @@ pub mod Labels
 pub mod Steps
 pub mod Tags
 pub mod Declarators
-pub mod Knowing
+mod Knowing
 pub mod Unchanged
 pub mod Quiet
 pub mod NewMarks
 pub mod Predicates
-pub mod Placing
-pub mod Fronts
-pub mod Again
+mod Placing
+mod Fronts
+mod Again
 pub mod Linked
-pub mod Filled
+mod Filled
 pub mod Fillings
 pub mod Declared
 pub mod Declarations
-pub mod Initialisers
-pub mod DeclaredAgain
+mod Initialisers
+mod DeclaredAgain
 pub mod StatementParts
-pub mod Statements
+mod Statements
 pub mod Units

@@ -13,11 +13,11 @@ use Rattle.lt_mark_typing.proofs.Numbers.{extends_with, agrees_so_far}
 -- ---- frames
 
 module _ (r : ℕ → ℕ) where
-  pub innermost_with : (frames : List Frame) → innermost (frames_with r frames) ≡ frame_with r (innermost frames)
+  innermost_with : (frames : List Frame) → innermost (frames_with r frames) ≡ frame_with r (innermost frames)
   innermost_with [] = refl
   innermost_with (frame ∷ frames) = refl
 
-  pub bound_among_with : (name : List ℕ) (bound : List Bound) → bound_among name (map (bound_with r) bound) ≡ option_map (entity_with r) (bound_among name bound)
+  bound_among_with : (name : List ℕ) (bound : List Bound) → bound_among name (map (bound_with r) bound) ≡ option_map (entity_with r) (bound_among name bound)
   bound_among_with name [] = refl
   bound_among_with name (b ∷ bs) = by (bytes_eq b.name name) (bound_among_with name bs)
     where
@@ -30,14 +30,14 @@ module _ (r : ℕ → ℕ) where
   either_with None b = refl
   either_with (Some a) b = refl
 
-  pub bound_in_with : (name : List ℕ) (frames : List Frame) → bound_in name (frames_with r frames) ≡ option_map (entity_with r) (bound_in name frames)
+  bound_in_with : (name : List ℕ) (frames : List Frame) → bound_in name (frames_with r frames) ≡ option_map (entity_with r) (bound_in name frames)
   bound_in_with name [] = refl
   bound_in_with name (frame ∷ frames) =
       ap (λ it. or_else it (bound_in name (frames_with r frames))) (bound_among_with name frame.names)
       ∙ ap (or_else (option_map (entity_with r) (bound_among name frame.names))) (bound_in_with name frames)
       ∙ either_with (bound_among name frame.names) (bound_in name frames)
 
-  pub tagged_in_with : (tag : List ℕ) (frames : List Frame) → tagged_in tag (frames_with r frames) ≡ tagged_in tag frames
+  tagged_in_with : (tag : List ℕ) (frames : List Frame) → tagged_in tag (frames_with r frames) ≡ tagged_in tag frames
   tagged_in_with tag [] = refl
   tagged_in_with tag (frame ∷ frames) = ap (or_else (tagged_among tag frame.tags)) (tagged_in_with tag frames)
 
@@ -45,7 +45,7 @@ module _ (r : ℕ → ℕ) where
   binding_with name entity [] = refl
   binding_with name entity (frame ∷ frames) = refl
 
-  pub depth_with : (frames : List Frame) → length (frames_with r frames) ≡ length frames
+  depth_with : (frames : List Frame) → length (frames_with r frames) ≡ length frames
   depth_with [] = refl
   depth_with (frame ∷ frames) = ap suc (depth_with frames)
 

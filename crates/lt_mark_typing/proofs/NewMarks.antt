@@ -1,6 +1,6 @@
 -- New marks are typed where they stand.
 use Rattle.std.proofs.Common.{◌≡◌, ℕ, ◌+◌, List, [], ◌∷◌, Option, Some, None, Bool, true, false, refl, sym, ap, ◌∙◌, subst}
-use Rattle.std.proofs.lemmas.Bool.{false≢true, eqb-true, eq-eqb}
+use Rattle.std.proofs.lemmas.Bool.{false≢true, eqb-true, eq-eqb, and_from}
 use Rattle.std.specs.Prelude.{◌++◌, ◌==◌, ◌||◌, ◌&&◌, nat_le, not, map, is_some, unwrap_or}
 use Rattle.std.specs.List.{AllByRecursion, list_any}
 use Rattle.lt_tree.specs.Tree as c
@@ -25,7 +25,7 @@ use Rattle.lt_mark_typing.specs.Beside.{AddsLabels, no_labels, kept, added, is_u
 use Rattle.lt_mark_typing.specs.Placed.{IsNewId, IsPredicateAt, AreNewLabels, is_good_type}
 use Rattle.lt_mark_typing.proofs.Numbers.{extends_itself, extends_with, extends_on, agrees_before, agrees_so_far}
 use Rattle.lt_mark_typing.proofs.Labels.{unmarked_same}
-use Rattle.lt_mark_typing.proofs.GoodIds.{both_hold, id_small}
+use Rattle.lt_mark_typing.proofs.GoodIds.{id_small}
 
 apart_by : (new : ℕ → Bool) (n id : ℕ) (b : Bool) → (n == id) ≡ b → new n ≡ false → new id ≡ true → b ≡ false
 apart_by new n id false q h g = refl
@@ -38,7 +38,7 @@ unused_by us n id true q h g = absurd (false≢true (sym g ∙ ap (λ i. is_used
 good_by : (known : Known) (text : List ℕ) (found : Option ℕ) → id_of text ≡ found → known.greatest_id ≡ greatest_label_id → is_some found ≡ true → is_new_id known (unwrap_or found 0) ≡ true
     → holds (λ n. nat_le n known.greatest_id && is_new_id known n) found ≡ true
 good_by known text None e all h g = h
-good_by known text (Some n) e all h g = both_hold (nat_le n known.greatest_id) (is_new_id known n) (ap (nat_le n) all ∙ id_small text n e) g
+good_by known text (Some n) e all h g = and_from (nat_le n known.greatest_id) (is_new_id known n) (ap (nat_le n) all ∙ id_small text n e) g
 
 -- ---- further objects
 
@@ -69,15 +69,6 @@ module _ {new : ℕ → Bool} where
   pub new_id : {used : List ℕ} {further : List Bool} {k l : Known} (id : List ℕ) → IsNewId new used id → IsBeside new used further k l → is_good_id l id ≡ true
   new_id {used} {further} {k} {l} id h b = good_by l id (id_of id) refl (ap (λ (it : Known). it.greatest_id) (b.same (renumbered further) (agrees_so_far further))) h.0 (ap not (none_among (number_of_id id) h.1 h.2 b.labels))
 
-  more_used : {used : List ℕ} {xs ys : List Label} (n : ℕ) → AddsLabels new used xs ys → AddsLabels new (n ∷ used) xs ys
-  more_used n no_labels = no_labels
-  more_used n (kept is_old d) = kept is_old (more_used n d)
-  more_used {used} n (added {label} is_new is_in free d) = added is_new (either (n == label.id) is_in) free (more_used n d)
-    where
-      either : (b : Bool) → is_used label.id used ≡ true → b || is_used label.id used ≡ true
-      either true h = refl
-      either false h = h
-
   one_more : {used : List ℕ} {xs ys : List Label} (label : Label) → new label.id ≡ true → label.bound ≡ [] → AddsLabels new used xs ys → AddsLabels new (label.id ∷ used) xs (ys ++ label ∷ [])
   one_more {used} label h free no_labels = added h (ap (λ b. b || is_used label.id used) (eq-eqb label.id label.id refl)) free no_labels
   one_more label h free (kept is_old d) = kept is_old (one_more label h free d)
@@ -106,7 +97,7 @@ module _ {new : ℕ → Bool} where
   }
 
   -- objects of the second text alone, which are further ones
-  pub more_alone : {used : List ℕ} {further : List Bool} {k l : Known} (more : List Object) → AllByRecursion IsFurther more → IsBeside new used further k l
+  more_alone : {used : List ℕ} {further : List Bool} {k l : Known} (more : List Object) → AllByRecursion IsFurther more → IsBeside new used further k l
       → IsBeside new used (further ++ marked_further more) k (record l { objects = l.objects ++ more })
   more_alone {used} {further} {k} {l} more h b =
       let before : (r : ℕ → ℕ) → Agrees r (further ++ marked_further more) → Agrees r further = λ r a. agrees_before (extends_with further (marked_further more)) a in

@@ -1,16 +1,15 @@
 -- One more object at the end, in both texts or in the second alone.
-use Rattle.std.proofs.Common.{◌≡◌, ℕ, suc, List, [], ◌∷◌, Bool, true, false, refl, sym, ap, ◌∙◌, subst}
+use Rattle.std.proofs.Common.{◌≡◌, ℕ, suc, List, [], ◌∷◌, Bool, false, refl, sym, ap, ◌∙◌, subst}
 use Rattle.std.specs.Prelude.{◌++◌, length}
 use Rattle.lt_tree.specs.Typing.Entities.{Known, Object}
 use Rattle.lt_object_laws.specs.Renamed.{renumbered, object_with}
-use Rattle.lt_object_laws.specs.Further.{IsFurther}
 use Rattle.lt_mark_typing.specs.Further.{Agrees, HasObjects, no_objects, an_object, a_further_object}
 use Rattle.lt_mark_typing.specs.Beside.{IsBeside}
 use Rattle.lt_mark_typing.proofs.Numbers.{extends_with, agrees_before}
 
 -- ---- lists of objects
 
-pub one_more : {r : ℕ → ℕ} {further : List Bool} {xs ys : List Object} (x : Object) (node : ℕ) → HasObjects r further xs ys
+one_more : {r : ℕ → ℕ} {further : List Bool} {xs ys : List Object} (x : Object) (node : ℕ) → HasObjects r further xs ys
     → HasObjects r (further ++ false ∷ []) (xs ++ x ∷ []) (ys ++ record (object_with r x) { node = node } ∷ [])
 one_more x node no_objects = an_object x node no_objects
 one_more x node (an_object object n h) = an_object object n (one_more x node h)
@@ -23,7 +22,7 @@ counted more no_objects = refl
 counted more (an_object object n h) = ap suc (counted more h)
 counted more (a_further_object object i h) = ap suc (counted more h)
 
-pub number_behind : {r : ℕ → ℕ} {further : List Bool} {xs ys : List Object} → Agrees r (further ++ false ∷ []) → HasObjects r further xs ys
+number_behind : {r : ℕ → ℕ} {further : List Bool} {xs ys : List Object} → Agrees r (further ++ false ∷ []) → HasObjects r further xs ys
     → r (length xs) ≡ length ys
 number_behind {r} {further} {xs} a h =
     ap (λ (f : ℕ → ℕ). f (length xs)) a.is ∙ ap (λ all. renumbered all (length xs)) a.extends.is ∙ counted a.extends.more h

@@ -28,22 +28,11 @@ found_by g d k more (a_further_object y f h) n = found_by g d k more h n
 pub number_in : {r : ℕ → ℕ} {further : List Bool} (a : Agrees r further) (n : ℕ) → r n ≡ renumbered (further ++ a.extends.more) n
 number_in a n = ap (λ (f : ℕ → ℕ). f n) a.is ∙ ap (λ all. renumbered all n) a.extends.is
 
-pub found_same : {r : ℕ → ℕ} {B : Type 0} (g : Object → B) (d : B) → ((x : Object) (node : ℕ) → g (record (object_with r x) { node = node }) ≡ g x) → {further : List Bool} {xs ys : List Object}
+found_same : {r : ℕ → ℕ} {B : Type 0} (g : Object → B) (d : B) → ((x : Object) (node : ℕ) → g (record (object_with r x) { node = node }) ≡ g x) → {further : List Bool} {xs ys : List Object}
     → Agrees r further → HasObjects r further xs ys → (n : ℕ)
     → elim (slice_get ys (r n)) as (λ _. B) [ None ↦ d | Some x ↦ g x ] ≡ elim (slice_get xs n) as (λ _. B) [ None ↦ d | Some x ↦ g x ]
 found_same {r} {B} g d k {further} {xs} {ys} a h n =
     ap (λ i. elim (slice_get ys i) as (λ _. B) [ None ↦ d | Some x ↦ g x ]) (number_in a n) ∙ found_by g d k a.extends.more h n
-
-object_by : {r : ℕ → ℕ} {further : List Bool} {xs ys : List Object} (more : List Bool) → HasObjects r further xs ys → (n : ℕ) (x : Object) → slice_get xs n ≡ Some x
-    → (node : ℕ) × (slice_get ys (renumbered (further ++ more) n) ≡ Some (record (object_with r x) { node = node }))
-object_by {r} more (an_object x node h) zero y e = (node, ap (option_map (λ (it : Object). record (object_with r it) { node = node })) e)
-object_by more (an_object x node h) (suc n) y e = object_by more h n y e
-object_by more (a_further_object z f h) n y e = object_by more h n y e
-object_by more no_objects n y e = absurd cc
-
-module _ {new : ℕ → Bool} {used : List ℕ} {further : List Bool} {k j : Known} (b : IsBeside new used further k j) (r : ℕ → ℕ) (a : Agrees r further) where
-  pub object_known : (n : ℕ) (x : Object) → slice_get k.objects n ≡ Some x → (node : ℕ) × (slice_get j.objects (r n) ≡ Some (record (object_with r x) { node = node }))
-  object_known n x e = let it = object_by a.extends.more (b.objects r a) n x e in (it.0, ap (slice_get j.objects) (number_in a n) ∙ it.1)
 
 type_there : (it : Option Object) → unwrap_or (then_some it (λ object. Some object.type)) Void ≡ elim (it) as (λ _. CType) [ None ↦ Void | Some x ↦ x.type ]
 type_there None = refl
@@ -89,9 +78,6 @@ linked_by s more name m n (a_further_object {further} {objects = xs} {others = y
 module _ {new : ℕ → Bool} {used : List ℕ} {further : List Bool} {k j : Known} (b : IsBeside new used further k j) (r : ℕ → ℕ) (a : Agrees r further) where
   pub type_known : (n : ℕ) → type_of_object j (r n) ≡ type_of_object k n
   type_known n = type_same k r a j.objects (b.objects r a) n
-
-  pub static_known : (n : ℕ) → lives_from_the_start j (r n) ≡ lives_from_the_start k n
-  static_known n = static_same k r a j.objects (b.objects r a) n
 
   pub linked_known : (name : List ℕ) → linked_object name j ≡ option_map r (linked_object name k)
   linked_known name = linked_by r a.extends.more name 0 0 (b.objects r a) (λ i. ap r (omega arith) ∙ number_in a i ∙ omega arith)

@@ -14,15 +14,15 @@ use Rattle.lt_tree.specs.Typing.Rules.{bad_address}
 use Rattle.lt_tree.specs.Typing.TypedTree as e
 use Rattle.lt_tree.specs.Typing.TypedTree.{Value, Values, Marks, When, type_of}
 use Rattle.lt_tree.specs.Typing.Entities.{Known}
-use Rattle.lt_tree.specs.Typing.Operands.{points_to, is_assignable}
+use Rattle.lt_tree.specs.Typing.Operands.{points_to}
 use Rattle.lt_tree.specs.Typing.Expressions.{Form, a_value, a_place, a_designator, Typed, Use, as_value, as_truth, as_place, as_callee, placed, nothing, own_type, value_in, place_in, as_it_is_read, Judged, judgement, converted_to, scalar_in}
-use Rattle.lt_tree.specs.Typing.Operations.{judge_plus, judge_minus, judge_complement, judge_not, judge_address_of, judge_dereference, judge_step, judge_part, judge_member, judge_arrow, judge_call, judge_function, judge_cast, constant_address, target_in, member_in, fits, counts_as_null, all_fit, passed, promoted_argument, promoted_value}
+use Rattle.lt_tree.specs.Typing.Operations.{judge_plus, judge_minus, judge_complement, judge_not, judge_address_of, judge_dereference, judge_step, judge_part, judge_member, judge_arrow, judge_call, judge_function, judge_cast, constant_address, target_in, member_in, fits, all_fit, passed, promoted_argument, promoted_value}
 use Rattle.lt_tree.specs.Typing.MarkRules.{TypedBinding, bindings_of, is_lvalue_in_use, judge_marked, judge_decide, judge_after}
 use Rattle.lt_tree.specs.Typing.NodeEnds.{judge_unary}
 use Rattle.lt_object_laws.specs.Renamed.{value_with, values_with, marks_with, bindings_with, constancy_with}
 use Rattle.lt_mark_typing.specs.Renumbered.{form_with, typed_with}
 use Rattle.lt_mark_typing.proofs.Operators.{call_of, behind}
-use Rattle.lt_mark_typing.proofs.Renumbering.{judged_with, zero_with, converted_with, applied_with, negated_with, constant_address_with, constancy_to_with, cast_to_with, converted_to_with, own_type_with, is_lvalue_with, value_in_with, place_in_with, counts_as_null_with, as_read_with, length_with}
+use Rattle.lt_mark_typing.proofs.Renumbering.{judged_with, zero_with, converted_with, applied_with, negated_with, constant_address_with, constancy_to_with, cast_to_with, converted_to_with, own_type_with, is_lvalue_with, value_in_with, place_in_with, fits_with, as_read_with, length_with}
 
 -- a name that a mark binds, with what is typed there
 abbrev pub typed_binding_with : (ℕ → ℕ) → TypedBinding → TypedBinding
@@ -39,32 +39,32 @@ module _ (r : ℕ → ℕ) where
 
   -- ---- operators on one operand
 
-  pub plus_with : (x : Typed) (known : Known) → judge_plus (typed_with r x) known ≡ judged_with r (judge_plus x known)
+  plus_with : (x : Typed) (known : Known) → judge_plus (typed_with r x) known ≡ judged_with r (judge_plus x known)
   unfolding judge_plus
   plus_with x known = rw (own_type_with r x) (rw (value_in_with r x) (rw (cast_to_with r (Num (promoted known.model (scalar_in x))) (value_in x))
       (rw (converted_with r known.model (promoted known.model (scalar_in x)) x.constancy) (rw (converted_with r known.model (promoted known.model (scalar_in x)) x.erased) refl))))
 
-  pub minus_with : (x : Typed) (known : Known) → judge_minus (typed_with r x) known ≡ judged_with r (judge_minus x known)
+  minus_with : (x : Typed) (known : Known) → judge_minus (typed_with r x) known ≡ judged_with r (judge_minus x known)
   unfolding judge_minus
   minus_with x known = let s = promoted known.model (scalar_in x) in
       rw (own_type_with r x) (rw (value_in_with r x) (rw (converted_to_with r (Num s) (value_in x)) (rw (converted_with r known.model s x.constancy) (rw (converted_with r known.model s x.erased)
       (rw (applied_with r known.model O.Sub s (number (pos 0)) (converted known.model s x.constancy)) (rw (applied_with r known.model O.Sub s (number (pos 0)) (converted known.model s x.erased)) refl))))))
 
-  pub complement_with : (x : Typed) (known : Known) → judge_complement (typed_with r x) known ≡ judged_with r (judge_complement x known)
+  complement_with : (x : Typed) (known : Known) → judge_complement (typed_with r x) known ≡ judged_with r (judge_complement x known)
   unfolding judge_complement
   complement_with x known = let s = promoted known.model (scalar_in x) in let ones = converted known.model s (number (pos 0 -ℤ pos 1)) in
       rw (own_type_with r x) (rw (value_in_with r x) (rw (converted_to_with r (Num s) (value_in x)) (rw (converted_with r known.model s x.constancy) (rw (converted_with r known.model s x.erased)
       (rw (applied_with r known.model O.Xor s ones (converted known.model s x.constancy)) (rw (applied_with r known.model O.Xor s ones (converted known.model s x.erased)) refl))))))
 
-  pub not_with : (x : Typed) → judge_not (typed_with r x) ≡ judged_with r (judge_not x)
+  not_with : (x : Typed) → judge_not (typed_with r x) ≡ judged_with r (judge_not x)
   unfolding judge_not
   not_with x = rw (own_type_with r x) (rw (value_in_with r x) (rw (negated_with r x.constancy) (rw (negated_with r x.erased) refl)))
 
-  pub address_of_with : (x : Typed) → judge_address_of (typed_with r x) ≡ judged_with r (judge_address_of x)
+  address_of_with : (x : Typed) → judge_address_of (typed_with r x) ≡ judged_with r (judge_address_of x)
   unfolding judge_address_of
   address_of_with x = rw (own_type_with r x) (rw (is_lvalue_with r x) (rw (place_in_with r x) refl))
 
-  pub dereference_with : (x : Typed) (known : Known) → judge_dereference (typed_with r x) known ≡ judged_with r (judge_dereference x known)
+  dereference_with : (x : Typed) (known : Known) → judge_dereference (typed_with r x) known ≡ judged_with r (judge_dereference x known)
   unfolding judge_dereference
   dereference_with x known = rw (own_type_with r x) (rw (value_in_with r x) (rw (constant_address_with r x.constancy)
       (if_judged (points_to (is_complete known.structs) (own_type x)) (judgement [] (placed (e.Pointed (target_in x) (value_in x)) (constant_address x.constancy))) (judgement (bad_address ∷ []) nothing))))
@@ -114,10 +114,7 @@ module _ (r : ℕ → ℕ) where
 
   -- ---- calls
 
-  pub fits_with : (t : CType) (x : Typed) → fits t (typed_with r x) ≡ fits t x
-  fits_with t x = ap (λ u. is_assignable t u (counts_as_null (typed_with r x))) (own_type_with r x) ∙ ap (is_assignable t (own_type x)) (counts_as_null_with r x)
-
-  pub promoted_value_with : (m : DataModel) (x : Typed) → promoted_value m (typed_with r x) ≡ value_with r (promoted_value m x)
+  promoted_value_with : (m : DataModel) (x : Typed) → promoted_value m (typed_with r x) ≡ value_with r (promoted_value m x)
   promoted_value_with m x = rw (own_type_with r x) (rw (value_in_with r x) (converted_to_with r (Num (promoted m (scalar_in x))) (value_in x)))
 
   -- an argument, and what a `switch` goes by
@@ -131,7 +128,7 @@ module _ (r : ℕ → ℕ) where
   all_fit_with : (xs : List Typed) (ts : CTypes) → all_fit (map (typed_with r) xs) ts ≡ all_fit xs ts
   all_fit_with [] ts = refl
   all_fit_with (x ∷ xs) no_types = ap (λ t. not (is_void t) && all_fit (map (typed_with r) xs) no_types) (own_type_with r x) ∙ ap (λ b. not (is_void (own_type x)) && b) (all_fit_with xs no_types)
-  all_fit_with (x ∷ xs) (a_type t ts) = ap (λ b. b && all_fit (map (typed_with r) xs) ts) (fits_with t x) ∙ ap (λ b. fits t x && b) (all_fit_with xs ts)
+  all_fit_with (x ∷ xs) (a_type t ts) = ap (λ b. b && all_fit (map (typed_with r) xs) ts) (fits_with r t x) ∙ ap (λ b. fits t x && b) (all_fit_with xs ts)
 
   passed_with : (m : DataModel) (xs : List Typed) (ts : CTypes) → passed m (map (typed_with r) xs) ts ≡ values_with r (passed m xs ts)
   passed_with m [] ts = refl

@@ -12,7 +12,7 @@ use Rattle.lt_tree.specs.Typing.Operations.{counts_as_null}
 use Rattle.lt_mark_laws.specs.Added as a
 use Rattle.lt_mark_laws.specs.Added.{Adds, AddsPlace, AddsTruth}
 use Rattle.lt_mark_typing.specs.Beside.{AddsForm, values, places, designators, IsAtMost, AddsMade, AddsTyped, AddsTest, in_use, AddsAt}
-use Rattle.lt_mark_laws.proofs.Itself.{itself}
+use Rattle.lt_mark_laws.proofs.Itself as unmarked
 
 -- where the first breaks no rule, nor does the second
 pub record AddsJudged (new : ℕ → Bool) (j i : Judged) : Type 0 where
@@ -39,15 +39,15 @@ module _ {new : ℕ → Bool} where
   value_type (a.in_front is_new free t d) = sym t
   value_type d = refl
 
-  pub place_type : {p q : Place} → AddsPlace new p q → type_at q ≡ type_at p
+  place_type : {p q : Place} → AddsPlace new p q → type_at q ≡ type_at p
   place_type a.Object = refl
   place_type d = refl
 
-  pub place_lvalue : {p q : Place} → AddsPlace new p q → is_lvalue_place q ≡ is_lvalue_place p
+  place_lvalue : {p q : Place} → AddsPlace new p q → is_lvalue_place q ≡ is_lvalue_place p
   place_lvalue (a.Part d) = place_lvalue d
   place_lvalue d = refl
 
-  pub value_there : (t : CType) {p q : Place} → AddsPlace new p q → Adds new (value_at t p) (value_at t q)
+  value_there : (t : CType) {p q : Place} → AddsPlace new p q → Adds new (value_at t p) (value_at t q)
   value_there (Array t n) d = a.Decay d
   value_there (Struct k) d = a.Whole d
   value_there (Qualified q t) {p} {q = r} d = by (is_struct t)
@@ -134,15 +134,9 @@ module _ {new : ℕ → Bool} where
   pub made_itself : (x : Typed) → AddsMade new x x
   made_itself x = record { form = form_itself x.form; register = λ h. h; constancy = inl refl }
     where
-      place_itself : (p : Place) → AddsPlace new p p
-      place_itself p = by (itself new (e.Load Void p))
-        where
-          by : Adds new (e.Load Void p) (e.Load Void p) → AddsPlace new p p
-          by (a.Load d) = d
-
       form_itself : (f : Form) → AddsForm new f f
-      form_itself (a_value v) = values (itself new v)
-      form_itself (a_place p) = places (place_itself p)
+      form_itself (a_value v) = values (unmarked.itself new v)
+      form_itself (a_place p) = places (unmarked.place new p)
       form_itself (a_designator name t) = designators
 
   pub typed_itself : (x : Typed) → AddsTyped new x x

@@ -38,7 +38,7 @@ strict_both f h g {c} {d} {k} {m} (inr q) r = inr (ap (λ it. f it m) q ∙ h m)
 strict_both f h g {c} {d} {k} {m} (inl q) (inl r) = inl (ap (λ it. f it m) q ∙ ap (f c) r)
 strict_both f h g {c} {d} {k} {m} (inl q) (inr r) = inr (ap (f k) r ∙ g k)
 
-pub number_varies : (m : DataModel) (s : Scalar) → constancy_as_number m s varying ≡ varying
+number_varies : (m : DataModel) (s : Scalar) → constancy_as_number m s varying ≡ varying
 number_varies m S.Bool = refl
 number_varies m _ = refl
 
@@ -126,7 +126,7 @@ module _ {new : ℕ → Bool} {x y : Typed} where
     typed = valued_adds (a.AddressOf (place_adds (made p))) p.constancy;
   }))
 
-  pub pointed_adds : AddsTyped new x y → AddsMade new (placed (e.Pointed (target_in x) (value_in x)) (constant_address x.constancy)) (placed (e.Pointed (target_in x) (value_in y)) (constant_address y.constancy))
+  pointed_adds : AddsTyped new x y → AddsMade new (placed (e.Pointed (target_in x) (value_in x)) (constant_address x.constancy)) (placed (e.Pointed (target_in x) (value_in y)) (constant_address y.constancy))
   pointed_adds p = record { form = places (a.Pointed (value_adds (made p))); register = λ h. h; constancy = strict constant_address refl p.constancy }
 
   dereference_adds : (known : Known) → AddsTyped new x y → AddsJudged new (judge_dereference x known) (judge_dereference y known)
@@ -139,7 +139,7 @@ module _ {new : ℕ → Bool} {x y : Typed} where
       by false = record { faults = λ h. h; typed = made_itself nothing }
 
   -- `!x`, of whose operand the truth is used
-  pub not_adds : AddsTest new x y → AddsJudged new (judge_not x) (judge_not y)
+  not_adds : AddsTest new x y → AddsJudged new (judge_not x) (judge_not y)
   unfolding judge_not
   not_adds p = record {
     faults = unless_more not_scalar (is_scalar (own_type x)) (is_scalar (own_type y)) (scalar_more p);
@@ -179,7 +179,7 @@ module _ {new : ℕ → Bool} {x y : Typed} where
   arrow_adds name known p = rw (type_same (made p)) (part_adds (option_and_then (λ t. member_in known t name) (target_of (own_type x))) (pointed_adds p))
 
 -- one of two operands
-pub pick : {new : ℕ → Bool} {x y v w : Typed} (b : Bool) → AddsTyped new x y → AddsTyped new v w → AddsTyped new (if b then x else v) (if b then y else w)
+pick : {new : ℕ → Bool} {x y v w : Typed} (b : Bool) → AddsTyped new x y → AddsTyped new v w → AddsTyped new (if b then x else v) (if b then y else w)
 pick true p q = p
 pick false p q = q
 
@@ -212,7 +212,7 @@ module _ {new : ℕ → Bool} {x y v w : Typed} where
 
 -- ---- values that are assigned
 
-pub zero_null : (c : Constancy) → is_zero c ≡ true → is_null_constant c ≡ true
+zero_null : (c : Constancy) → is_zero c ≡ true → is_null_constant c ≡ true
 zero_null null_constant h = refl
 zero_null varying h = h
 zero_null faulty h = h
@@ -278,7 +278,7 @@ module _ {new : ℕ → Bool} where
   all_fit_more (a_type t ts) (one_added {x} {y} {xs} {ys} p ps) h =
       and_more (fits t x) (all_fit xs ts) (fits t y) (all_fit ys ts) (fits_more t p) (all_fit_more ts ps) h
 
-  pub each_length : {xs ys : List Typed} → AddsEach new xs ys → length ys ≡ length xs
+  each_length : {xs ys : List Typed} → AddsEach new xs ys → length ys ≡ length xs
   each_length none_added = refl
   each_length (one_added p ps) = ap suc (each_length ps)
 

@@ -1,6 +1,6 @@
 -- Predicates that are made of expressions are typed where these are.
 use Rattle.std.proofs.Common.{◌≡◌, ℕ, ◌+◌, List, [], ◌∷◌, Some, option_map, Bool, true, false, refl, sym, ap, ◌∙◌, append_assoc}
-use Rattle.std.proofs.lemmas.Bool.{false≢true}
+use Rattle.std.proofs.lemmas.Bool.{false≢true, and_from}
 use Rattle.std.proofs.lemmas.List.{append-nil}
 use Rattle.std.specs.Prelude.{◌++◌, ◌||◌, ◌&&◌, if◌then◌else◌}
 use Rattle.std.specs.List.{AllByRecursion}
@@ -25,7 +25,7 @@ use Rattle.lt_tree.specs.Typing.Expressions.{Typed, Use, as_value, as_truth, val
 use Rattle.lt_tree.specs.Typing.Operations.{object_named, judge_name, judge_constant, judge_minus, judge_not}
 use Rattle.lt_tree.specs.Typing.BinaryOperations.{judge_binary, operand_faults, operation_type, on_integers, on_pointers, judge_logical, judge_conditional, chosen_pointer}
 use Rattle.lt_tree.specs.Typing.ExpressionTyping.{expression}
-use Rattle.lt_mark_laws.proofs.TypeLists.{all_both}
+use Rattle.lt_mark_laws.proofs.Lists.{all_both}
 use Rattle.lt_object_laws.specs.Further.{IsFurther}
 use Rattle.lt_object_laws.specs.Renamed.{renumbered}
 use Rattle.lt_mark_typing.specs.Renumbered.{entity_with, typed_with}
@@ -40,7 +40,7 @@ use Rattle.lt_mark_typing.proofs.Ends.{structs_same, finished_alone}
 use Rattle.lt_mark_typing.proofs.NewMarks.{marked_further, numbered_alone, behind_alone}
 
 -- where a pure expression is used as a truth it is typed as where its value is used
-pub truth_role : (it : c.Expression) → is_pure it ≡ true → (known : Known) → expression it as_truth known ≡ expression it as_value known
+truth_role : (it : c.Expression) → is_pure it ≡ true → (known : Known) → expression it as_truth known ≡ expression it as_value known
 unfolding judge_name finish
 truth_role (c.Marked ms value) h known = absurd (false≢true h)
 truth_role (c.Decide operand when_true when_false tag) h known = absurd (false≢true h)
@@ -65,10 +65,6 @@ truth_role (c.Logical op left right) h known = refl
 truth_role (c.Conditional test left right) h known = refl
 truth_role (c.Assign op target value) h known = refl
 truth_role (c.Comma list) h known = refl
-
-pub both_true : (a b : Bool) → a ≡ true → b ≡ true → a && b ≡ true
-both_true true b h g = g
-both_true false b h g = absurd (false≢true h)
 
 integer_scalar : (t : CType) → is_integer t ≡ true → is_scalar t ≡ true
 integer_scalar t h = ap (λ b. b || is_pointer t) h
@@ -189,7 +185,7 @@ chosen_by test it other l v tested found =
     s = usual_of l.model (scalar_in found.x) (scalar_in found.y)
 
     integers : are_integers (own_type found.x) (own_type found.y) ≡ true
-    integers = both_true (is_integer (own_type found.x)) (is_integer (own_type found.y)) found.first_passes found.second_passes
+    integers = and_from (is_integer (own_type found.x)) (is_integer (own_type found.y)) found.first_passes found.second_passes
 
     choice_end : Known → Outcome Typed
     choice_end k = finish l.next as_value (judge_conditional tested.0 found.x found.y k) k
@@ -218,12 +214,12 @@ module _ {new : ℕ → Bool} {used' : List ℕ} {known : Known} where
   pub connected : (op : LogicalOp) (it other : c.Expression) → IsThere is_scalar new used' known it → IsThere is_scalar new used' known other → IsThere is_integer new used' known (c.Logical op it other)
   unfolding judge_logical
   connected op it other p q = (
-    both_true (is_pure it) (is_pure other) p.0 q.0,
+    and_from (is_pure it) (is_pure other) p.0 q.0,
     λ further l b.
         let found = both is_scalar is_scalar it other as_truth (truth_role it p.0) (truth_role other q.0) p q (numbered_alone (l.next + 1) l.facts b) in
         at_end is_integer (c.Logical op it other) l l.next found.next found.facts found.more (judge_logical op found.x found.y) found.further_ones
         (found.goes (λ x y k. finish l.next as_value (judge_logical op x y) k))
-        (ap (λ t. unless t not_scalar) (both_true (is_scalar (own_type found.x)) (is_scalar (own_type found.y)) found.first_passes found.second_passes)) refl refl,
+        (ap (λ t. unless t not_scalar) (and_from (is_scalar (own_type found.x)) (is_scalar (own_type found.y)) found.first_passes found.second_passes)) refl refl,
   )
 
   pub minus : (it : c.Expression) → IsThere is_integer new used' known it → IsThere is_integer new used' known (c.Unary unary.Minus it)
@@ -240,20 +236,20 @@ module _ {new : ℕ → Bool} {used' : List ℕ} {known : Known} where
 
   pub operated : (op : Op) (it other : c.Expression) → IsThere is_integer new used' known it → IsThere is_integer new used' known other → IsThere is_integer new used' known (c.Binary op it other)
   operated op it other p q = (
-    both_true (is_pure it) (is_pure other) p.0 q.0,
+    and_from (is_pure it) (is_pure other) p.0 q.0,
     λ further l b.
         let found = both is_integer is_integer it other as_value (λ k. refl) (λ k. refl) p q (numbered_alone (l.next + 1) l.facts b) in
         let behind : Known = record l { next = found.next; objects = l.objects ++ found.more; facts = found.facts } in
         at_end is_integer (c.Binary op it other) l l.next found.next found.facts found.more (judgement [] (on_integers behind op found.x found.y)) found.further_ones
         (found.goes (λ x y k. finish l.next as_value (judge_binary op x y k) k)
-        ∙ ap (λ (j : Judged). finish l.next as_value j behind) (on_both op found.x found.y behind (both_true (is_integer (own_type found.x)) (is_integer (own_type found.y)) found.first_passes found.second_passes)))
+        ∙ ap (λ (j : Judged). finish l.next as_value j behind) (on_both op found.x found.y behind (and_from (is_integer (own_type found.x)) (is_integer (own_type found.y)) found.first_passes found.second_passes)))
         refl (good_by l.structs (is_relation op || is_equality op) (operation_type behind op found.x found.y)) (result_by (is_relation op || is_equality op) (operation_type behind op found.x found.y)),
   )
 
   pub chosen : (test it other : c.Expression) → IsThere is_scalar new used' known test → IsThere is_integer new used' known it → IsThere is_integer new used' known other
       → IsThere is_integer new used' known (c.Conditional test it other)
   chosen test it other o p q = (
-    both_true (is_pure test && is_pure it) (is_pure other) (both_true (is_pure test) (is_pure it) o.0 p.0) q.0,
+    and_from (is_pure test && is_pure it) (is_pure other) (and_from (is_pure test) (is_pure it) o.0 p.0) q.0,
     λ further l b.
         let first : Known = record l { next = l.next + 1 } in
         let tested = o.1 further first (numbered_alone (l.next + 1) l.facts b) in

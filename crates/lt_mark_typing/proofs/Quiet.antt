@@ -21,7 +21,7 @@ use Rattle.lt_tree.specs.Typing.Specifying.{Specified, is_register, Setting, els
 use Rattle.lt_tree.specs.Typing.Declarators.{Built, all_faults, setting_in_sizeof, is_written, type_name_faults, parameter_faults, binds_parameter}
 use Rattle.lt_tree.specs.Typing.NodeEnds.{judge_unary, text_object, operand_of, also, end_of_declarator, enter_if}
 use Rattle.lt_tree.specs.Typing.ExpressionTyping.{expression, expressions, maybe, specifiers, type_specifiers, type_specifier, declarator, parts, parameters, parameter_list}
-use Rattle.lt_mark_laws.proofs.TypeLists.{all_both}
+use Rattle.lt_mark_laws.proofs.Lists.{all_both}
 use Rattle.lt_object_laws.specs.Renamed.{renumbered}
 use Rattle.lt_object_laws.specs.Further.{IsFurther, a_string, never_made}
 use Rattle.lt_mark_typing.specs.Further.{Agrees}

@@ -1,5 +1,5 @@
 -- What is asked of typed expressions doesn't depend on the numbers of objects, and what is made of them has other numbers alone.
-use Rattle.std.proofs.Common.{◌≡◌, ℕ, suc, List, [], ◌∷◌, map, length, Bool, true, false, refl, sym, ap, ◌∙◌}
+use Rattle.std.proofs.Common.{◌≡◌, ℕ, suc, List, [], ◌∷◌, map, length, Bool, true, false, refl, ap, ◌∙◌}
 use Rattle.std.specs.Prelude.{ℤ, pos, negsuc, ◌+ℤ◌, ◌*ℤ◌, nat_le, ◌||◌, ◌&&◌, if◌then◌else◌, Result, Ok, Err}
 use Rattle.lt_model.specs.declared.scalar.DataModel.{DataModel}
 use Rattle.lt_model.specs.declared.scalar.Scalar.{Scalar}
@@ -13,21 +13,15 @@ use Rattle.lt_tree.specs.Typing.Constants.{Constancy, varying, faulty, number, n
 use Rattle.lt_tree.specs.Typing.TypedTree as e
 use Rattle.lt_tree.specs.Typing.TypedTree.{Value, Place, type_of, type_at}
 use Rattle.lt_tree.specs.Typing.Expressions.{Form, a_value, a_place, a_designator, Typed, Use, as_value, as_truth, as_place, as_callee, valued, own_type, value_in, place_in, is_lvalue, is_lvalue_place, value_at, read, as_it_is_read, used, cast_to, how_to, converted_to, constancy_as_number, constancy_as_pointer, null_of, constancy_to, faults_of_any, Judged, judgement}
-use Rattle.lt_tree.specs.Typing.Operations.{constant_address, counts_as_null}
+use Rattle.lt_tree.specs.Typing.Operations.{constant_address, counts_as_null, fits}
 use Rattle.lt_tree.specs.Typing.BinaryOperations.{towards, values_of, last_of}
 use Rattle.lt_object_laws.specs.Renamed.{value_with, values_with, place_with, constancy_with}
-use Rattle.lt_object_laws.proofs.Numbers.{same_only}
 use Rattle.lt_object_laws.proofs.Trees.{type_with}
 use Rattle.lt_mark_typing.specs.Renumbered.{form_with, typed_with}
-use Rattle.lt_mark_typing.specs.Further.{Agrees}
 
 -- what is judged, where objects have the numbers that r gives
 abbrev pub judged_with : (ℕ → ℕ) → Judged → Judged
 judged_with r j = judgement j.faults (typed_with r j.typed)
-
--- different objects have different numbers
-pub numbers_apart : {r : ℕ → ℕ} {further : List Bool} → Agrees r further → (m n : ℕ) → r m ≡ r n → m ≡ n
-numbers_apart {r} a m n h = same_only a.all m n (sym (ap (λ (f : ℕ → ℕ). f m) a.is) ∙ h ∙ ap (λ (f : ℕ → ℕ). f n) a.is)
 
 module _ (r : ℕ → ℕ) where
   -- ---- constants
@@ -181,15 +175,15 @@ module _ (r : ℕ → ℕ) where
 
   -- ---- values and places
 
-  pub place_type_with : (p : Place) → type_at (place_with r p) ≡ type_at p
+  place_type_with : (p : Place) → type_at (place_with r p) ≡ type_at p
   place_type_with (e.Object t n) = refl
   place_type_with p = refl
 
-  pub lvalue_place_with : (p : Place) → is_lvalue_place (place_with r p) ≡ is_lvalue_place p
+  lvalue_place_with : (p : Place) → is_lvalue_place (place_with r p) ≡ is_lvalue_place p
   lvalue_place_with (e.Part t offset p) = lvalue_place_with p
   lvalue_place_with p = refl
 
-  pub value_at_with : (t : CType) (p : Place) → value_at t (place_with r p) ≡ value_with r (value_at t p)
+  value_at_with : (t : CType) (p : Place) → value_at t (place_with r p) ≡ value_with r (value_at t p)
   value_at_with (Array t n) p = refl
   value_at_with (Struct k) p = refl
   value_at_with (Qualified q t) p = by (is_struct t)
@@ -253,6 +247,9 @@ module _ (r : ℕ → ℕ) where
   pub counts_as_null_with : (x : Typed) → counts_as_null (typed_with r x) ≡ counts_as_null x
   counts_as_null_with x = ap (λ b. b || (x.is_after && is_null_constant (constancy_with r x.erased))) (null_constant_with x.constancy)
       ∙ ap (λ b. is_null_constant x.constancy || (x.is_after && b)) (null_constant_with x.erased)
+
+  pub fits_with : (t : CType) (x : Typed) → fits t (typed_with r x) ≡ fits t x
+  fits_with t x = rw (own_type_with x, counts_as_null_with x) refl
 
   -- ---- what is read
 

@@ -28,7 +28,7 @@ use Rattle.lt_mark_typing.proofs.Numbers.{agrees_so_far}
 use Rattle.lt_mark_typing.proofs.Going.{bind, goes_here, entered_beside, same_of}
 use Rattle.lt_mark_typing.proofs.Operands.{made, value_adds, converted_adds}
 use Rattle.lt_mark_typing.proofs.Operators.{unless_more, scalar_more, fits_more, argument_adds}
-use Rattle.lt_mark_typing.proofs.Renumbering.{own_type_with, value_in_with, converted_to_with}
+use Rattle.lt_mark_typing.proofs.Renumbering.{own_type_with, value_in_with, converted_to_with, fits_with}
 use Rattle.lt_mark_typing.proofs.OneOperand.{argument_with}
 use Rattle.lt_mark_typing.proofs.Names.{frames_known}
 use Rattle.lt_mark_typing.proofs.Nodes.{old_first, old_second}
@@ -36,7 +36,6 @@ use Rattle.lt_mark_typing.proofs.Labels.{unmarked_same}
 use Rattle.lt_mark_typing.proofs.Steps.{Same, bind_same, judged_same, unmarked, unmarked_beside, frames_beside, scoped}
 use Rattle.lt_mark_typing.proofs.Unchanged.{of_expression}
 use Rattle.lt_mark_typing.proofs.Placing.{scalar_with}
-use Rattle.lt_mark_typing.proofs.Filled.{fits_with}
 use Rattle.lt_mark_typing.proofs.DeclaredAgain.{of_declaration_with}
 use Rattle.lt_mark_typing.proofs.Again.{of_to}
 

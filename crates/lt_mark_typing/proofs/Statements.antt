@@ -14,6 +14,7 @@ use Rattle.lt_tree.specs.Typing.MarkRules.{number_of_id}
 use Rattle.lt_tree.specs.Typing.StatementTyping.{Around, in_a_switch, test_faults, optional_test_faults, optional_value, switch_type, switch_value, Seen, return_faults, returned, locals_before, statement, items, cases}
 use Rattle.lt_mark_laws.specs.Added as a
 use Rattle.lt_mark_laws.specs.Added.{Adds, AddsStatement, AddsItems, AddsCases, Keeps}
+use Rattle.lt_mark_laws.proofs.Itself as unmarked
 use Rattle.lt_object_laws.specs.Renamed.{renumbered, value_with, mark_with, statement_with, items_with, cases_with}
 use Rattle.lt_mark_typing.specs.Renumbered.{typed_with}
 use Rattle.lt_mark_typing.specs.Further.{Agrees}
@@ -31,7 +32,7 @@ use Rattle.lt_mark_typing.proofs.Unchanged.{of_mark}
 use Rattle.lt_mark_typing.proofs.DeclaredAgain.{of_declaration_with}
 use Rattle.lt_mark_typing.proofs.NewMarks.{new_mark, numbered_alone}
 use Rattle.lt_mark_typing.proofs.Fronts.{then_alone}
-use Rattle.lt_mark_typing.proofs.Again.{of_to, mark_kept}
+use Rattle.lt_mark_typing.proofs.Again.{of_to}
 use Rattle.lt_mark_typing.proofs.StatementParts.{tests_more, truth_there, value_there, switch_there, optional_tests_more, tests_adds, values_adds, return_more, returned_adds, locals_in_front, block_beside, in_blocks, model_same, of_labels, of_test, of_optional, of_start}
 
 -- where objects have other numbers
@@ -50,7 +51,7 @@ module _ {new : ℕ → Bool} where
   operand_type {further} x y t = type_same (t (renumbered further) (agrees_so_far further)) ∙ own_type_with (renumbered further) x
 
   mutual
-    pub of_statement : {used after : List ℕ} {further : List Bool} {around : Around} {k : Known} {it other : c.Statement} → AddsToStatement new used after around k it other → {j : Known} → IsBeside new used further k j
+    of_statement : {used after : List ℕ} {further : List Bool} {around : Around} {k : Known} {it other : c.Statement} → AddsToStatement new used after around k it other → {j : Known} → IsBeside new used further k j
         → Follows new after further (AddsStatementWith new) (statement it around k) (statement other around j)
     of_statement (p.Compound d) b =
         let there = entered_beside b in
@@ -124,7 +125,7 @@ module _ {new : ℕ → Bool} where
         bind_at (of_statement d (entered_beside b)) (λ s s' m n behind q i u b. bind (of_items (f s m q) b) (λ is js m n last l v b. goes_here (λ r g. a.a_statement (later l u r g) (v r g)) b))
     of_items (p.a_label {m = m} h f) b =
         bind_at (of_mark m h (entered_beside b)) (λ typed typed' m n behind q i t b. bind (of_items (f typed m q) b) (λ is js m n last l u b.
-        goes_here (λ r g. subst (λ it. AddsItems new (e.a_label (mark_with r typed) (items_with r is)) (e.a_label it js)) (sym (later l t r g)) (a.a_label (mark_kept (mark_with r typed)) (u r g))) b))
+        goes_here (λ r g. subst (λ it. AddsItems new (e.a_label (mark_with r typed) (items_with r is)) (e.a_label it js)) (sym (later l t r g)) (a.a_label (unmarked.mark new (mark_with r typed)) (u r g))) b))
     of_items {further = further} (p.an_added_label {after = after} {around = around} {known = k} {m = c.mark predicate id tag c.no_bindings} {is = is} {js = js} u h d) {j} b =
         let found = new_mark predicate id tag u h.0 h.1 h.2 (numbered_alone (j.next + 1) j.facts b) in
         subst (λ it. Follows new after further (AddsItemsWith new) (items is around k) (goes_on it (λ typed k. goes_on (items js around k) (λ others k. Goes (e.a_label typed others) k)))) (sym found.4)

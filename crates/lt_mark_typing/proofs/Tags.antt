@@ -41,7 +41,7 @@ there_with r (Some entity) = refl
 module _ {new : ℕ → Bool} {used : List ℕ} {further : List Bool} where
   -- ---- what is known of tags and names of the place
 
-  pub structs_beside : {k j : Known} (S T : Structs) → T ≡ S → IsBeside new used further k j → IsBeside new used further (record k { structs = S }) (record j { structs = T })
+  structs_beside : {k j : Known} (S T : Structs) → T ≡ S → IsBeside new used further k j → IsBeside new used further (record k { structs = S }) (record j { structs = T })
   structs_beside {k} {j} S T e b = record {
     same = λ r a. ap (λ (it : Known). record it { structs = T }) (b.same r a) ∙ ap (λ structs. record (with_others r k j.next j.objects j.functions j.labels j.facts) { structs = structs }) e;
     objects = b.objects;

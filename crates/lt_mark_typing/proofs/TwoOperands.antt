@@ -20,8 +20,7 @@ use Rattle.lt_tree.specs.Typing.BinaryOperations.{judge_binary, operand_faults, 
 use Rattle.lt_object_laws.specs.Renamed.{value_with, constancy_with}
 use Rattle.lt_mark_typing.specs.Renumbered.{typed_with}
 use Rattle.lt_mark_typing.proofs.Going.{with_others}
-use Rattle.lt_mark_typing.proofs.OneOperand.{fits_with}
-use Rattle.lt_mark_typing.proofs.Renumbering.{judged_with, null_constant_with, operated_with, connected_with, chosen_with, moved_by_with, towards_with, constancy_to_with, converted_to_with, own_type_with, is_lvalue_with, value_in_with, place_in_with, values_of_with, last_of_with}
+use Rattle.lt_mark_typing.proofs.Renumbering.{judged_with, null_constant_with, operated_with, connected_with, chosen_with, moved_by_with, towards_with, constancy_to_with, converted_to_with, own_type_with, is_lvalue_with, value_in_with, place_in_with, values_of_with, last_of_with, fits_with}
 
 module _ (r : ℕ → ℕ) where
   if_typed : (b : Bool) (v w : Typed) → (if b then typed_with r v else typed_with r w) ≡ typed_with r (if b then v else w)
@@ -36,13 +35,13 @@ module _ (r : ℕ → ℕ) where
       by false = refl
 
 module _ (r : ℕ → ℕ) (x y : Typed) where
-  pub pointer_among_with : pointer_among (typed_with r x) (typed_with r y) ≡ typed_with r (pointer_among x y)
+  pointer_among_with : pointer_among (typed_with r x) (typed_with r y) ≡ typed_with r (pointer_among x y)
   pointer_among_with = rw (own_type_with r x) (if_typed r (is_pointer (own_type x)) x y)
 
-  pub other_among_with : other_among (typed_with r x) (typed_with r y) ≡ typed_with r (other_among x y)
+  other_among_with : other_among (typed_with r x) (typed_with r y) ≡ typed_with r (other_among x y)
   other_among_with = rw (own_type_with r x) (if_typed r (is_pointer (own_type x)) y x)
 
-  pub element_size_with : (known : Known) → element_size known (typed_with r x) (typed_with r y) ≡ element_size known x y
+  element_size_with : (known : Known) → element_size known (typed_with r x) (typed_with r y) ≡ element_size known x y
   element_size_with known = rw pointer_among_with (rw (own_type_with r (pointer_among x y)) refl)
 
   integers_by : (m : DataModel) (op : Op) (s t : Scalar)

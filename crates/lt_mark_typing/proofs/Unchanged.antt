@@ -229,7 +229,7 @@ module _ {new : ℕ → Bool} {used : List ℕ} where
         bind (of_expression operand (inside_after role) h.1 (entered_beside b)) (λ x y m n f e p b.
         bind (came_after role id tag x y k.next j.next h.0 p b) (λ v w m n g e q b. goes_here q (label_beside (label_of id tag []) h.0 b)))
 
-    pub of_expressions : (them : c.Expressions) {further : List Bool} {k j : Known} → AreOld new (in_expressions them) → IsBeside new used further k j
+    of_expressions : (them : c.Expressions) {further : List Bool} {k j : Known} → AreOld new (in_expressions them) → IsBeside new used further k j
         → Follows new used further (λ r xs ys. ys ≡ map (typed_with r) xs) (expressions them k) (expressions them j)
     of_expressions c.no_expressions h b = goes_here (λ r a. refl) b
     of_expressions (c.an_expression first rest) h b =

@@ -14,7 +14,7 @@ use Rattle.lt_object_laws.specs.Beside.{HasFurtherBlocks}
 use Rattle.lt_object_laws.specs.Further.{blocks_of, further_cells}
 use Rattle.lt_object_laws.specs.Laws.{AreNamed, HasRoomFor}
 use Rattle.lt_type_laws.specs.Renumbered.{memory_with, input_with}
-use Rattle.lt_type_laws.specs.TypeLists.{AreOf, numbers_in, is_shared}
+use Rattle.lt_type_laws.specs.TypeLists.{Renumbers}
 use Rattle.lt_mark_typing.specs.MarkedPrograms.{IsMadeBeside}
 
 -- whether an id is this one or comes behind it
@@ -32,17 +32,17 @@ pub record RunsBeside (new : ℕ → Bool) (further : List Bool) (r : ℕ → �
   pub cells : ℕ
   pub memory : HasFurtherBlocks (renumbered further) further not_made cells (memory_with r a.at.memory) b.at.memory
 
--- Each function of the second program runs as that of the first does, new marks and further objects aside, on inputs whose blocks have cells of types that both
--- programs list, where the run has room for the cells of the further objects.
-abbrev pub RunBeside : (new : ℕ → Bool) → (further : List Bool) → Program → Program → Type 0
-RunBeside new further p q =
+-- Each function of the second program runs as that of the first does, new marks and further objects aside, on every input, in whose cells types have the numbers of
+-- the second program's list (r), where the run has room for the cells of the further objects.
+abbrev pub FunctionsRunBeside : (new : ℕ → Bool) → (further : List Bool) → Program → Program → Type 0
+FunctionsRunBeside new further p q =
     (length q.functions ≡ length p.functions)
-    × ((n : ℕ) (f g : Function) (input : Input) (ticks : ℕ) → slice_get p.functions n ≡ Some f → slice_get q.functions n ≡ Some g
-    → AreNamed input → AreOf (is_shared p.types q.types) input.blocks → HasRoomFor (further_cells further q) p f input ticks
-    → RunsBeside new (blocks_of further q) (numbers_in p.types q.types) (run p f input ticks) (run q g (input_with (numbers_in p.types q.types) input) ticks))
+    × ((n : ℕ) (f g : Function) (input : Input) (ticks : ℕ) (r : ℕ → ℕ) → slice_get p.functions n ≡ Some f → slice_get q.functions n ≡ Some g
+    → Renumbers r p.types q.types → AreNamed input → HasRoomFor (further_cells further q) p f input ticks
+    → RunsBeside new (blocks_of further q) r (run p f input ticks) (run q g (input_with r input) ticks))
 
 -- The unit has a program, where ids are set aside but for a greatest, which is made of the other program with marks whose ids are new, and runs as that does. Its
 -- further objects, string literals and parameters of type names in the predicates of new marks, aren't compared.
 abbrev pub RunsAs : (new : ℕ → Bool) → DataModel → Program → c.Unit → Type 0
 RunsAs new model program unit =
-    (greatest : ℕ) × (other : Program) × (further : List Bool) × IsProgramTo greatest model unit other × IsMadeBeside new further program other × RunBeside new further program other
+    (greatest : ℕ) × (other : Program) × (further : List Bool) × IsProgramTo greatest model unit other × IsMadeBeside new further program other × FunctionsRunBeside new further program other

@@ -7,5 +7,7 @@ mod Steps
 mod Sizes
 mod Along
 mod Types
+mod Kept
+mod Before
 mod Room
 mod Runs

@@ -1,6 +1,6 @@
 -- A run has room for as many more cells where the program gets another list of types.
-use Rattle.std.proofs.Common.{◌≡◌, ◌≤◌, ℕ, zero, suc, ◌+◌, List, [], ◌∷◌, map, Bool, true, refl, sym, ap, ◌∙◌, subst}
-use Rattle.std.specs.List.{AllByRecursion}
+use Rattle.std.proofs.Common.{◌≡◌, ◌≤◌, ℕ, zero, suc, ◌+◌, List, [], ◌∷◌, map, length, true, refl, sym, ap, ◌∙◌, subst}
+use Rattle.std.proofs.lemmas.List.{length-map}
 use Rattle.lt_model.specs.declared.cell.CellType.TheVariants as cell
 use Rattle.lt_model.specs.declared.cell.ShapeCell.{ShapeCell}
 use Rattle.lt_model.specs.declared.scalar.Scalar.TheVariants as S
@@ -13,9 +13,7 @@ use Rattle.lt_meaning.specs.Runs.{run, initials}
 use Rattle.lt_mark_laws.proofs.Itself.{themselves}
 use Rattle.lt_object_laws.specs.Further.{cells_in}
 use Rattle.lt_object_laws.specs.Laws.{bytes_from, with_spare, HasRoomFor}
-use Rattle.lt_type_laws.specs.Renumbered.{shape_cell_with, input_with}
-use Rattle.lt_type_laws.specs.TypeLists.{is_of, AreOf, SharesTypes}
-use Rattle.lt_type_laws.specs.Laws.{SharedTypesChangeNothing}
+use Rattle.lt_type_laws.specs.Renumbered.{block_with, shape_cell_with, input_with, over_with}
 use Rattle.lt_marked_runs.proofs.Sizes.{shape_long, cells_same, as_large}
 
 -- ---- a spare block has no pointers
@@ -24,16 +22,12 @@ bytes_same : (r : ℕ → ℕ) (k offset : ℕ) → map (shape_cell_with r) (byt
 bytes_same r zero offset = refl
 bytes_same r (suc k) offset = ap (λ (cells : List ShapeCell). record { offset = offset; ty = cell.Num S.UChar } ∷ cells) (bytes_same r k (offset + 1))
 
-bytes_of : (shared : ℕ → Bool) (k offset : ℕ) → AllByRecursion (λ (cell : ShapeCell). is_of shared cell.ty ≡ true) (bytes_from k offset)
-bytes_of shared zero offset = tt
-bytes_of shared (suc k) offset = (refl, bytes_of shared k (offset + 1))
-
 spare_same : (r : ℕ → ℕ) (k : ℕ) (input : Input) → input_with r (with_spare k input) ≡ with_spare k (input_with r input)
 spare_same r k input = ap (λ cells. record (input_with r input) { blocks = record { name = []; shape = record { cells = cells; size = k } } ∷ (input_with r input).blocks }) (bytes_same r k 0)
 
 -- ---- room
 
-module _ (shared_nothing : SharedTypesChangeNothing) (shared : ℕ → Bool) (r : ℕ → ℕ) (p q : Program) (h : SharesTypes shared r p (record p { types = q.types })) (f : Function) (input : Input) (ticks : ℕ) (of : AreOf shared input.blocks) where
+module _ (r : ℕ → ℕ) (p q : Program) (f : Function) (ticks : ℕ) (same : (input : Input) → run (record p { types = q.types }) f (input_with r input) ticks ≡ over_with r (run p f input ticks)) (input : Input) where
   abbrev p' : Program
   p' = record p { types = q.types }
 
@@ -42,11 +36,15 @@ module _ (shared_nothing : SharedTypesChangeNothing) (shared : ℕ → Bool) (r 
       subst (λ n. n + k ≤ most_cells) (cells_same (initials p p.objects) (initials p' p.objects)
       (as_large p p' (shape_long p.model p.structs p.types q.types) p.objects p.objects ((themselves (λ n. true)).0 p).objects)) fits
 
-  same_end : (k : ℕ) → (run p' f (with_spare k (input_with r input)) ticks).end ≡ (run p f (with_spare k input) ticks).end
-  same_end k =
-      ap (λ it. (run p' f it ticks).end) (sym (spare_same r k input))
-      ∙ ap (λ (it : Over). it.end) (shared_nothing shared r p p' f (with_spare k input) ticks h (bytes_of shared k 0, of))
+  as_long : (it : Input) → length (run p' f (input_with r it) ticks).at.memory ≡ length (run p f it ticks).at.memory
+  as_long it = ap (λ (it : Over). length it.at.memory) (same it) ∙ length-map (run p f it ticks).at.memory (block_with r)
+
+  one_longer : (k : ℕ) → length (run p f (with_spare k input) ticks).at.memory ≡ suc (length (run p f input ticks).at.memory)
+      → length (run p' f (with_spare k (input_with r input)) ticks).at.memory ≡ suc (length (run p' f (input_with r input) ticks).at.memory)
+  one_longer k longer =
+      ap (λ it. length (run p' f it ticks).at.memory) (sym (spare_same r k input)) ∙ as_long (with_spare k input) ∙ longer
+      ∙ ap suc (sym (as_long input))
 
   pub room_kept : (k : ℕ) → HasRoomFor k p f input ticks → HasRoomFor k p' f (input_with r input) ticks
   room_kept zero room = tt
-  room_kept (suc k) room = record { first = fits_first (suc k) room.first; throughout = λ e. room.throughout (sym (same_end (suc k)) ∙ e) }
+  room_kept (suc k) room = record { first = fits_first (suc k) room.first; throughout = one_longer (suc k) room.throughout }

@@ -21,15 +21,19 @@ use Rattle.lt_object_laws.specs.Beside.{HasFurtherBlocks}
 use Rattle.lt_object_laws.specs.Further.{HasFurtherObjects, blocks_of, further_cells, further_cells_in}
 use Rattle.lt_object_laws.specs.Laws.{IsBeside, AreNamed, HasRoomFor, FurtherObjectsChangeNothing}
 use Rattle.lt_type_laws.specs.Renumbered.{memory_with, input_with, over_with}
-use Rattle.lt_type_laws.specs.TypeLists.{AreOf, numbers_in, is_shared, SharesTypes}
-use Rattle.lt_type_laws.specs.Laws.{SharedTypesChangeNothing, UnitsHaveTheirTypes, ProgramsShareTypes}
+use Rattle.lt_type_laws.specs.TypeLists.{Renumbers, HasItsTypes, HasTypesOfObjects}
+use Rattle.lt_type_laws.specs.Laws.{UnitsHaveTheirTypes, FunctionsAccess, AccessedTypesChangeNothing}
+use Rattle.lt_type_laws.proofs.Units.{objects_in_both, members_in_both}
 use Rattle.lt_typed_addresses.specs.Laws.{AddressesOfUnitsAreThere}
 use Rattle.lt_mark_typing.specs.MarkedPrograms.{IsMadeBeside}
-use Rattle.lt_mark_typing.specs.MarkedRuns.{RunsBeside, RunBeside}
+use Rattle.lt_mark_typing.specs.MarkedRuns.{RunsBeside, FunctionsRunBeside}
+use Rattle.lt_listed_types.specs.Laws.{TypesOfAccessesAreListed}
 use Rattle.lt_marked_runs.specs.Laws.{ProgramsRunBeside}
 use Rattle.lt_marked_runs.proofs.Sizes.{further_cells_same, statics_same, as_large}
 use Rattle.lt_marked_runs.proofs.Along.{HasTheSame, kept, runs_along}
-use Rattle.lt_marked_runs.proofs.Types.{types_there}
+use Rattle.lt_marked_runs.proofs.Types.{found_there}
+use Rattle.lt_marked_runs.proofs.Kept.{steps_kept}
+use Rattle.lt_marked_runs.proofs.Before.{functions_before}
 use Rattle.lt_marked_runs.proofs.Room.{room_kept}
 
 -- a run beside another, with marks added too
@@ -49,13 +53,10 @@ shapes_long : (p q : Program) → p.model ≡ q.model → p.structs ≡ q.struct
 shapes_long p q model structs types t =
     ap (λ m. length (shape_of m p.structs p.types t).cells) model ∙ ap (λ (s : Structs). length (shape_of q.model s p.types t).cells) structs ∙ ap (λ ts. length (shape_of q.model q.structs ts t).cells) types
 
-module _ (marks_nothing : MarksChangeNothing) (further_nothing : FurtherObjectsChangeNothing) (shared_nothing : SharedTypesChangeNothing) (units_types : UnitsHaveTheirTypes) (programs_share : ProgramsShareTypes)
+module _ (marks_nothing : MarksChangeNothing) (further_nothing : FurtherObjectsChangeNothing) (accessed_nothing : AccessedTypesChangeNothing) (units_types : UnitsHaveTheirTypes) (types_listed : TypesOfAccessesAreListed)
     (addresses_there : AddressesOfUnitsAreThere) where
   module _ (new : ℕ → Bool) (further : List Bool) (greatest last : ℕ) (model : DataModel) (unit marked : c.Unit) (p q : Program) (here : IsProgramTo greatest model unit p) (there : IsProgramTo last model marked q)
       (made : IsMadeBeside new further p q) where
-    abbrev numbers : ℕ → ℕ
-    numbers = numbers_in p.types q.types
-
     -- with the types of the second program
     abbrev typed : Program
     typed = record p { types = q.types }
@@ -67,9 +68,22 @@ module _ (marks_nothing : MarksChangeNothing) (further_nothing : FurtherObjectsC
     keeps : HasTheSame (record p { objects = made.objects; functions = map (function_with (renumbered further)) p.functions }) q
     keeps = kept made.steps
 
-    shares : SharesTypes (is_shared p.types q.types) numbers p typed
-    shares = programs_share p q (units_types greatest model unit p here) (units_types last model marked q there)
-        (record { structs = sym keeps.structs; objects = types_there made.further_ones q.objects keeps.objects })
+    types_here : HasItsTypes p
+    types_here = units_types greatest model unit p here
+
+    types_there : HasItsTypes q
+    types_there = units_types last model marked q there
+
+    of_objects : HasTypesOfObjects p q
+    of_objects = record { structs = sym keeps.structs; objects = found_there made.further_ones q.objects keeps.objects }
+
+    -- by the types of the second list, too
+    access_there : FunctionsAccess q.types p.functions
+    access_there = functions_before (renumbered further) q.types p.functions (steps_kept q.types made.steps (types_listed last model marked q there))
+
+    with_types : (r : ℕ → ℕ) → Renumbers r p.types q.types → (n : ℕ) (f : Function) (ticks : ℕ) → slice_get p.functions n ≡ Some f → (input : Input) → run typed f (input_with r input) ticks ≡ over_with r (run p f input ticks)
+    with_types r renumbers n f ticks at_f input =
+        accessed_nothing r p typed n f input ticks refl renumbers (objects_in_both p q types_here types_there of_objects) (members_in_both p q types_here types_there of_objects) (types_listed greatest model unit p here) access_there at_f
 
     has_further : HasFurtherObjects further typed furthered
     has_further = record {
@@ -89,21 +103,21 @@ module _ (marks_nothing : MarksChangeNothing) (further_nothing : FurtherObjectsC
         sym (further_cells_same (blocks_of further furthered) (initials furthered made.objects) (initials q q.objects) (as_large furthered q (shapes_long furthered q keeps.model keeps.structs refl) made.objects q.objects keeps.objects)
         ∙ ap (λ flags. further_cells_in flags (initials q q.objects)) blocks_same)
 
-    runs_so : (n : ℕ) (f g : Function) (input : Input) (ticks : ℕ) → slice_get p.functions n ≡ Some f → slice_get q.functions n ≡ Some g
-        → AreNamed input → AreOf (is_shared p.types q.types) input.blocks → HasRoomFor (further_cells further q) p f input ticks
-        → RunsBeside new (blocks_of further q) numbers (run p f input ticks) (run q g (input_with numbers input) ticks)
-    runs_so n f g input ticks at_f at_g named of room =
-        both_beside new (blocks_of further q) numbers (run p f input ticks) (run furthered (function_with (renumbered further) f) (input_with numbers input) ticks) (run q g (input_with numbers input) ticks)
-        (subst (λ flags. IsBeside flags (over_with numbers (run p f input ticks)) (run furthered (function_with (renumbered further) f) (input_with numbers input) ticks)) blocks_same
-        (subst (λ it. IsBeside (blocks_of further furthered) it (run furthered (function_with (renumbered further) f) (input_with numbers input) ticks))
-        (shared_nothing (is_shared p.types q.types) numbers p typed f input ticks shares of)
-        (further_nothing further typed furthered f (input_with numbers input) ticks has_further named
-        (subst (λ k. HasRoomFor k typed f (input_with numbers input) ticks) cells_as_many
-        (room_kept shared_nothing (is_shared p.types q.types) numbers p q shares f input ticks of (further_cells further q) room)))))
-        (runs_along marks_nothing q.types (input_with numbers input) ticks n made.steps (function_with (renumbered further) f) g
+    runs_so : (n : ℕ) (f g : Function) (input : Input) (ticks : ℕ) (r : ℕ → ℕ) → slice_get p.functions n ≡ Some f → slice_get q.functions n ≡ Some g
+        → Renumbers r p.types q.types → AreNamed input → HasRoomFor (further_cells further q) p f input ticks
+        → RunsBeside new (blocks_of further q) r (run p f input ticks) (run q g (input_with r input) ticks)
+    runs_so n f g input ticks r at_f at_g renumbers named room =
+        both_beside new (blocks_of further q) r (run p f input ticks) (run furthered (function_with (renumbered further) f) (input_with r input) ticks) (run q g (input_with r input) ticks)
+        (subst (λ flags. IsBeside flags (over_with r (run p f input ticks)) (run furthered (function_with (renumbered further) f) (input_with r input) ticks)) blocks_same
+        (subst (λ it. IsBeside (blocks_of further furthered) it (run furthered (function_with (renumbered further) f) (input_with r input) ticks))
+        (with_types r renumbers n f ticks at_f input)
+        (further_nothing further typed furthered f (input_with r input) ticks has_further named
+        (subst (λ k. HasRoomFor k typed f (input_with r input) ticks) cells_as_many
+        (room_kept r p q f ticks (with_types r renumbers n f ticks at_f) input (further_cells further q) room)))))
+        (runs_along marks_nothing q.types (input_with r input) ticks n made.steps (function_with (renumbered further) f) g
         (slice_get-map (function_with (renumbered further)) p.functions n ∙ ap (option_map (function_with (renumbered further))) at_f) at_g)
 
-    run_so : RunBeside new further p q
+    run_so : FunctionsRunBeside new further p q
     run_so = (sym keeps.functions ∙ length-map p.functions (function_with (renumbered further)), runs_so)
 
   pub run_beside : ProgramsRunBeside

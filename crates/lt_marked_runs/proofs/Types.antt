@@ -20,10 +20,10 @@ one_more : (z : Object) (xs zs : List Object) → HaveTypes xs zs → HaveTypes 
 one_more z [] zs h = tt
 one_more z (x ∷ xs) zs h = (or_right (same x.type z.type) (has_type x.type zs) h.0, one_more z xs zs h.1)
 
-pub types_there : {r : ℕ → ℕ} {further : List Bool} {xs ys : List Object} → HasFurther r further xs ys → (zs : List Object) → AreSameObjects ys zs → HaveTypes xs zs
-types_there no_objects zs h = tt
-types_there (an_object {objects = xs} x d) (z ∷ zs) h =
-    (or_left (same x.type z.type) (has_type x.type zs) (ap (λ (o : Object). same x.type o.type) (sym h.0) ∙ same_self x.type), one_more z xs zs (types_there d zs h.1))
-types_there (an_object x d) [] h = absurd h
-types_there (a_further_object {objects = xs} y further d) (z ∷ zs) h = one_more z xs zs (types_there d zs h.1)
-types_there (a_further_object y further d) [] h = absurd h
+pub found_there : {r : ℕ → ℕ} {further : List Bool} {xs ys : List Object} → HasFurther r further xs ys → (zs : List Object) → AreSameObjects ys zs → HaveTypes xs zs
+found_there no_objects zs h = tt
+found_there (an_object {objects = xs} x d) (z ∷ zs) h =
+    (or_left (same x.type z.type) (has_type x.type zs) (ap (λ (o : Object). same x.type o.type) (sym h.0) ∙ same_self x.type), one_more z xs zs (found_there d zs h.1))
+found_there (an_object x d) [] h = absurd h
+found_there (a_further_object {objects = xs} y further d) (z ∷ zs) h = one_more z xs zs (found_there d zs h.1)
+found_there (a_further_object y further d) [] h = absurd h

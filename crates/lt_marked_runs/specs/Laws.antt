@@ -5,7 +5,7 @@ use Rattle.lt_tree.specs.Tree as c
 use Rattle.lt_tree.specs.Typing.UnitTyping.{IsProgramTo}
 use Rattle.lt_tree.specs.Typing.Programs.{Program}
 use Rattle.lt_mark_typing.specs.MarkedPrograms.{AddsBeside, IsMadeBeside}
-use Rattle.lt_mark_typing.specs.MarkedRuns.{RunBeside}
+use Rattle.lt_mark_typing.specs.MarkedRuns.{FunctionsRunBeside}
 
 -- A program is made of itself, and what is made of it is made on where marks are added to it once more, with further objects, too.
 abbrev pub ProgramsAreMadeInSteps : Type 0
@@ -18,4 +18,4 @@ ProgramsAreMadeInSteps =
 abbrev pub ProgramsRunBeside : Type 0
 ProgramsRunBeside =
     (new : ℕ → Bool) (further : List Bool) (greatest last : ℕ) (model : DataModel) (unit marked : c.Unit) (p q : Program)
-    → IsProgramTo greatest model unit p → IsProgramTo last model marked q → IsMadeBeside new further p q → RunBeside new further p q
+    → IsProgramTo greatest model unit p → IsProgramTo last model marked q → IsMadeBeside new further p q → FunctionsRunBeside new further p q

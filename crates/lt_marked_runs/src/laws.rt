@@ -2,9 +2,10 @@
 
 ghost use Rattle.lt_marked_runs.specs.Laws.{ProgramsAreMadeInSteps, ProgramsRunBeside};
 
+use lt_listed_types::types_of_accesses_are_listed;
 use lt_mark_laws::marks_change_nothing;
 use lt_object_laws::further_objects_change_nothing;
-use lt_type_laws::{programs_share_types, shared_types_change_nothing, units_have_their_types};
+use lt_type_laws::{accessed_types_change_nothing, units_have_their_types};
 use lt_typed_addresses::addresses_of_units_are_there;
 
 /// A program is made of itself, and of what was made of it by adding marks and further objects once more.
@@ -18,8 +19,8 @@ pub fn programs_run_beside()
 {
     marks_change_nothing();
     further_objects_change_nothing();
-    shared_types_change_nothing();
+    accessed_types_change_nothing();
     units_have_their_types();
-    programs_share_types();
+    types_of_accesses_are_listed();
     addresses_of_units_are_there();
 }

@@ -1,3 +1,4 @@
 pub mod Greatest
 pub mod Walk
 pub mod Views
+pub mod Marks

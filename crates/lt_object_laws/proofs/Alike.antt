@@ -1,5 +1,5 @@
 -- Answers of a run and of two others with further blocks, and steps that give such answers in such states.
-use Rattle.std.proofs.Common.{◌≡◌, ℕ, List, [], ◌∷◌, ◌++◌, map, Option, Some, None, Bool, true, false, refl, sym, ap, ◌∙◌, subst}
+use Rattle.std.proofs.Common.{◌≡◌, ◌<◌, ℕ, List, [], ◌∷◌, ◌++◌, map, length, Option, Some, None, Bool, true, false, refl, sym, ap, ◌∙◌, subst}
 use Rattle.std.proofs.lemmas.List.{map-append}
 use Rattle.std.specs.Prelude.{◌&&◌, ◌||◌, nat_eq, if◌then◌else◌, Result, Ok, Err}
 use Rattle.std.specs.List.{list_any}
@@ -18,6 +18,7 @@ use Rattle.lt_object_laws.specs.Renamed.{renumbered}
 use Rattle.lt_object_laws.specs.Beside.{address_with, content_with, HasFurtherBlocks}
 use Rattle.lt_object_laws.proofs.Numbers.{tests_same, flag_at}
 use Rattle.lt_object_laws.proofs.Memory.{result_with}
+use Rattle.lt_object_laws.proofs.Blocks.{blocks_in, Grows, more_behind, then_grows, gives_grows, over_grows}
 
 -- a run with further blocks: which of its blocks are further ones, and which of its objects that are there from the start
 pub record Other : Type 0 where
@@ -96,18 +97,20 @@ pub record Stands (o : Other) (cells : ℕ) (at : At) (scope : List Bound) (memo
 -- ---- answers
 
 module _ (seen : Comparison) where
-  -- Both others give the same, renamed, or end in the same way; or there is no room for the cells of both, which are some.
+  -- Both others give the same, renamed, or end in the same way; or there is no room for the cells of both, which are some, at a block that the run
+  -- makes.
   pub data Alike {A : Type 0} (with : Other → A → A) : Answer A → Answer A → Answer A → Type 0 where
     all_give : {a : A} {at : At} {s1 s2 : List Bound} {m1 m2 : Memory} → Stands seen.one seen.cells at s1 m1 → Stands seen.two seen.cells at s2 m2
         → Alike with (Gives a at) (Gives (with seen.one a) (beside at s1 m1)) (Gives (with seen.two a) (beside at s2 m2))
     all_end : {end : End} {at : At} {s1 s2 : List Bound} {m1 m2 : Memory} → Stands seen.one seen.cells at s1 m1 → Stands seen.two seen.cells at s2 m2
         → Alike with (Ends end at) (Ends end (beside at s1 m1)) (Ends end (beside at s2 m2))
-    no_room : {m : Answer A} {at1 at2 : At} → (seen.cells ≡ 0 → ⊥) → Alike with m (Ends Cells at1) (Ends Cells at2)
+    no_room : {m : Answer A} {at1 at2 : At} (n : ℕ) → (seen.cells ≡ 0 → ⊥) → length at2.memory ≡ names_in seen.two n → n < blocks_in m → Alike with m (Ends Cells at1) (Ends Cells at2)
 
-  -- three steps that give such answers in such states
+  -- three steps that give such answers in such states; the first loses no block
   pub record Same {A : Type 0} (with : Other → A → A) (s r1 r2 : Step A) : Type 0 where
     pub alike : (at : At) (s1 s2 : List Bound) (m1 m2 : Memory) → Stands seen.one seen.cells at s1 m1 → Stands seen.two seen.cells at s2 m2
         → Alike with (s at) (r1 (beside at s1 m1)) (r2 (beside at s2 m2))
+    pub grows : Grows s
 
   -- all go on
   pub alike_then : {A B : Type 0} {with : Other → A → A} {on : Other → B → B} (m n1 n2 : Answer A) (f g1 g2 : A → Step B) → Alike with m n1 n2
@@ -115,14 +118,17 @@ module _ (seen : Comparison) where
       → Alike on (elim (m) [ Gives x at ↦ f x at | Ends end at ↦ Ends end at ]) (elim (n1) [ Gives x at ↦ g1 x at | Ends end at ↦ Ends end at ]) (elim (n2) [ Gives x at ↦ g2 x at | Ends end at ↦ Ends end at ])
   alike_then m n1 n2 f g1 g2 (all_give {a} {at} {s1} {s2} {m1} {m2} h1 h2) k = (k a).alike at s1 s2 m1 m2 h1 h2
   alike_then m n1 n2 f g1 g2 (all_end h1 h2) k = all_end h1 h2
-  alike_then m n1 n2 f g1 g2 (no_room some) k = no_room some
+  alike_then m n1 n2 f g1 g2 (no_room n some e lt) k = no_room n some e (more_behind m f n lt (λ a. (k a).grows))
 
   pub then_same : {A B : Type 0} {with : Other → A → A} {on : Other → B → B} (s r1 r2 : Step A) (f g1 g2 : A → Step B) → Same with s r1 r2
       → ((a : A) → Same on (f a) (g1 (with seen.one a)) (g2 (with seen.two a))) → Same on (s >>= f) (r1 >>= g1) (r2 >>= g2)
-  then_same s r1 r2 f g1 g2 h k = record { alike = λ at s1 s2 m1 m2 h1 h2. alike_then (s at) (r1 (beside at s1 m1)) (r2 (beside at s2 m2)) f g1 g2 (h.alike at s1 s2 m1 m2 h1 h2) k }
+  then_same s r1 r2 f g1 g2 h k = record {
+    alike = λ at s1 s2 m1 m2 h1 h2. alike_then (s at) (r1 (beside at s1 m1)) (r2 (beside at s2 m2)) f g1 g2 (h.alike at s1 s2 m1 m2 h1 h2) k;
+    grows = then_grows s f h.grows (λ a. (k a).grows);
+  }
 
   pub gives_same : {A : Type 0} (with : Other → A → A) (a : A) → Same with (gives a) (gives (with seen.one a)) (gives (with seen.two a))
-  gives_same with a = record { alike = λ at s1 s2 m1 m2 h1 h2. all_give h1 h2 }
+  gives_same with a = record { alike = λ at s1 s2 m1 m2 h1 h2. all_give h1 h2; grows = gives_grows a }
 
   -- the values that the others give are that one renamed
   pub gives_as : {A : Type 0} (with : Other → A → A) (a a1 a2 : A) → a1 ≡ with seen.one a → a2 ≡ with seen.two a → Same with (gives a) (gives a1) (gives a2)
@@ -130,7 +136,7 @@ module _ (seen : Comparison) where
       subst (λ x. Same with (gives a) (gives x) (gives a2)) (sym e1) (subst (λ x. Same with (gives a) (gives (with seen.one a)) (gives x)) (sym e2) (gives_same with a))
 
   pub over_same : {A : Type 0} (with : Other → A → A) (x : End) → Same with (over x) (over x) (over x)
-  over_same with x = record { alike = λ at s1 s2 m1 m2 h1 h2. all_end h1 h2 }
+  over_same {A} with x = record { alike = λ at s1 s2 m1 m2 h1 h2. all_end h1 h2; grows = over_grows A x }
 
   pub if_same : {A : Type 0} {with : Other → A → A} (b : Bool) (s r1 r2 t u1 u2 : Step A) → Same with s r1 r2 → Same with t u1 u2
       → Same with (if b then s else t) (if b then r1 else u1) (if b then r2 else u2)

@@ -1,11 +1,10 @@
 -- Calls do the same beside further objects.
 use Rattle.std.proofs.Common.{◌≡◌, ℕ, zero, suc, List, [], ◌∷◌, map, length, Option, Some, None, Bool, true, false, refl, sym, ap, ◌∙◌, subst}
+use Rattle.std.proofs.Math.Nat.{le_refl}
 use Rattle.std.specs.Prelude.{◌&&◌, not, if◌then◌else◌, codes}
-use Rattle.std.specs.List.{AllByRecursion}
 use Rattle.std.specs.Str.{bytes_eq}
 use Rattle.lt_model.specs.declared.cell.Content.{Content}
 use Rattle.lt_model.specs.declared.cell.Content.TheVariants as content
-use Rattle.lt_model.specs.declared.cell.Shape.{Shape}
 use Rattle.lt_model.specs.declared.run.End.TheVariants.{Stopped, Steps}
 use Rattle.lt_model.specs.Memory.{Memory}
 use Rattle.lt_tree.specs.Tree.{Unit as SourceUnit}
@@ -14,15 +13,16 @@ use Rattle.lt_tree.specs.Typing.Entities.{Function, Label, Fact, Declared, Frame
 use Rattle.lt_tree.specs.Typing.Programs.{Program}
 use Rattle.lt_ir.specs.declared.variable.Variable.{Variable}
 use Rattle.lt_ir.specs.declared.variable.Variable.TheVariants.{Parameter, Local, Static as StaticObject}
-use Rattle.lt_ir.specs.Running.{Bound, At, Answer, Step, ◌>>=◌, ◌>>◌, gives, over, tick, one_deeper, seals, stub_value, with_scope, statics_of, begin_parameters, end_parameters}
+use Rattle.lt_ir.specs.Running.{Bound, At, Step, ◌>>=◌, ◌>>◌, gives, one_deeper, seals, with_scope, statics_of, begin_parameters, end_parameters}
 use Rattle.lt_ir.specs.Evaluation.{store_parameters}
-use Rattle.lt_meaning.specs.Expressions.{Around, Calls}
-use Rattle.lt_meaning.specs.Statements.{Flow, Next, Breaks, Continues, Returns, exec_items, is_sealed_object}
-use Rattle.lt_meaning.specs.Runs.{variable_of, stops, without_body, shapes_of, seal_parameters, back, zero_in, zero_of_result, value_at_end, value_of_call, inside_of, body_of, with_body, function_among, call_of, invoke}
-use Rattle.lt_object_laws.specs.Renamed.{renumbered, function_with, items_with}
+use Rattle.lt_meaning.specs.Expressions.{Calls}
+use Rattle.lt_meaning.specs.Statements.{Flow, Next, Breaks, Continues, Returns, is_sealed_object}
+use Rattle.lt_meaning.specs.Runs.{variable_of, stops, without_body, shapes_of, seal_parameters, back, zero_in, zero_of_result, value_at_end, value_of_call, body_of, with_body, function_among, call_of, invoke}
+use Rattle.lt_object_laws.specs.Renamed.{renumbered, function_with}
 use Rattle.lt_object_laws.specs.Beside.{content_with}
 use Rattle.lt_object_laws.specs.Further.{HasFurther, further_statics}
 use Rattle.lt_object_laws.proofs.Memory.{option_with}
+use Rattle.lt_object_laws.proofs.Blocks.{Grows, then_grows, gives_grows, deeper_grows}
 use Rattle.lt_object_laws.proofs.Alike.{Other, Comparison, as_it_is, content_in, contents_in, variable_in, beside, Stands, all_give, Same, then_same, gives_same, gives_as, over_same, if_same}
 use Rattle.lt_object_laws.proofs.Machine.{tick_same, deeper_same, scope_same, statics_in, there_statics, begin_parameters_same, end_parameters_same, store_parameters_same, seals_same, stub_same}
 use Rattle.lt_object_laws.proofs.Objects as objects
@@ -127,7 +127,26 @@ module _ (P : Program) (u : SourceUnit) (ds : List Declared) (fs : List Function
   back_same : (before : At) (s1 s2 : List Bound) (m1 m2 : Memory) → Stands seen.one seen.cells before s1 m1 → Stands seen.two seen.cells before s2 m2 → S as_it_is (back before) (back (beside before s1 m1)) (back (beside before s2 m2))
   back_same before s1 s2 m1 m2 g1 g2 = record {
     alike = λ at t1 t2 n1 n2 h1 h2. all_give (record { bounds = g1.bounds; there = g1.there; blocks = h1.blocks }) (record { bounds = g2.bounds; there = g2.there; blocks = h2.blocks });
+    grows = λ at. le_refl (length at.memory);
   }
+
+  with_body_grows : (calls calls1 calls2 : Calls) → CallsSame calls calls1 calls2 → (f : Function) (cs : List Content) → Grows (with_body P calls f cs)
+  with_body_grows calls calls1 calls2 calls_same f cs before =
+      then_grows one_deeper (λ _. with_scope (statics_of before.scope) >> with_parameters) deeper_grows
+      (λ _. then_grows (with_scope (statics_of before.scope)) (λ _. with_parameters) (λ at. le_refl (length at.memory))
+      (λ _. then_grows (begin_parameters 0 (shapes_of P f.parameters)) (λ _. stored >> ending) (begin_parameters_same seen 0 (shapes_of P f.parameters)).grows
+      (λ _. then_grows stored (λ _. ending) (store_parameters_same seen P.model 0 (shapes_of P f.parameters) cs).grows
+      (λ _. then_grows (body_of P calls f) (λ flow. back before >> gives (value_of_call f flow)) (body_same calls calls1 calls2 calls_same f).grows
+      (λ flow. then_grows (back before) (λ _. gives (value_of_call f flow)) (λ at. le_refl (length at.memory)) (λ _. gives_grows (value_of_call f flow))))))) before
+    where
+      stored : Step (Unit {0})
+      stored = store_parameters P.model 0 (shapes_of P f.parameters) cs
+
+      ending : Step Content
+      ending = body_of P calls f >>= (λ flow. back before >> gives (value_of_call f flow))
+
+      with_parameters : Step Content
+      with_parameters = begin_parameters 0 (shapes_of P f.parameters) >> (stored >> ending)
 
   with_body_same : (calls calls1 calls2 : Calls) → CallsSame calls calls1 calls2 → (f : Function) (cs : List Content)
       → S content_in (with_body P calls f cs) (with_body Q calls1 (function_with r f) (contents_in seen.one cs)) (with_body P calls2 f (contents_in seen.two cs))
@@ -141,6 +160,7 @@ module _ (P : Program) (u : SourceUnit) (ds : List Declared) (fs : List Function
         (subst (λ shapes. S as_it_is (store_parameters P.model 0 (shapes_of P f.parameters) cs) (store_parameters P.model 0 shapes (contents_in seen.one cs)) (store_parameters P.model 0 (shapes_of P f.parameters) (contents_in seen.two cs))) (sym (shapes_same P u ds fs fr ls xs os further objects_with f.parameters)) (store_parameters_same seen P.model 0 (shapes_of P f.parameters) cs))
         (λ _. then_same seen _ _ _ _ (λ flow. back (beside at s1 m1) >> gives (value_of_call (function_with r f) flow)) (λ flow. back (beside at s2 m2) >> gives (value_of_call f flow)) (body_same calls calls1 calls2 calls_same f) (λ flow. then_same seen _ _ _ _ _ _ (back_same at s1 s2 m1 m2 h1 h2)
         (λ _. gives_as seen content_in (value_of_call f flow) _ _ (call_as seen.one r f flow) (call_as_it_is seen.two f flow)))))))).alike at s1 s2 m1 m2 h1 h2;
+    grows = with_body_grows calls calls1 calls2 calls_same f cs;
   }
 
   found_same : (calls calls1 calls2 : Calls) → CallsSame calls calls1 calls2 → (name : List ℕ) (t : CType) (cs : List Content) (b : Bool) (x : Option Function)

@@ -1,5 +1,6 @@
 -- Expressions do the same beside further objects.
-use Rattle.std.proofs.Common.{◌≡◌, ℕ, pos, negsuc, List, [], ◌∷◌, Option, Some, None, Bool, true, false, refl, sym, ap, ◌∙◌, subst}
+use Rattle.std.proofs.Common.{◌≡◌, ◌≤◌, ℕ, pos, negsuc, List, [], ◌∷◌, length, Option, Some, None, Bool, true, false, refl, sym, ap, ◌∙◌, subst}
+use Rattle.std.proofs.Math.Nat.{le_refl}
 use Rattle.std.proofs.lemmas.Bool.{false≢true}
 use Rattle.std.specs.Prelude.{not, if◌then◌else◌}
 use Rattle.lt_model.specs.declared.cell.Address.{Address}
@@ -21,6 +22,7 @@ use Rattle.lt_ir.specs.Running.{Bound, At, Answer, Step, ◌>>=◌, gives, place
 use Rattle.lt_ir.specs.Evaluation.{valued, number_in, truth_in, of_truth, settled_in, grown, aimed, one_cell, loaded, stored, with_reads, moved}
 use Rattle.lt_meaning.specs.Expressions.{is_pure, pure_only, Around, Calls, Fate, wanted, unconverted, dropped, dropped_branch, untaken, takes, inside, of_branch, of_last, converted, converted_here, late, passed, called, with_argument, taken, assigned, updated, kept, cells_of, cell_type, shape, scalar_in, in_type, pointer_of, count_of, decides, second_truth, eval, place_of, arguments_of, parts_of, bound_at, marked, marked_all}
 use Rattle.lt_object_laws.specs.Renamed.{value_with, values_with, place_with, marks_with, mark_with, bindings_with}
+use Rattle.lt_object_laws.proofs.Blocks.{blocks_in, Grows, marked_as_long}
 use Rattle.lt_object_laws.proofs.Alike.{Other, Comparison, as_it_is, pointer_in, content_in, contents_in, footprint_in, valued_in, variable_in, beside, Stands, Alike, all_give, all_end, no_room, Same, then_same, gives_same, gives_as, if_same, grown_in, settled_as, behind_settled, by_settled}
 use Rattle.lt_object_laws.proofs.Machine.{number_same, address_same, used_same, truth_same, apart_same, aimed_same, reads_same, loaded_same, stored_same, copied_same, moved_same, member_same, applied_same, counted_same, compared_same, place_same}
 use Rattle.lt_object_laws.proofs.Pure.{parts_behind, HasRoom, then_roomy, value_roomy, number_roomy, truth_roomy}
@@ -31,13 +33,13 @@ quiet_one : {seen : Comparison} {A : Type 0} (m n1 n2 : Answer A) → Alike seen
     → elim (m) as (λ _. Option A) [ Gives a at ↦ Some a | Ends end at ↦ None ] ≡ elim (n1) as (λ _. Option A) [ Gives a at ↦ Some a | Ends end at ↦ None ]
 quiet_one m n1 n2 (all_give h1 h2) g = refl
 quiet_one m n1 n2 (all_end h1 h2) g = refl
-quiet_one m n1 n2 (no_room some) g = absurd (false≢true (sym g))
+quiet_one m n1 n2 (no_room n some e lt) g = absurd (false≢true (sym g))
 
 quiet_two : {seen : Comparison} {A : Type 0} (m n1 n2 : Answer A) → Alike seen as_it_is m n1 n2 → HasRoom n2
     → elim (m) as (λ _. Option A) [ Gives a at ↦ Some a | Ends end at ↦ None ] ≡ elim (n2) as (λ _. Option A) [ Gives a at ↦ Some a | Ends end at ↦ None ]
 quiet_two m n1 n2 (all_give h1 h2) g = refl
 quiet_two m n1 n2 (all_end h1 h2) g = refl
-quiet_two m n1 n2 (no_room some) g = absurd (false≢true (sym g))
+quiet_two m n1 n2 (no_room n some e lt) g = absurd (false≢true (sym g))
 
 -- what is asked of a pure expression alone
 if_pure : {A : Type 0} (b c : Bool) (x y : Option A) → c ≡ b → (b ≡ true → x ≡ y) → pure_only b x ≡ pure_only c y
@@ -266,6 +268,9 @@ module _ (seen : Comparison) (P : Program) (u : SourceUnit) (ds : List Declared)
   pub stands_marked : (o : Other) (k : Bool) (m : Mark) (at : At) (scope : List Bound) (memory : Memory) → Stands o seen.cells at scope memory → Stands o seen.cells (marked (here k) m at) scope memory
   stands_marked o k (e.mark predicate id bound) at scope memory h = stands_by o seen.cells id _ (bound_at (here k) bound at) at scope memory h
 
+  marked_grows : {A : Type 0} (k : Bool) (m : Mark) (s : Step A) → Grows s → Grows (λ at. s (marked (here k) m at))
+  marked_grows k (e.mark predicate id bound) s h at = subst (λ n. n ≤ blocks_in (s (marked (here k) (e.mark predicate id bound) at))) (marked_as_long id _ (bound_at (here k) bound at) at) (h (marked (here k) (e.mark predicate id bound) at))
+
   -- a step behind a mark
   pub behind_mark : {A : Type 0} (with : Other → A → A) (k : Bool) (m : Mark) (s r1 r2 : Step A) → MarksSame k m → S with s r1 r2
       → S with (λ at. s (marked (here k) m at)) (λ at. r1 (marked (one k) (mark_with r m) at)) (λ at. r2 (marked (two k) m at))
@@ -274,6 +279,7 @@ module _ (seen : Comparison) (P : Program) (u : SourceUnit) (ds : List Declared)
         subst (λ x. Alike seen with (s (marked (here k) m at)) (r1 x) (r2 (marked (two k) m (beside at s2 m2)))) (sym (d.first at s1 s2 m1 m2 h1 h2))
         (subst (λ x. Alike seen with (s (marked (here k) m at)) (r1 (beside (marked (here k) m at) s1 m1)) (r2 x)) (sym (d.second at s1 s2 m1 m2 h1 h2))
         (h.alike (marked (here k) m at) s1 s2 m1 m2 (stands_marked seen.one k m at s1 m1 h1) (stands_marked seen.two k m at s2 m2 h2)));
+    grows = λ at. marked_grows k m s h.grows at;
   }
 
   -- the states behind marks
@@ -309,8 +315,8 @@ module _ (seen : Comparison) (P : Program) (u : SourceUnit) (ds : List Declared)
     value_same k (e.Call t f vs) fate = called_same k t f (takes fate) vs _ _ _ (arguments_same k vs)
     value_same k (e.Comma t vs) fate = parts_same k vs (of_last fate) untouched untouched untouched refl refl
     value_same k (e.Marked t ms v) fate = behind_all k ms _ _ _ (value_same k v (of_last fate))
-    value_same k (e.Decide t v p q) fate = then_same seen _ _ _ _ _ _ (value_same k v wanted) (λ x. then_same seen _ _ _ _ _ _ (truth_same seen x.value) (λ b. record { alike = λ at s1 s2 m1 m2 h1 h2. all_give (record { bounds = h1.bounds; there = h1.there; blocks = h1.blocks }) (record { bounds = h2.bounds; there = h2.there; blocks = h2.blocks }) }))
-    value_same k (e.After t v id) fate = then_same seen _ _ _ _ _ _ (value_same k v (of_last fate)) (λ x. record { alike = λ at s1 s2 m1 m2 h1 h2. all_give (record { bounds = h1.bounds; there = h1.there; blocks = h1.blocks }) (record { bounds = h2.bounds; there = h2.there; blocks = h2.blocks }) })
+    value_same k (e.Decide t v p q) fate = then_same seen _ _ _ _ _ _ (value_same k v wanted) (λ x. then_same seen _ _ _ _ _ _ (truth_same seen x.value) (λ b. record { alike = λ at s1 s2 m1 m2 h1 h2. all_give (record { bounds = h1.bounds; there = h1.there; blocks = h1.blocks }) (record { bounds = h2.bounds; there = h2.there; blocks = h2.blocks }); grows = λ at. le_refl (length at.memory) }))
+    value_same k (e.After t v id) fate = then_same seen _ _ _ _ _ _ (value_same k v (of_last fate)) (λ x. record { alike = λ at s1 s2 m1 m2 h1 h2. all_give (record { bounds = h1.bounds; there = h1.there; blocks = h1.blocks }) (record { bounds = h2.bounds; there = h2.there; blocks = h2.blocks }); grows = λ at. le_refl (length at.memory) })
 
     pub lvalue_same : (k : Bool) (p : Place) → S (valued_in pointer_in) (place_of (here k) p) (place_of (one k) (place_with r p)) (place_of (two k) p)
     lvalue_same k (e.Object t n) = then_same seen _ _ _ _ _ _ (place_at n) (λ a. gives_same seen (valued_in pointer_in) (valued a untouched))

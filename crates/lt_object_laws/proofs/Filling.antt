@@ -1,10 +1,9 @@
 -- A block that has just been made is filled: the cells of a string have characters, and each is met.
-use Rattle.std.proofs.Common.{◌≡◌, ℕ, ℤ, pos, zero, suc, List, [], ◌∷◌, ◌++◌, map, length, Option, Some, None, Bool, true, false, refl, sym, ap, ◌∙◌, subst, arith, eq-eqb}
+use Rattle.std.proofs.Common.{◌≡◌, ℕ, ℤ, pos, zero, suc, List, [], ◌∷◌, ◌++◌, map, length, Some, Bool, true, false, refl, sym, ap, ◌∙◌, subst, arith, eq-eqb}
 use Rattle.std.proofs.lemmas.Int.{ints}
 use Rattle.std.proofs.lemmas.Bool.{false≢true}
-use Rattle.std.specs.Prelude.{◌==◌, ◌+◌, ◌&&◌, ◌≤ℤ◌, if◌then◌else◌, Result, Ok, Err, slice_get, slice_set}
+use Rattle.std.specs.Prelude.{◌==◌, ◌+◌, ◌&&◌, if◌then◌else◌, Result, Ok, Err, slice_get, slice_set}
 use Rattle.std.specs.List.{AllByRecursion}
-use Rattle.lt_model.specs.declared.cell.Address.{Address}
 use Rattle.lt_model.specs.declared.cell.CellType.{CellType}
 use Rattle.lt_model.specs.declared.cell.CellType.TheVariants.{Num, Pointer}
 use Rattle.lt_model.specs.declared.cell.Content.{Content}
@@ -20,18 +19,18 @@ use Rattle.lt_model.specs.Scalar.{convert_of, wrapped, least_of, greatest_of, Is
 use Rattle.lt_model.specs.Operators.{is_value}
 use Rattle.lt_model.proofs.Ranges.{Bounds, bounds_of, IsValue-wrapped}
 use Rattle.lt_model.proofs.Values.{test_from_between}
-use Rattle.lt_model.specs.Memory.{Memory, Block, correspondence, corresponds, as_type, with_held, before_cells, store, object_at, if_alive, then_result, replaced, first_content, new_cell}
+use Rattle.lt_model.specs.Memory.{Memory, Block, correspondence, corresponds, as_type, with_held, before_cells, store, if_alive, then_result, first_content, new_cell}
 use Rattle.lt_model.specs.State.{untouched, Gives, Ends}
-use Rattle.lt_tree.specs.Typing.Types.{CType, Num as NumType, Array}
+use Rattle.lt_tree.specs.Typing.Types.{CType, Num as NumType}
 use Rattle.lt_tree.specs.Typing.Shapes.{repeated, cells_at}
 use Rattle.lt_tree.specs.Typing.Extents.{Structs}
 use Rattle.lt_tree.specs.Typing.TypedTree as e
 use Rattle.lt_tree.specs.Typing.TypedTree.{StartPart}
 use Rattle.lt_tree.specs.Typing.Programs.{Program}
-use Rattle.lt_ir.specs.Running.{At, Answer, Step, ◌>>=◌, ◌>>◌, gives, absurdity, changed}
-use Rattle.lt_ir.specs.Evaluation.{stored, written, is_content_of, one_cell}
+use Rattle.lt_ir.specs.Running.{At, Answer, ◌>>◌, gives, absurdity}
+use Rattle.lt_ir.specs.Evaluation.{written, is_content_of, one_cell}
 use Rattle.lt_ir.specs.Starting.{put, fill}
-use Rattle.lt_meaning.specs.Runs.{fixed_in, letters_in, part_in, all_parts_in}
+use Rattle.lt_meaning.specs.Runs.{fixed_in, letters_in, all_parts_in}
 use Rattle.lt_object_laws.specs.Further.{AreLetters}
 
 -- ---- cells by their offsets and types

@@ -1,4 +1,5 @@
 pub mod Numbers
+mod Blocks
 mod Memory
 mod Alike
 mod Machine

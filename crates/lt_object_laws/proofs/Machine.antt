@@ -1,5 +1,6 @@
 -- The steps of a machine do the same beside further blocks.
 use Rattle.std.proofs.Common.{◌≡◌, ℕ, ℤ, pos, suc, zero, List, [], ◌∷◌, map, Option, Some, None, Bool, true, false, refl, sym, ap, ◌∙◌, subst, arith, leb-true, le-leb, eqb-true}
+use Rattle.std.proofs.Math.Nat.{le_refl}
 use Rattle.std.proofs.lemmas.List.{map-append}
 use Rattle.std.specs.Prelude.{◌++◌, ◌+◌, ◌&&◌, nat_eq, nat_le, nat_lt, if◌then◌else◌, Result, Ok, Err, length, slice_get}
 use Rattle.lt_model.specs.declared.cell.Address.{Address}
@@ -27,6 +28,7 @@ use Rattle.lt_object_laws.specs.Beside.{block_with, HasFurtherBlocks}
 use Rattle.lt_object_laws.proofs.Numbers.{tests_same, flag_at, no_further_one}
 use Rattle.lt_object_laws.proofs.Memory as memory
 use Rattle.lt_object_laws.proofs.Memory.{result_with, option_with, then_with, Changes}
+use Rattle.lt_object_laws.proofs.Blocks.{AsMany, then_grows, gives_grows, over_grows, if_grows, asked_grows, changed_grows, stored_as_many, copied_as_many, tick_grows, deeper_grows, block_grows, one_longer, created_grows, begins_grows, ended_grows, sealed_grows, took_grows}
 use Rattle.lt_object_laws.proofs.Alike.{Other, Comparison, names_in, as_it_is, block_in, pointer_in, content_in, contents_in, name_in, footprint_in, valued_in, variable_in, bound_in, IsFurtherBlock, AreThere, HasFurtherBounds, no_bounds, a_bound, a_further_bound, beside, Stands, Alike, all_give, all_end, no_room, Same, then_same, gives_same, gives_as, over_same, if_same, defined_same, meets_in, clash_in, joined_in, grown_in}
 
 -- ---- variables in scope
@@ -249,6 +251,7 @@ module _ (seen : Comparison) where
   asked_same with question asks e = record {
     alike = λ at s1 s2 m1 m2 h1 h2.
         (defined_same seen with (question at.memory) (asks seen.one m1) (asks seen.two m2) (e seen.one at.memory m1 h1.blocks) (e seen.two at.memory m2 h2.blocks)).alike at s1 s2 m1 m2 h1 h2;
+    grows = asked_grows question;
   }
 
   changed_by : (x x1 x2 : Result Memory Ub) → Changes (names_in seen.one) seen.one.blocks [] seen.cells x x1 → Changes (names_in seen.two) seen.two.blocks [] seen.cells x x2
@@ -265,11 +268,12 @@ module _ (seen : Comparison) where
   changed_by (Err x) (Ok n1) x2 d1 d2 at s1 s2 m1 m2 h1 h2 = absurd d1
   changed_by (Err x) (Err y) (Ok n2) d1 d2 at s1 s2 m1 m2 h1 h2 = absurd d2
 
-  pub changed_same : (change : Memory → Result Memory Ub) (changes : Other → Memory → Result Memory Ub)
+  pub changed_same : (change : Memory → Result Memory Ub) (changes : Other → Memory → Result Memory Ub) → AsMany change
       → ((o : Other) (before after : Memory) → Further o before after → Changes (names_in o) o.blocks [] seen.cells (change before) (changes o after))
       → S as_it_is (changed change) (changed (changes seen.one)) (changed (changes seen.two))
-  changed_same change changes e = record {
+  changed_same change changes many e = record {
     alike = λ at s1 s2 m1 m2 h1 h2. changed_by (change at.memory) (changes seen.one m1) (changes seen.two m2) (e seen.one at.memory m1 h1.blocks) (e seen.two at.memory m2 h2.blocks) at s1 s2 m1 m2 h1 h2;
+    grows = changed_grows change many;
   }
 
   -- ---- values
@@ -319,6 +323,7 @@ module _ (seen : Comparison) where
   aimed_same true cells a p = record {
     alike = λ at s1 s2 m1 m2 h1 h2.
         (aimed_by (cells_met cells a at.memory) (cells_met cells (pointer_in seen.one a) m1) (cells_met cells (pointer_in seen.two a) m2) p (met_in seen.one h1.blocks cells a) (met_in seen.two h2.blocks cells a)).alike at s1 s2 m1 m2 h1 h2;
+    grows = λ at. if_grows (meets (cells_met cells a at.memory) p.pending) (defined (Err U.Unsequenced)) (gives p) (over_grows Footprint (Undefined U.Unsequenced)) (gives_grows p) at;
   }
   aimed_same false cells a p = gives_same seen footprint_in p
 
@@ -333,6 +338,7 @@ module _ (seen : Comparison) where
         (gives_as seen footprint_in (grown tracks x.footprint (reads (cells_met cells (lies_at x.value) at.memory))) _ _
         (grown_by seen.one tracks x.footprint reads (λ _. refl) (cells_met cells (lies_at x.value) at.memory) (cells_met cells (lies_at (content_in seen.one x.value)) m1) (ap (λ a. cells_met cells a m1) (lies_in seen.one x.value) ∙ met_in seen.one h1.blocks cells (lies_at x.value)))
         (grown_by seen.two tracks x.footprint reads (λ _. refl) (cells_met cells (lies_at x.value) at.memory) (cells_met cells (lies_at (content_in seen.two x.value)) m2) (ap (λ a. cells_met cells a m2) (lies_in seen.two x.value) ∙ met_in seen.two h2.blocks cells (lies_at x.value)))).alike at s1 s2 m1 m2 h1 h2;
+    grows = λ at. le_refl (length at.memory);
   }
 
   pub loaded_same : (tracks : Bool) (m : DataModel) (ty : CellType) (x : Valued (Option Address)) → S (valued_in content_in) (loaded tracks m ty x) (loaded tracks m ty (valued_in pointer_in seen.one x)) (loaded tracks m ty (valued_in pointer_in seen.two x))
@@ -343,16 +349,17 @@ module _ (seen : Comparison) where
       (ap (valued (content_in seen.one c)) (grown_by seen.one tracks x.footprint reads (λ _. refl) (cell_at x.value 0) (cell_at (pointer_in seen.one x.value) 0) (cell_in seen.one x.value 0)))
       (ap (valued (content_in seen.two c)) (grown_by seen.two tracks x.footprint reads (λ _. refl) (cell_at x.value 0) (cell_at (pointer_in seen.two x.value) 0) (cell_in seen.two x.value 0))))
 
-  pub written_same : (tracks : Bool) (change : Memory → Result Memory Ub) (changes : Other → Memory → Result Memory Ub) (cells : List ShapeCell) (a : Option Address) (p : Footprint)
+  pub written_same : (tracks : Bool) (change : Memory → Result Memory Ub) (changes : Other → Memory → Result Memory Ub) (cells : List ShapeCell) (a : Option Address) (p : Footprint) → AsMany change
       → ((o : Other) (before after : Memory) → Further o before after → Changes (names_in o) o.blocks [] seen.cells (change before) (changes o after))
       → S footprint_in (written tracks change cells a p) (written tracks (changes seen.one) cells (pointer_in seen.one a) (footprint_in seen.one p)) (written tracks (changes seen.two) cells (pointer_in seen.two a) (footprint_in seen.two p))
-  written_same tracks change changes cells a p e = record {
+  written_same tracks change changes cells a p many e = record {
     alike = λ at s1 s2 m1 m2 h1 h2.
         (then_same seen (changed change) (changed (changes seen.one)) (changed (changes seen.two)) (λ _. gives (grown tracks p (writes (cells_met cells a at.memory)))) (λ _. gives (grown tracks (footprint_in seen.one p) (writes (cells_met cells (pointer_in seen.one a) m1)))) (λ _. gives (grown tracks (footprint_in seen.two p) (writes (cells_met cells (pointer_in seen.two a) m2))))
-        (changed_same change changes e)
+        (changed_same change changes many e)
         (λ _. gives_as seen footprint_in (grown tracks p (writes (cells_met cells a at.memory))) _ _
         (grown_by seen.one tracks p writes (λ _. refl) (cells_met cells a at.memory) (cells_met cells (pointer_in seen.one a) m1) (met_in seen.one h1.blocks cells a))
         (grown_by seen.two tracks p writes (λ _. refl) (cells_met cells a at.memory) (cells_met cells (pointer_in seen.two a) m2) (met_in seen.two h2.blocks cells a)))).alike at s1 s2 m1 m2 h1 h2;
+    grows = λ at. then_grows (changed change) (λ _. gives (grown tracks p (writes (cells_met cells a at.memory)))) (changed_grows change many) (λ _. gives_grows (grown tracks p (writes (cells_met cells a at.memory)))) at;
   }
 
   pub stored_same : (tracks : Bool) (m : DataModel) (ty : CellType) (a : Option Address) (c : Content) (p : Footprint)
@@ -362,13 +369,14 @@ module _ (seen : Comparison) where
       subst (λ b. S footprint_in (stored tracks m ty a c p) (if b then write (pointer_in seen.one a) (content_in seen.one c) (footprint_in seen.one p) else absurdity) (stored tracks m ty (pointer_in seen.two a) (content_in seen.two c) (footprint_in seen.two p))) (sym (content_type_in seen.one m ty c))
       (subst (λ b. S footprint_in (stored tracks m ty a c p) (if is_content_of m ty c then write (pointer_in seen.one a) (content_in seen.one c) (footprint_in seen.one p) else absurdity) (if b then write (pointer_in seen.two a) (content_in seen.two c) (footprint_in seen.two p) else absurdity)) (sym (content_type_in seen.two m ty c))
       (fitting_same footprint_in (is_content_of m ty c) (write a c p) (write (pointer_in seen.one a) (content_in seen.one c) (footprint_in seen.one p)) (write (pointer_in seen.two a) (content_in seen.two c) (footprint_in seen.two p))
-      (written_same tracks (λ memory. store m memory a ty c) (λ o memory. store m memory (pointer_in o a) ty (content_in o c)) (one_cell ty) a p (λ o before after d. memory.store_with (names_in o) o.blocks [] seen.cells d m a ty c))))
+      (written_same tracks (λ memory. store m memory a ty c) (λ o memory. store m memory (pointer_in o a) ty (content_in o c)) (one_cell ty) a p (stored_as_many m a ty c) (λ o before after d. memory.store_with (names_in o) o.blocks [] seen.cells d m a ty c))))
 
   pub copied_same : (tracks : Bool) (m : DataModel) (shape : Shape) (a from : Option Address) (p : Footprint)
       → S footprint_in (copied tracks m shape a from p) (copied tracks m shape (pointer_in seen.one a) (pointer_in seen.one from) (footprint_in seen.one p)) (copied tracks m shape (pointer_in seen.two a) (pointer_in seen.two from) (footprint_in seen.two p))
   copied_same tracks m shape a from p = record {
     alike = λ at s1 s2 m1 m2 h1 h2.
-        (written_same tracks (λ memory. copy_struct m memory a from shape) (λ o memory. copy_struct m memory (pointer_in o a) (pointer_in o from) shape) shape.cells a p (λ o before after d. memory.copy_with (names_in o) o.blocks [] seen.cells d m a from shape)).alike at s1 s2 m1 m2 h1 h2;
+        (written_same tracks (λ memory. copy_struct m memory a from shape) (λ o memory. copy_struct m memory (pointer_in o a) (pointer_in o from) shape) shape.cells a p (copied_as_many m a from shape) (λ o before after d. memory.copy_with (names_in o) o.blocks [] seen.cells d m a from shape)).alike at s1 s2 m1 m2 h1 h2;
+    grows = λ at. then_grows (changed (λ memory. copy_struct m memory a from shape)) (λ _. gives (grown tracks p (writes (cells_met shape.cells a at.memory)))) (changed_grows (λ memory. copy_struct m memory a from shape) (copied_as_many m a from shape)) (λ _. gives_grows (grown tracks p (writes (cells_met shape.cells a at.memory)))) at;
   }
 
   -- ---- operators
@@ -405,7 +413,7 @@ module _ (seen : Comparison) where
   spent_by (suc n) at s1 s2 m1 m2 h1 h2 = all_give (record { bounds = h1.bounds; there = h1.there; blocks = h1.blocks }) (record { bounds = h2.bounds; there = h2.there; blocks = h2.blocks })
 
   pub tick_same : S as_it_is tick tick tick
-  tick_same = record { alike = λ at s1 s2 m1 m2 h1 h2. spent_by at.ticks at s1 s2 m1 m2 h1 h2 }
+  tick_same = record { alike = λ at s1 s2 m1 m2 h1 h2. spent_by at.ticks at s1 s2 m1 m2 h1 h2; grows = tick_grows }
 
   deeper_by : (b : Bool) (at : At) (s1 s2 : List Bound) (m1 m2 : Memory) → Stands seen.one seen.cells at s1 m1 → Stands seen.two seen.cells at s2 m2
       → Alike seen as_it_is (if b then Gives (tt {0}) (record at { depth = at.depth + 1 }) else Ends Deep at) (if b then Gives (tt {0}) (record (beside at s1 m1) { depth = at.depth + 1 }) else Ends Deep (beside at s1 m1)) (if b then Gives (tt {0}) (record (beside at s2 m2) { depth = at.depth + 1 }) else Ends Deep (beside at s2 m2))
@@ -413,7 +421,7 @@ module _ (seen : Comparison) where
   deeper_by false at s1 s2 m1 m2 h1 h2 = all_end h1 h2
 
   pub deeper_same : S as_it_is one_deeper one_deeper one_deeper
-  deeper_same = record { alike = λ at s1 s2 m1 m2 h1 h2. deeper_by (nat_lt at.depth most_calls) at s1 s2 m1 m2 h1 h2 }
+  deeper_same = record { alike = λ at s1 s2 m1 m2 h1 h2. deeper_by (nat_lt at.depth most_calls) at s1 s2 m1 m2 h1 h2; grows = deeper_grows }
 
   -- ---- variables
 
@@ -437,6 +445,7 @@ module _ (seen : Comparison) where
   block_same with v f g1 g2 k = record {
     alike = λ at s1 s2 m1 m2 h1 h2.
         block_by with f g1 g2 k (living_block v at) (living_block (variable_in seen.one v) (beside at s1 m1)) (living_block (variable_in seen.two v) (beside at s2 m2)) (living_in seen.one at s1 m1 h1 v) (living_in seen.two at s2 m2 h2 v) at s1 s2 m1 m2 h1 h2;
+    grows = block_grows v f (λ n. (k n).grows);
   }
 
   pub place_same : (v : Variable) → S pointer_in (place v) (place (variable_in seen.one v)) (place (variable_in seen.two v))
@@ -454,7 +463,7 @@ module _ (seen : Comparison) where
       (all_give
       (record { bounds = h1.bounds; there = h1.there; blocks = subst (λ block. made seen.one (m1 ++ block ∷ [])) (memory.new_with (names_in seen.one) seen.one.blocks [] seen.cells shape zeroed true) (memory.more_with (names_in seen.one) h1.blocks (new_block shape zeroed true)) })
       (record { bounds = h2.bounds; there = h2.there; blocks = subst (λ block. made seen.two (m2 ++ block ∷ [])) (memory.new_with (names_in seen.two) seen.two.blocks [] seen.cells shape zeroed true) (memory.more_with (names_in seen.two) h2.blocks (new_block shape zeroed true)) })))
-  created_by shape zeroed true false false e f g at s1 s2 m1 m2 h1 h2 = no_room (λ none. true_false (g none))
+  created_by shape zeroed true false false e f g at s1 s2 m1 m2 h1 h2 = no_room (length at.memory) (λ none. true_false (g none)) (memory.next_with (names_in seen.two) h2.blocks) (one_longer at.memory (new_block shape zeroed true))
     where
       true_false : false ≡ true → ⊥
       true_false e = cc
@@ -483,12 +492,14 @@ module _ (seen : Comparison) where
         (λ h. room_without (cells_alive at.memory) seen.cells (length shape.cells) most_cells (ap (λ n. nat_le (n + length shape.cells) most_cells) (sym e1) ∙ h))
         (λ none. ap (λ n. nat_le (n + length shape.cells) most_cells) (e1 ∙ no_more (cells_alive at.memory) seen.cells none))
         at s1 s2 m1 m2 h1 h2;
+    grows = created_grows shape zeroed;
   }
 
   pub bound_same : (v : Variable) (n : ℕ) → S as_it_is (bound_to v n) (bound_to (variable_in seen.one v) (names_in seen.one n)) (bound_to (variable_in seen.two v) (names_in seen.two n))
   bound_same v n = record {
     alike = λ at s1 s2 m1 m2 h1 h2.
         all_give (record { bounds = a_bound (record { variable = v; block = n }) h1.bounds; there = there_bound seen.one s1 (record { variable = v; block = n }) h1.there; blocks = h1.blocks }) (record { bounds = a_bound (record { variable = v; block = n }) h2.bounds; there = there_bound seen.two s2 (record { variable = v; block = n }) h2.there; blocks = h2.blocks });
+    grows = λ at. le_refl (length at.memory);
   }
 
   begun_in : (o : Other) (at : At) (scope : List Bound) (after : Memory) → Stands o seen.cells at scope after → (v : Variable) → is_begun (variable_in o v) (beside at scope after) ≡ is_begun v at
@@ -513,6 +524,7 @@ module _ (seen : Comparison) where
         subst (λ b. Alike seen as_it_is (begins v shape zeroed at) (there b (variable_in seen.one v) (beside at s1 m1)) (begins (variable_in seen.two v) shape zeroed (beside at s2 m2))) (sym (begun_in seen.one at s1 m1 h1 v))
         (subst (λ b. Alike seen as_it_is (begins v shape zeroed at) (there (is_begun v at) (variable_in seen.one v) (beside at s1 m1)) (there b (variable_in seen.two v) (beside at s2 m2))) (sym (begun_in seen.two at s2 m2 h2 v))
         (begins_by v shape zeroed (is_begun v at) at s1 s2 m1 m2 h1 h2));
+    grows = begins_grows v shape zeroed;
   }
 
   pub ends_same : (v : Variable) → S as_it_is (ends v) (ends (variable_in seen.one v)) (ends (variable_in seen.two v))
@@ -520,6 +532,7 @@ module _ (seen : Comparison) where
     alike = λ at s1 s2 m1 m2 h1 h2.
         all_give (record { bounds = without_in seen.one h1.bounds v; there = there_without seen.one s1 v h1.there; blocks = memory.ended_with (names_in seen.one) seen.one.blocks [] seen.cells h1.blocks n })
         (record { bounds = without_in seen.two h2.bounds v; there = there_without seen.two s2 v h2.there; blocks = memory.ended_with (names_in seen.two) seen.two.blocks [] seen.cells h2.blocks n });
+    grows = ended_grows v n;
   })
 
   pub seals_same : (v : Variable) → S as_it_is (seals v) (seals (variable_in seen.one v)) (seals (variable_in seen.two v))
@@ -527,6 +540,7 @@ module _ (seen : Comparison) where
     alike = λ at s1 s2 m1 m2 h1 h2.
         all_give (record { bounds = h1.bounds; there = h1.there; blocks = memory.sealed_with (names_in seen.one) seen.one.blocks [] seen.cells h1.blocks n })
         (record { bounds = h2.bounds; there = h2.there; blocks = memory.sealed_with (names_in seen.two) seen.two.blocks [] seen.cells h2.blocks n });
+    grows = sealed_grows n;
   })
 
   took_by : (name : List ℕ) (r : Option (ℤ × List Left)) (at : At) (s1 s2 : List Bound) (m1 m2 : Memory) → Stands seen.one seen.cells at s1 m1 → Stands seen.two seen.cells at s2 m2
@@ -535,12 +549,12 @@ module _ (seen : Comparison) where
   took_by name (Some (z, lefts)) at s1 s2 m1 m2 h1 h2 = all_give (record { bounds = h1.bounds; there = h1.there; blocks = h1.blocks }) (record { bounds = h2.bounds; there = h2.there; blocks = h2.blocks })
 
   pub stub_same : (name : List ℕ) → S content_in (stub_value name) (stub_value name) (stub_value name)
-  stub_same name = record { alike = λ at s1 s2 m1 m2 h1 h2. took_by name (next_value name at.stubs) at s1 s2 m1 m2 h1 h2 }
+  stub_same name = record { alike = λ at s1 s2 m1 m2 h1 h2. took_by name (next_value name at.stubs) at s1 s2 m1 m2 h1 h2; grows = λ at. took_grows name (next_value name at.stubs) at }
 
   -- ---- parameters
 
   pub scope_same : (scope s1 s2 : List Bound) → HasFurtherBounds seen.one scope s1 → HasFurtherBounds seen.two scope s2 → AreThere seen.one s1 → AreThere seen.two s2 → S as_it_is (with_scope scope) (with_scope s1) (with_scope s2)
-  scope_same scope t1 t2 d1 d2 there1 there2 = record { alike = λ at s1 s2 m1 m2 h1 h2. all_give (record { bounds = d1; there = there1; blocks = h1.blocks }) (record { bounds = d2; there = there2; blocks = h2.blocks }) }
+  scope_same scope t1 t2 d1 d2 there1 there2 = record { alike = λ at s1 s2 m1 m2 h1 h2. all_give (record { bounds = d1; there = there1; blocks = h1.blocks }) (record { bounds = d2; there = there2; blocks = h2.blocks }); grows = λ at. le_refl (length at.memory) }
 
   pub begin_parameters_same : (k : ℕ) (shapes : List Shape) → S as_it_is (begin_parameters k shapes) (begin_parameters k shapes) (begin_parameters k shapes)
   begin_parameters_same k [] = gives_same seen as_it_is tt

@@ -2,7 +2,7 @@
 use Rattle.std.proofs.Common.{◌≡◌, ℕ, ℤ, pos, zero, suc, List, [], ◌∷◌, ◌++◌, map, length, Option, Some, None, Bool, true, false, refl, sym, ap, ◌∙◌, subst, arith}
 use Rattle.std.proofs.lemmas.Bool.{false≢true}
 use Rattle.std.proofs.lemmas.List.Sums.{sum_by-cons}
-use Rattle.std.specs.Prelude.{◌==◌, ◌+◌, ◌+ℤ◌, ◌-ℤ◌, ◌*ℤ◌, ◌&&◌, not, nat_le, nat_lt, int_le, unsigned_abs, if◌then◌else◌, Result, Ok, Err, slice_get, slice_set, sum_by}
+use Rattle.std.specs.Prelude.{◌==◌, ◌+◌, ◌+ℤ◌, ◌-ℤ◌, ◌*ℤ◌, ◌&&◌, not, nat_le, nat_lt, int_le, unsigned_abs, if◌then◌else◌, Result, Ok, Err, slice_get, slice_set}
 use Rattle.lt_model.specs.declared.cell.Address.{Address}
 use Rattle.lt_model.specs.declared.cell.CellType.{CellType}
 use Rattle.lt_model.specs.declared.cell.CellType.TheVariants.{Num, Pointer}
@@ -16,7 +16,7 @@ use Rattle.lt_model.specs.declared.operator.Op.{Op}
 use Rattle.lt_model.specs.declared.operator.Op.TheVariants as O
 use Rattle.lt_model.specs.declared.operator.Ub.{Ub}
 use Rattle.lt_model.specs.declared.operator.Ub.TheVariants as U
-use Rattle.lt_model.specs.Memory.{Memory, Block, corresponds, as_type, if_alive, object_at, offset_of, held_at, before_cells, with_held, usable, of_object, then_result, load, store, replaced, ended_block, end_block, first_content, new_cell, new_block, create, create_shaped, living_cells, cells_alive, most_cells, sealed, seal_block, gathered, scattered, not_null, copy_struct, living, checked_address, within_object, move_by, same_address, ordered, related, compare, in_elements, distance, subtract}
+use Rattle.lt_model.specs.Memory.{Memory, Block, corresponds, as_type, if_alive, object_at, offset_of, held_at, before_cells, with_held, usable, of_object, then_result, load, store, replaced, ended_block, end_block, first_content, new_cell, new_block, living_cells, cells_alive, sealed, seal_block, gathered, scattered, not_null, copy_struct, living, checked_address, move_by, same_address, ordered, related, compare, in_elements, distance, subtract}
 use Rattle.lt_object_laws.specs.Renamed.{renumbered}
 use Rattle.lt_object_laws.specs.Beside.{address_with, content_with, cell_with, block_with, HasFurtherBlocks, a_further_one, another, not_yet, no_further_ones}
 use Rattle.lt_object_laws.proofs.Numbers.{tests_same, flag_at}

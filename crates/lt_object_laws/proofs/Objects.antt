@@ -6,7 +6,6 @@ use Rattle.std.specs.Prelude.{◌==◌, ◌+◌, not, if◌then◌else◌, slice
 use Rattle.std.specs.List.{AllByRecursion}
 use Rattle.lt_model.specs.declared.cell.Content.{Content}
 use Rattle.lt_model.specs.declared.cell.Content.TheVariants as content
-use Rattle.lt_model.specs.declared.cell.Shape.{Shape}
 use Rattle.lt_model.specs.declared.cell.StoredCell.{StoredCell}
 use Rattle.lt_model.specs.declared.scalar.DataModel.{DataModel}
 use Rattle.lt_model.specs.Memory.{as_type, new_cell}
@@ -26,8 +25,8 @@ use Rattle.lt_ir.specs.declared.variable.Variable.TheVariants.{Parameter, Local,
 use Rattle.lt_ir.specs.declared.code.Static.{Static}
 use Rattle.lt_meaning.specs.Expressions.{shape}
 use Rattle.lt_meaning.specs.Statements.{parts_in, type_of_object, is_sealed_object}
-use Rattle.lt_meaning.specs.Runs.{place_among, statics_before, is_there_first, locals_of, other_variable, variable_of, fixed_content, fixed_in, letters_in, part_in, all_parts_in, name_in_files, started_cells, initial, initials, shapes_of, name_of_object}
-use Rattle.lt_object_laws.specs.Renamed.{renumbered, constancy_with, part_with, parts_with, start_with, object_with, function_with, items_with}
+use Rattle.lt_meaning.specs.Runs.{place_among, statics_before, is_there_first, locals_of, other_variable, variable_of, fixed_content, fixed_in, letters_in, part_in, all_parts_in, name_in_files, initial, initials, shapes_of, name_of_object}
+use Rattle.lt_object_laws.specs.Renamed.{renumbered, constancy_with, part_with, parts_with, object_with, function_with, items_with}
 use Rattle.lt_object_laws.specs.Beside.{content_with, cell_with}
 use Rattle.lt_object_laws.specs.Further.{AreLetters, IsFurther, a_string, never_made, HasFurther, no_objects, an_object, a_further_object, IsThere, further_statics}
 use Rattle.lt_object_laws.proofs.Memory.{as_type_with, new_cells}

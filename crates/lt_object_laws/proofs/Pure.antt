@@ -1,7 +1,7 @@
 -- Pure expressions make no objects: they don't end for want of room.
-use Rattle.std.proofs.Common.{◌≡◌, ℕ, List, [], ◌∷◌, Option, Some, None, Bool, true, false, refl, sym, subst}
+use Rattle.std.proofs.Common.{◌≡◌, ℕ, Option, Some, None, Bool, true, false, refl}
 use Rattle.std.proofs.lemmas.Bool.{false≢true}
-use Rattle.std.specs.Prelude.{pos, negsuc, not, ◌&&◌, if◌then◌else◌, Result, Ok, Err}
+use Rattle.std.specs.Prelude.{pos, not, ◌&&◌, if◌then◌else◌, Result, Ok, Err}
 use Rattle.lt_model.specs.declared.cell.Content.{Content}
 use Rattle.lt_model.specs.declared.cell.Content.TheVariants as content
 use Rattle.lt_model.specs.declared.operator.Op.{Op}
@@ -19,9 +19,9 @@ use Rattle.lt_tree.specs.Typing.Types.{CType}
 use Rattle.lt_tree.specs.Typing.TypedTree as e
 use Rattle.lt_tree.specs.Typing.TypedTree.{Value, Values, Place, Conversion}
 use Rattle.lt_ir.specs.declared.variable.Variable.{Variable}
-use Rattle.lt_ir.specs.Running.{At, Answer, Step, ◌>>=◌, gives, over, defined, absurdity, asked, place, with_block, living_block}
-use Rattle.lt_ir.specs.Evaluation.{valued, number_in, address_in, truth_in, of_truth, settled_in, grown, apart, loaded, is_integer, is_right_operand, moved, member_at, applied, counted, compared}
-use Rattle.lt_meaning.specs.Expressions.{is_pure, is_pure_place, are_pure, Around, Fate, wanted, unconverted, dropped, dropped_branch, untaken, inside, of_branch, of_last, fate_of_part, tracking, converted, converted_here, in_type, all_ones, cell_type, scalar_in, pointer_of, count_of, decides, second_truth, comma_from, eval, place_of, parts_of}
+use Rattle.lt_ir.specs.Running.{At, Answer, Step, ◌>>=◌, gives, over, defined, absurdity, asked, place, living_block}
+use Rattle.lt_ir.specs.Evaluation.{valued, number_in, address_in, truth_in, of_truth, is_integer, is_right_operand, moved, applied, counted, compared}
+use Rattle.lt_meaning.specs.Expressions.{is_pure, is_pure_place, are_pure, Around, Fate, wanted, unconverted, dropped, dropped_branch, untaken, inside, of_branch, of_last, fate_of_part, tracking, converted, converted_here, in_type, all_ones, scalar_in, pointer_of, count_of, decides, eval, place_of, parts_of}
 
 and_left : (a b : Bool) → (a && b) ≡ true → a ≡ true
 and_left true b h = refl

@@ -22,25 +22,13 @@ use Rattle.lt_ir.specs.Evaluation.{written, is_content_of, one_cell}
 use Rattle.lt_ir.specs.Starting.{put, fill, start_static, start_statics}
 use Rattle.lt_object_laws.specs.Further.{cells_in}
 use Rattle.lt_object_laws.proofs.Pure.{is_no_room}
-
-abbrev ok : {A : Type 0} → A → Result A Ub
-ok a = Ok a
-
-ok_is : {A : Type 0} {x y : A} → ok x ≡ ok y → x ≡ y
-ok_is e = cc
-
-no_ok : {A : Type 0} {x : A} {kind : Ub} → Err kind ≡ ok x → ⊥
-no_ok e = cc
+use Rattle.lt_object_laws.proofs.Blocks.{ok, ok_is, no_ok, then_ok}
 
 some_is : {A : Type 0} {x y : A} → Some x ≡ Some y → x ≡ y
 some_is e = cc
 
 no_some : {A : Type 0} {x : A} → None ≡ Some x → ⊥
 no_some e = cc
-
-then_ok : {A B : Type 0} (r : Result A Ub) (go : A → Result B Ub) (b : B) → then_result r go ≡ ok b → (a : A) × (r ≡ ok a) × (go a ≡ ok b)
-then_ok (Ok a) go b e = (a, refl, e)
-then_ok (Err kind) go b e = absurd (no_ok e)
 
 -- ---- what is stored leaves the number of living cells
 

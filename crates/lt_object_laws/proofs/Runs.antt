@@ -25,6 +25,7 @@ use Rattle.lt_object_laws.specs.Further.{HasFurther, HasFurtherObjects, IsThere,
 use Rattle.lt_object_laws.specs.Laws.{IsBeside, AreNamed, bytes_from, spare_block, HasRoom, HasRoomFor, FurtherObjectsTakeRoomAlone, FurtherObjectsChangeNothing}
 use Rattle.lt_object_laws.proofs.Numbers.{flag_at}
 use Rattle.lt_object_laws.proofs.Memory as mem
+use Rattle.lt_object_laws.proofs.Blocks.{state_of, blocks_in}
 use Rattle.lt_object_laws.proofs.Alike.{Other, Comparison, names_in, as_it_is, no_bounds, beside, Stands, Alike, all_give, all_end, no_room, Same, then_same}
 use Rattle.lt_object_laws.proofs.Statements.{flow_in}
 use Rattle.lt_object_laws.proofs.Objects.{names_same, shapes_same, initials_with, statics_low}
@@ -64,16 +65,19 @@ no_further_cells [] others = refl
 no_further_cells (it ∷ its) [] = refl
 no_further_cells (it ∷ its) (other ∷ others) = no_further_cells its others
 
+-- with one flag
+one_flag : (its : List Static) (n : ℕ) → renumbered (map (λ _. false) its ++ true ∷ []) n ≤ suc n
+one_flag [] n = omega arith
+one_flag (it ∷ its) zero = omega arith
+one_flag (it ∷ its) (suc n) =
+    let h = one_flag its n in
+    omega (arith, h)
+
 bytes_many : (k offset : ℕ) → length (bytes_from k offset) ≡ k
 bytes_many zero offset = refl
 bytes_many (suc k) offset = ap suc (bytes_many k (offset + 1))
 
 -- ---- answers that give
-
--- where a run stands that goes on
-abbrev state_of : {A : Type 0} → Answer A → At
-state_of (Gives a at) = at
-state_of (Ends end at) = at
 
 abbrev goes_on : {A : Type 0} → Answer A → Bool
 goes_on (Gives a at) = true
@@ -104,14 +108,22 @@ rest_with m statics names shapes its roots = start_parameters 0 shapes >>= (λ _
 abbrev spare_root : ℕ → ℕ → Root
 spare_root k n = record { name = []; block = n; cells = (spare_block k).shape.cells }
 
+-- the second other stands at a block that the run makes
+abbrev StopsShort : (seen : Comparison) → Answer Flow → Answer Flow → Type 0
+StopsShort seen m n2 = (n : ℕ) × (length (over_by n2).at.memory ≡ names_in seen.two n) × (n < blocks_in m)
+
 -- ends of all three; only further cells can lack room
 ended : {further : List Bool} (seen : Comparison) → seen.one.blocks ≡ further → (m n1 n2 : Answer Flow) → Alike seen flow_in m n1 n2
-    → IsBeside further (over_by m) (over_by n1) ⊎ ((seen.cells ≡ 0 → ⊥) × ((over_by n1).end ≡ Cells) × ((over_by n2).end ≡ Cells))
+    → IsBeside further (over_by m) (over_by n1) ⊎ ((seen.cells ≡ 0 → ⊥) × ((over_by n1).end ≡ Cells) × StopsShort seen m n2)
 ended {further} seen e m n1 n2 (all_give {at = at} {m1 = memory} h1 h2) =
     inl (record { end = refl; ticks = refl; stubs = refl; marks = refl; not_made = []; cells = seen.cells; memory = subst (λ blocks. HasFurtherBlocks (renumbered blocks) blocks [] seen.cells at.memory memory) e h1.blocks })
 ended {further} seen e m n1 n2 (all_end {at = at} {m1 = memory} h1 h2) =
     inl (record { end = refl; ticks = refl; stubs = refl; marks = refl; not_made = []; cells = seen.cells; memory = subst (λ blocks. HasFurtherBlocks (renumbered blocks) blocks [] seen.cells at.memory memory) e h1.blocks })
-ended seen e m n1 n2 (no_room some) = inr (some, refl, refl)
+ended seen e m n1 n2 (no_room n some long lt) = inr (some, refl, (n, long, lt))
+
+over_long : (m : Answer Flow) → length (over_by m).at.memory ≡ blocks_in m
+over_long (Gives flow at) = refl
+over_long (Ends end at) = refl
 
 module _ (P : Program) (u : SourceUnit) (ds : List Declared) (fs : List Function) (fr : Frame) (ls : List Label) (xs : List Fact) (os : List Object) (further : List Bool) (objects_with : HasFurther (renumbered further) further P.objects os)
     (functions_with : fs ≡ map (function_with (renumbered further)) P.functions) (addresses : AllByRecursion (λ (object : Object). AllByRecursion (IsThere P) (parts_in object.start)) P.objects)
@@ -281,25 +293,37 @@ module _ (P : Program) (u : SourceUnit) (ds : List Declared) (fs : List Function
   abbrev resting : Answer (List Root) → Answer (Unit {0})
   resting m = elim (m) as (λ _. Answer (Unit {0})) [ Gives roots at1 ↦ rest_with P.model statics parameter_names shapes input.cells roots at1 | Ends end at1 ↦ Ends end at1 ]
 
-  spared_by : (b : Bool) (at : At) → (over_by ((after statics (λ roots. spare_root cells (length at.memory) ∷ roots) >>= (λ _. body_of P (invoke P (suc ticks)) f)) (beside at at.scope (at.memory ++ spare ∷ [])))).end ≡ Cells
-      → (over_by (in_body (resting (rooted (spare_made b at))))).end ≡ Cells
-  spared_by true at e = ap (λ m. (over_by (in_body m)).end) (root_first (length at.memory) (start_blocks input.blocks (beside at at.scope (at.memory ++ spare ∷ [])))) ∙ e
-  spared_by false at e = refl
+  abbrev beside_spare : At → Answer Flow
+  beside_spare at = (after statics (λ roots. spare_root cells (length at.memory) ∷ roots) >>= (λ _. body_of P (invoke P (suc ticks)) f)) (beside at at.scope (at.memory ++ spare ∷ []))
 
-  -- with the spare block the run goes on as it does beside further blocks
-  spared : (at : At) → (over_by ((after statics (λ roots. spare_root cells (length at.memory) ∷ roots) >>= (λ _. body_of P (invoke P (suc ticks)) f)) (beside at at.scope (at.memory ++ spare ∷ [])))).end ≡ Cells
-      → (over_by (in_body (after_spare at))).end ≡ Cells
+  too_few : (all named n many : ℕ) → all ≡ named → named ≤ suc n → n < many → all ≡ suc many → ⊥
+  too_few all named n many e h lt g = omega (arith, e, h, lt, g)
+
+  none_made : (all many : ℕ) → all ≤ many → all ≡ suc many → ⊥
+  none_made all many h g = omega (arith, h, g)
+
+  spared_by : (b : Bool) (at : At) (m : Answer Flow) → StopsShort seen m (beside_spare at) → length at.memory ≤ blocks_in m → length (over_by (in_body (resting (rooted (spare_made b at))))).at.memory ≡ suc (blocks_in m) → ⊥
+  spared_by true at m short more e =
+      too_few (length (over_by (beside_spare at)).at.memory) (names_in seen.two short.0) short.0 (blocks_in m) short.1 (one_flag statics short.0) short.2
+      (sym (ap (λ m. length (over_by (in_body m)).at.memory) (root_first (length at.memory) (start_blocks input.blocks (beside at at.scope (at.memory ++ spare ∷ []))))) ∙ e)
+  spared_by false at m short more e = none_made (length at.memory) (blocks_in m) more e
+
+  -- with the spare block the run goes on as it does beside further blocks, and comes to fewer blocks where those lack room
+  spared : (at : At) (m : Answer Flow) → StopsShort seen m (beside_spare at) → length at.memory ≤ blocks_in m → length (over_by (in_body (after_spare at))).at.memory ≡ suc (blocks_in m) → ⊥
   unfolding create_shaped
-  spared at e = spared_by (nat_le (cells_alive at.memory + length (bytes_from cells 0)) most_cells) at e
+  spared at m short more e = spared_by (nat_le (cells_alive at.memory + length (bytes_from cells 0)) most_cells) at m short more e
 
   abbrev IsSame : Answer Flow → Answer Flow → Type 0
   IsSame m n = IsBeside flags (over_by m) (over_by n)
 
-  room_by : ((over_by (goes P f after_spare here)).end ≡ Cells → ⊥) → is_no_room_of there ≡ false → (X Y : Answer (Unit {0})) → here ≡ X → there ≡ Y → BeginAlike seen.one P.model [] (0 + cells) (0 + length flags) X Y
+  room_by : length (over_by (goes P f after_spare here)).at.memory ≡ suc (length (over_by (goes P f (after statics (λ roots. roots)) here)).at.memory) → is_no_room_of there ≡ false → (X Y : Answer (Unit {0})) → here ≡ X → there ≡ Y → BeginAlike seen.one P.model [] (0 + cells) (0 + length flags) X Y
       → IsSame (goes P f (after statics (λ roots. roots)) X) (goes Q (function_with r f) (after others (λ roots. roots)) Y)
   room_by room fits X Y e1 e2 (both_give {at} {scope} {memory} h) =
-      ⊎_elim (λ x. x) (λ x. absurd (room (ap (λ m. (over_by (goes P f after_spare m)).end) e1 ∙ spared at x.2)))
-      (ended {further = flags} seen refl _ _ _ ((whole_same (spare_root cells (length at.memory)) refl).alike at scope at.scope memory (at.memory ++ spare ∷ []) (stands_one at scope memory h) (stands_two at e1)))
+      let whole = whole_same (spare_root cells (length at.memory)) refl in
+      let m = goes P f (after statics (λ roots. roots)) (Gives tt at) in
+      ⊎_elim (λ x. x)
+      (λ x. absurd (spared at m x.2 (whole.grows at) (ap (λ m. length (over_by (goes P f after_spare m)).at.memory) (sym e1) ∙ room ∙ ap (λ m. suc (length (over_by (goes P f (after statics (λ roots. roots)) m)).at.memory)) e1 ∙ ap suc (over_long m))))
+      (ended {further = flags} seen refl _ _ _ (whole.alike at scope at.scope memory (at.memory ++ spare ∷ []) (stands_one at scope memory h) (stands_two at e1)))
   room_by room fits X Y e1 e2 (both_end left held h) = record { end = refl; ticks = refl; stubs = refl; marks = refl; not_made = left; cells = held; memory = h }
   room_by room fits X Y e1 e2 (begin.no_room some) = absurd (false≢true (sym fits ∙ ap is_no_room_of e2))
 

@@ -1,5 +1,5 @@
 -- How a run begins, behind the objects that are there from the start, beside further ones.
-use Rattle.std.proofs.Common.{◌≡◌, ℕ, zero, suc, List, [], ◌∷◌, ◌++◌, map, length, Option, Some, None, Bool, true, false, refl, sym, ap, ◌∙◌, subst, arith}
+use Rattle.std.proofs.Common.{◌≡◌, ℕ, suc, List, [], ◌∷◌, ◌++◌, map, Option, Some, None, Bool, true, false, refl, sym, ap, ◌∙◌, subst, arith}
 use Rattle.std.specs.Prelude.{◌+◌, if◌then◌else◌}
 use Rattle.std.specs.List.{AllByRecursion}
 use Rattle.std.specs.Str.{bytes_eq}
@@ -8,7 +8,6 @@ use Rattle.lt_model.specs.declared.cell.CellType.{CellType}
 use Rattle.lt_model.specs.declared.cell.Content.{Content}
 use Rattle.lt_model.specs.declared.cell.Content.TheVariants as content
 use Rattle.lt_model.specs.declared.cell.Shape.{Shape}
-use Rattle.lt_model.specs.declared.cell.ShapeCell.{ShapeCell}
 use Rattle.lt_model.specs.declared.input.Place.{Place}
 use Rattle.lt_model.specs.declared.input.BlockIn.{BlockIn}
 use Rattle.lt_model.specs.declared.input.CellSet.{CellSet}
@@ -16,18 +15,16 @@ use Rattle.lt_model.specs.declared.input.CellSet.TheVariants as cellset
 use Rattle.lt_model.specs.declared.scalar.DataModel.{DataModel}
 use Rattle.lt_model.specs.Memory.{Memory, seal_block}
 use Rattle.lt_model.specs.State.{untouched, Gives, Ends}
-use Rattle.lt_ir.specs.declared.variable.Variable.{Variable}
-use Rattle.lt_ir.specs.declared.variable.Variable.TheVariants.{Parameter, Local, Static as StaticObject}
+use Rattle.lt_ir.specs.declared.variable.Variable.TheVariants.{Parameter, Static as StaticObject}
 use Rattle.lt_ir.specs.declared.code.Static.{Static}
-use Rattle.lt_ir.specs.Running.{Bound, At, Answer, Step, ◌>>=◌, ◌>>◌, gives, seals, block_among, with_block, living_block, if_living, is_alive, absurdity}
-use Rattle.lt_ir.specs.Starting.{Root, put, seal_statics, start_blocks, start_parameters, named, parameter_roots, static_roots, root_among, address_named, point_named, type_at, put_if_there, put_in, set_one, set_all, sets}
+use Rattle.lt_ir.specs.Running.{Bound, At, Answer, Step, ◌>>◌, gives, seals, block_among, if_living, absurdity}
+use Rattle.lt_ir.specs.Starting.{Root, put, seal_statics, start_blocks, start_parameters, named, parameter_roots, static_roots, root_among, address_named, type_at, put_if_there, put_in, set_one, set_all, sets}
 use Rattle.lt_object_laws.specs.Renamed.{renumbered}
-use Rattle.lt_object_laws.specs.Beside.{content_with}
 use Rattle.lt_object_laws.specs.Laws.{HasName, IsNamed}
 use Rattle.lt_object_laws.proofs.Numbers.{flag_at}
 use Rattle.lt_object_laws.proofs.Memory as mem
 use Rattle.lt_object_laws.proofs.Memory.{option_with}
-use Rattle.lt_object_laws.proofs.Alike.{Other, Comparison, names_in, as_it_is, block_in, pointer_in, content_in, variable_in, IsFurtherBlock, HasFurtherBounds, beside, Stands, Alike, Same, then_same, gives_same, if_same}
+use Rattle.lt_object_laws.proofs.Alike.{Other, Comparison, names_in, as_it_is, pointer_in, content_in, IsFurtherBlock, HasFurtherBounds, beside, Stands, Alike, Same, then_same, gives_same, if_same}
 use Rattle.lt_object_laws.proofs.Machine.{among_in, created_same, begins_same, seals_same, stored_same}
 use Rattle.lt_object_laws.proofs.Beginning.{StaticsWith, no_statics, a_static, a_further_static}
 
@@ -160,6 +157,9 @@ module _ (seen : Comparison) where
     alike = λ at s1 s2 m1 m2 h1 h2.
         (set_all_same m (parameter_roots at.scope 0 names shapes (roots ++ static_roots 0 statics)) (parameter_roots s1 0 names shapes (r1 ++ static_roots 0 t1)) (parameter_roots s2 0 names shapes (r2 ++ static_roots 0 t2))
         (parameters_with seen.one h1.bounds 0 names shapes (both_roots seen.one d1 g1)) (parameters_with seen.two h2.bounds 0 names shapes (both_roots seen.two d2 g2)) its h).alike at s1 s2 m1 m2 h1 h2;
+    grows = λ at.
+        let them = parameter_roots at.scope 0 names shapes (roots ++ static_roots 0 statics) in
+        (set_all_same m them (roots_in seen.one them) (roots_in seen.two them) (all_roots seen.one them) (all_roots seen.two them) its h).grows at;
   }
 
   -- ---- objects are sealed
@@ -182,11 +182,12 @@ module _ (seen : Comparison) where
           sealing found = elim (found) as (λ _. Answer (Unit {0})) [ None ↦ absurdity (beside at scope memory) | Some block ↦ Gives tt (record (beside at scope memory) { memory = seal_block memory block }) ]
 
   alone_first : (b : Bool) (k : ℕ) → flag_at seen.one.statics k ≡ true → (s r1 r2 : Step (Unit {0})) → S as_it_is s r1 r2 → S as_it_is s ((if b then gives tt else seals (StaticObject k)) >> r1) r2
-  alone_first true k flag s r1 r2 h = record { alike = λ at s1 s2 m1 m2 h1 h2. h.alike at s1 s2 m1 m2 h1 h2 }
+  alone_first true k flag s r1 r2 h = record { alike = λ at s1 s2 m1 m2 h1 h2. h.alike at s1 s2 m1 m2 h1 h2; grows = h.grows }
   alone_first false k flag s r1 r2 h = record {
     alike = λ at s1 s2 m1 m2 h1 h2.
         let it = sealed_alone k flag at s1 m1 h1 in
         subst (λ (m : Answer (Unit {0})). Alike seen as_it_is (s at) (elim (m) as (λ _. Answer (Unit {0})) [ Gives a at1 ↦ r1 at1 | Ends end at1 ↦ Ends end at1 ]) (r2 (beside at s2 m2))) (sym it.1) (h.alike at s1 s2 it.0 m2 it.2 h2);
+    grows = h.grows;
   }
 
   pub seal_all_same : {model : DataModel} {further : List Bool} {its others : List Static} → StaticsWith (names_in seen.one) model further its others → (i j : ℕ)

@@ -1,14 +1,12 @@
 -- Statements do the same beside further objects.
-use Rattle.std.proofs.Common.{◌≡◌, ℕ, ℤ, pos, zero, suc, List, [], ◌∷◌, map, Option, Some, None, Bool, true, false, refl, sym, ap, ◌∙◌, subst}
-use Rattle.std.specs.Prelude.{◌+◌, ◌||◌, if◌then◌else◌}
+use Rattle.std.proofs.Common.{◌≡◌, ℕ, ℤ, pos, zero, suc, List, [], ◌∷◌, Option, Some, None, Bool, true, false, sym, ap, ◌∙◌, subst}
+use Rattle.std.specs.Prelude.{◌+◌, ◌||◌}
 use Rattle.std.specs.List.{list_any}
-use Rattle.lt_model.specs.declared.cell.Address.{Address}
 use Rattle.lt_model.specs.declared.cell.Content.{Content}
 use Rattle.lt_model.specs.declared.cell.Content.TheVariants as content
 use Rattle.lt_model.specs.declared.scalar.Scalar.{Scalar}
 use Rattle.lt_model.specs.declared.run.End.TheVariants.{Steps, Stopped}
-use Rattle.lt_model.specs.Memory.{Memory}
-use Rattle.lt_model.specs.State.{Valued, untouched}
+use Rattle.lt_model.specs.State.{untouched}
 use Rattle.lt_tree.specs.Tree.{Unit as SourceUnit}
 use Rattle.lt_tree.specs.Typing.Types.{CType, Num, is_struct}
 use Rattle.lt_tree.specs.Typing.TypedTree as e
@@ -16,12 +14,12 @@ use Rattle.lt_tree.specs.Typing.TypedTree.{Value, Mark, Statement, Items, Cases,
 use Rattle.lt_tree.specs.Typing.Entities.{Function, Label, Fact, Declared, Frame, Object}
 use Rattle.lt_tree.specs.Typing.Programs.{Program}
 use Rattle.lt_ir.specs.declared.variable.Variable.{Variable}
-use Rattle.lt_ir.specs.Running.{Bound, At, Step, ◌>>=◌, ◌>>◌, gives, over, tick, place, begins, ends, seals}
-use Rattle.lt_ir.specs.Evaluation.{number_in, truth_in, used, stored, member_at}
-use Rattle.lt_meaning.specs.Expressions.{Around, Calls, Fate, wanted, dropped, untaken, shape, cell_type, assigned, eval, marked}
-use Rattle.lt_meaning.specs.Statements.{Flow, Next, Breaks, Continues, Returns, after, next_turn, left_switch, type_of_object, is_sealed_object, put_at, spelled, filled, filled_all, is_zeroed, parts_in, sealed_if, opened, within, within_all, tested, tested_if, stepped, turns, do_turns, looped, do_looped, is_case, is_default, has_label, entry_label, exec, exec_items, exec_cases}
-use Rattle.lt_object_laws.specs.Renamed.{value_with, mark_with, part_with, parts_with, start_with, local_with, locals_with, optional_with, for_start_with, statement_with, items_with, cases_with}
-use Rattle.lt_object_laws.proofs.Alike.{Other, Comparison, as_it_is, pointer_in, content_in, contents_in, footprint_in, valued_in, variable_in, beside, Stands, Same, then_same, gives_same, over_same, if_same}
+use Rattle.lt_ir.specs.Running.{Step, ◌>>=◌, ◌>>◌, gives, place, begins, ends}
+use Rattle.lt_ir.specs.Evaluation.{member_at}
+use Rattle.lt_meaning.specs.Expressions.{Around, Calls, Fate, wanted, dropped, untaken, shape, assigned, eval}
+use Rattle.lt_meaning.specs.Statements.{Flow, Next, Breaks, Continues, Returns, after, next_turn, left_switch, type_of_object, is_sealed_object, put_at, spelled, filled, filled_all, is_zeroed, parts_in, sealed_if, within, within_all, tested, tested_if, stepped, turns, do_turns, looped, do_looped, entry_label, exec, exec_items, exec_cases}
+use Rattle.lt_object_laws.specs.Renamed.{value_with, part_with, parts_with, start_with, local_with, locals_with, optional_with, for_start_with, statement_with, items_with, cases_with}
+use Rattle.lt_object_laws.proofs.Alike.{Other, Comparison, as_it_is, content_in, contents_in, valued_in, variable_in, Same, then_same, gives_same, over_same, if_same}
 use Rattle.lt_object_laws.proofs.Machine.{number_same, truth_same, used_same, member_same, place_same, tick_same, begins_same, ends_same, seals_same}
 use Rattle.lt_object_laws.proofs.Trees.{type_with, entry_with, zeroed_with, parts_in_with}
 use Rattle.lt_object_laws.proofs.Expressions.{store_at, assigned_same, value_same, mark_same, behind_mark}
@@ -156,10 +154,10 @@ module _ (seen : Comparison) (P : Program) (u : SourceUnit) (ds : List Declared)
       (do_turns_same n test t1 t2 body b1 b2 h1 h3) (gives_same seen flow_in Next)))))
 
   looped_same : (k : Bool) (test step : Option Value) (body b1 b2 : Step Flow) → S flow_in body b1 b2 → S flow_in (looped (here k) test step body) (looped (one k) (optional_with r test) (optional_with r step) b1) (looped (two k) test step b2)
-  looped_same k test step body b1 b2 h = record { alike = λ at s1 s2 m1 m2 h1 h2. (turns_same (suc at.ticks) _ _ _ _ _ _ body b1 b2 (tested_if_same k test) (stepped_same k step) h).alike at s1 s2 m1 m2 h1 h2 }
+  looped_same k test step body b1 b2 h = record { alike = λ at s1 s2 m1 m2 h1 h2. (turns_same (suc at.ticks) _ _ _ _ _ _ body b1 b2 (tested_if_same k test) (stepped_same k step) h).alike at s1 s2 m1 m2 h1 h2; grows = λ at. (turns_same (suc at.ticks) _ _ _ _ _ _ body b1 b2 (tested_if_same k test) (stepped_same k step) h).grows at }
 
   do_looped_same : (k : Bool) (test : Value) (body b1 b2 : Step Flow) → S flow_in body b1 b2 → S flow_in (do_looped (here k) test body) (do_looped (one k) (value_with r test) b1) (do_looped (two k) test b2)
-  do_looped_same k test body b1 b2 h = record { alike = λ at s1 s2 m1 m2 h1 h2. (do_turns_same (suc at.ticks) _ _ _ body b1 b2 (tested_same k test) h).alike at s1 s2 m1 m2 h1 h2 }
+  do_looped_same k test body b1 b2 h = record { alike = λ at s1 s2 m1 m2 h1 h2. (do_turns_same (suc at.ticks) _ _ _ body b1 b2 (tested_same k test) h).alike at s1 s2 m1 m2 h1 h2; grows = λ at. (do_turns_same (suc at.ticks) _ _ _ body b1 b2 (tested_same k test) h).grows at }
 
   -- ---- statements
 

@@ -1,15 +1,14 @@
 -- What is asked of trees doesn't depend on the numbers of objects.
-use Rattle.std.proofs.Common.{◌≡◌, ℕ, zero, suc, List, [], ◌∷◌, ◌++◌, map, Option, Some, None, Bool, true, false, refl, sym, ap, ◌∙◌}
+use Rattle.std.proofs.Common.{◌≡◌, ℕ, suc, List, [], ◌∷◌, ◌++◌, map, Option, Some, None, Bool, refl, sym, ap, ◌∙◌}
 use Rattle.std.proofs.lemmas.List.{map-append}
 use Rattle.std.specs.Prelude.{◌||◌, ◌&&◌, ◌==◌, if◌then◌else◌}
 use Rattle.std.specs.List.{list_any}
-use Rattle.std.proofs.lemmas.Bool.{false≢true}
 use Rattle.lt_tree.specs.Typing.TypedTree as e
 use Rattle.lt_tree.specs.Typing.TypedTree.{Value, Values, Place, Label, Local, Start, StartPart, Statement, Items, Cases, type_of}
-use Rattle.lt_meaning.specs.Expressions.{is_pure, is_pure_place, are_pure, Fate, fate_of_part}
+use Rattle.lt_meaning.specs.Expressions.{is_pure, is_pure_place, are_pure}
 use Rattle.lt_meaning.specs.Statements.{has_label, entry_label, is_case, is_default, parts_in, is_zeroed}
 use Rattle.lt_meaning.specs.Runs.{place_among, begun_by, locals_in, locals_of, locals_among}
-use Rattle.lt_object_laws.specs.Renamed.{renumbered, value_with, values_with, place_with, part_with, parts_with, start_with, local_with, locals_with, statement_with, items_with, cases_with}
+use Rattle.lt_object_laws.specs.Renamed.{renumbered, value_with, values_with, place_with, parts_with, start_with, locals_with, statement_with, items_with, cases_with}
 use Rattle.lt_object_laws.proofs.Numbers.{tests_same}
 
 module _ (r : ℕ → ℕ) where

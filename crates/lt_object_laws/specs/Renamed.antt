@@ -1,6 +1,6 @@
 -- Typed trees whose objects have other numbers.
-use Rattle.std.specs.Prelude.{ℕ, zero, suc, Bool, true, false, List, [], ◌∷◌, map, Option, Some, None, option_map}
-use Rattle.lt_tree.specs.Typing.Constants.{Constancy, number, address}
+use Rattle.std.specs.Prelude.{ℕ, zero, suc, Bool, true, false, List, [], ◌∷◌, map, Option, Some, None}
+use Rattle.lt_tree.specs.Typing.Constants.{Constancy, address}
 use Rattle.lt_tree.specs.Typing.TypedTree as e
 use Rattle.lt_tree.specs.Typing.TypedTree.{Value, Values, Place, Marks, Mark, Bindings, Start, StartPart, Local, Statement, Items, Cases}
 use Rattle.lt_tree.specs.Typing.Entities.{Object, Function}

@@ -40,8 +40,7 @@ pub mod LastingUnits
 pub mod Domains
 pub mod Names
 pub mod Named
-pub mod OldExpressions
-pub mod OldStatements
+pub mod OldMarks
 pub mod Pure
 pub mod PurePredicates
 pub mod Numbers
@@ -49,3 +48,11 @@ pub mod OldIds
 pub mod Rounds
 pub mod FunctionsStand
 pub mod KnowAsMuch
+pub mod Anywhere
+pub mod SimpleErased
+pub mod UntaggedParts
+pub mod SimplePredicates
+pub mod SimpleMarked
+pub mod KeptExpressions
+pub mod KeptStatements
+pub mod UntaggedRounds

@@ -11,9 +11,9 @@ use Rattle.lt_tree.specs.Ids.{within, ids_in, ids_in_expressions, ids_in_maybe, 
 use Rattle.lt_tree.specs.Typing.Entities.{greatest_label_id}
 use Rattle.lt_tree.specs.Typing.MarkRules.{id_from, number_of_id}
 use Rattle.lt_mark_typing.specs.MarkedRuns.{is_from}
-use Rattle.lt_mark_laws.proofs.TypeLists.{all_first, all_second}
+use Rattle.lt_mark_laws.proofs.Lists.{all_first, all_second}
 use Rattle.lt_mark_typing.specs.Placed.{IsOld, AreOld}
-use Rattle.lt_objective_marks.proofs.OldExpressions.{both_old}
+use Rattle.lt_objective_marks.proofs.OldMarks.{both_old}
 use Rattle.lt_objective_marks.proofs.Pure.{written}
 use Rattle.lt_objective_marks.proofs.Numbers.{not_from}
 

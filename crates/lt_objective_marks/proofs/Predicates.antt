@@ -1,11 +1,9 @@
 -- The objectives at an expression have predicates where it stands.
 use Rattle.std.proofs.Common.{◌≡◌, ◌⊎◌, inl, inr, refl, sym, ap, ◌∙◌, subst, ℕ, List, [], ◌∷◌, ◌++◌, Bool, true, false, ◌&&◌, if◌then◌else◌, None}
-use Rattle.std.proofs.lemmas.Bool.{false≢true}
 use Rattle.std.proofs.lemmas.List.{map-append}
 use Rattle.std.specs.Prelude.{map}
 use Rattle.lt_tree.specs.Tree as c
-use Rattle.lt_tree.specs.Erasure.{erased, erased_expressions}
-use Rattle.lt_tree.specs.Comma.{comma_of}
+use Rattle.lt_tree.specs.Erasure.{erased}
 use Rattle.lt_tree.specs.Purity.{is_pure}
 use Rattle.lt_tree.specs.Typing.Types.{is_integer, is_scalar}
 use Rattle.lt_tree.specs.Typing.Entities.{Known}
@@ -18,7 +16,7 @@ use Rattle.lt_objectives.specs.Decisions.{decisions, clauses, inequality}
 use Rattle.lt_objectives.specs.Mutants.{absolute_mutants, connector_mutants, arithmetic_mutants, relational_mutants}
 use Rattle.lt_objectives.specs.Copies.{is_core, can_be_copied}
 use Rattle.lt_objectives.specs.Objectives.{in_front, Objective, all_at, decided_at, at_test, left_type, right_type, mutants, differences, at_expression}
-use Rattle.lt_mark_laws.proofs.TypeLists.{all_both}
+use Rattle.lt_mark_laws.proofs.Lists.{all_both}
 use Rattle.lt_mark_typing.specs.Placed.{IsThere}
 use Rattle.lt_objective_places.specs.Stands.{IsNoTest}
 use Rattle.lt_objective_typing.specs.Laws.{ArePredicates, differences_from, TakesIntegers}

@@ -7,7 +7,7 @@ use Rattle.lt_tree.specs.Purity.{is_pure, are_pure, is_pure_specifiers, are_pure
 use Rattle.lt_tree.specs.Nodes.{if_written, in_expression, in_expressions, in_maybe, in_specifiers, in_types, in_type, in_declarator, in_parts, in_parameters, in_parameter_list}
 use Rattle.lt_mark_typing.specs.Placed.{AreOld}
 use Rattle.lt_mark_typing.proofs.Quiet.{and_first, and_second}
-use Rattle.lt_objective_marks.proofs.OldExpressions.{both_old}
+use Rattle.lt_objective_marks.proofs.OldMarks.{both_old}
 
 module _ (new : ℕ → Bool) where
   pub written : (name : Option (List ℕ)) (ps : c.Parts) → AreOld new (if_written name ps)

@@ -23,7 +23,7 @@ use Rattle.lt_objectives.specs.Decisions.{Test, clauses_of, decisions, clauses, 
 use Rattle.lt_objectives.specs.Mutants.{with_others, relations, pointer_relations, absolute_mutants, arithmetic_mutants, connector_mutants, relational_mutants}
 use Rattle.lt_objectives.specs.Copies.{is_core, hides, can_be_copied}
 use Rattle.lt_objectives.specs.Objectives.{Form, at_start, in_front, around, Objective, objective, all_at, decided_at, both_truths, combinations, at_test, left_type, right_type, mutants, differences, domains, domains_of_object, parameters_at, at_body, at_expression, at_node, objectives}
-use Rattle.lt_mark_laws.proofs.TypeLists.{all_both}
+use Rattle.lt_mark_laws.proofs.Lists.{all_both}
 use Rattle.lt_mark_typing.specs.Beside.{AddsLabels, kept, added}
 use Rattle.lt_mark_typing.specs.Placed.{IsThere}
 use Rattle.lt_objective_typing.specs.Laws.{ArePredicates, DecisionsGivePredicates, MutantsGivePredicates, DomainsGivePredicates, differences_from}

@@ -1,5 +1,5 @@
 -- A unit runs with the marks of criteria, one after the other, as it does without them.
-use Rattle.std.proofs.Common.{◌≡◌, ◌≤◌, ℕ, suc, List, [], ◌∷◌, Bool, true, false, sym, subst, arith}
+use Rattle.std.proofs.Common.{◌≡◌, ◌≤◌, ℕ, suc, List, [], ◌∷◌, Bool, false, sym, subst, arith}
 use Rattle.std.proofs.lemmas.Bool.{le-leb, leb-true}
 use Rattle.std.specs.Prelude.{filter_map}
 use Rattle.lt_model.specs.declared.scalar.DataModel.{DataModel}
@@ -24,7 +24,7 @@ use Rattle.lt_objective_marks.specs.Units.{ObjectivesAreAdded}
 use Rattle.lt_objective_marks.proofs.Units.{same_functions}
 use Rattle.lt_erased_typing.specs.CopiedExpressions.{CopiesAreSimple, AllCopiesAreSimple}
 use Rattle.lt_objective_marks.specs.Rounds.{IsMadeFrom, first_unit, marked_unit, FirstProgramsKnowAsMuch, RoundsRunAsTheyDid}
-use Rattle.lt_objective_marks.proofs.OldStatements.{unit_stays_old}
+use Rattle.lt_objective_marks.proofs.OldMarks.{unit_stays_old}
 use Rattle.lt_objective_marks.proofs.PurePredicates.{objectives_labelled}
 use Rattle.lt_objective_marks.proofs.Numbers.{next_from, later_from, all_old}
 

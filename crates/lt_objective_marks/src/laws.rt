@@ -7,6 +7,7 @@ ghost use Rattle.lt_objective_marks.specs.Rounds.{
   RoundsRunAsTheyDid,
 };
 ghost use Rattle.lt_objective_marks.specs.Units.{MarkedUnitsRunAsTheyDid, ObjectivesAreAdded};
+ghost use Rattle.lt_objective_marks.specs.Untagged.{UntaggedTextsAreSimple};
 
 use lt_erased_typing::{literals_are_typed_without_marks, truths_are_typed_as_values};
 use lt_kept_facts::{marked_units_know_the_same, objectives_are_found_by_either};
@@ -92,4 +93,13 @@ pub fn marked_units_of_sets_run_as_they_did()
     ensures { MarkedUnitsOfSetsRunAsTheyDid }
 {
     rounds_run_as_they_did();
+}
+
+/// What predicates copy is simple in each round, where no expression of the unit has a type name with a struct by its tag alone.
+pub fn untagged_texts_are_simple()
+    ensures { UntaggedTextsAreSimple }
+{
+    decisions_give_predicates();
+    mutants_give_predicates();
+    domains_give_predicates();
 }

@@ -14,7 +14,7 @@ use Rattle.lt_tree.specs.Purity.{is_pure}
 use Rattle.lt_tree.specs.Typing.Types.{is_integer, is_scalar}
 use Rattle.lt_tree.specs.Typing.Entities.{Known}
 use Rattle.lt_objectives.specs.Decisions.{Test, clauses_of, clause_list, clause_count, with_clause, determination, negation, conjunction, zero_constant, one, conjunctions_from, conjunctions, active_from}
-use Rattle.lt_mark_laws.proofs.TypeLists.{all_first, all_second, all_both}
+use Rattle.lt_mark_laws.proofs.Lists.{all_first, all_second, all_both}
 use Rattle.lt_mark_typing.specs.Placed.{IsThere}
 use Rattle.lt_mark_typing.specs.Laws.{PredicatesAreMade}
 use Rattle.lt_objective_typing.specs.Laws.{ArePredicates, DecisionsGivePredicates}

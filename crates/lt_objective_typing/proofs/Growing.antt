@@ -18,7 +18,7 @@ use Rattle.lt_tree.specs.Typing.Declarators.{Built, all_faults, setting_in_sizeo
 use Rattle.lt_tree.specs.Typing.NodeEnds.{judge_unary, text_object, operand_of, also, end_of_declarator, enter_if}
 use Rattle.lt_tree.specs.Typing.ExpressionTyping.{expression, expressions, maybe, specifiers, type_specifiers, type_specifier, declarator, parts, parameters, parameter_list}
 use Rattle.lt_object_laws.specs.Further.{IsFurther, a_string, never_made}
-use Rattle.lt_mark_laws.proofs.TypeLists.{all_both}
+use Rattle.lt_mark_laws.proofs.Lists.{all_both}
 use Rattle.lt_objective_typing.proofs.Both.{and_first, and_second}
 
 -- ---- lists that have more behind them

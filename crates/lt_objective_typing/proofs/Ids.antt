@@ -1,25 +1,24 @@
 -- The labels of objectives at one place have ids that are new, one after the other.
-use Rattle.std.proofs.Common.{◌≡◌, ◌≤◌, ◌<◌, ◌^◌, ℕ, suc, ◌+◌, ◌-◌, ◌*◌, List, [], ◌∷◌, length, get_or, Option, Some, None, Bool, true, false, refl, sym, ap, ◌∙◌, subst, inl, inr, arith}
-use Rattle.std.proofs.lemmas.Bool.{false≢true, eqb-true, eq-eqb, le-leb, lt-ltb}
+use Rattle.std.proofs.Common.{◌≡◌, ◌≤◌, ◌<◌, ◌^◌, ℕ, suc, ◌+◌, ◌-◌, ◌*◌, List, [], ◌∷◌, length, get_or, Some, None, Bool, true, false, refl, sym, ap, ◌∙◌, subst, inl, inr, arith}
+use Rattle.std.proofs.lemmas.Bool.{eqb-true, eq-eqb, le-leb, lt-ltb}
 use Rattle.std.proofs.lemmas.Str.{digit_value_digit}
 use Rattle.std.proofs.lemmas.Str.Parse.{IsNumeralModel, numerals_by_value, tells_digits, digit_from_value}
 use Rattle.std.proofs.lemmas.Fmt.{decimal_nonempty, first_decimal, digits_decimal, digits_value-decimal}
-use Rattle.std.specs.Prelude.{◌⊎◌, ℤ, pos, ◌==◌, ◌&&◌, ◌||◌, nat_le, nat_lt, if◌then◌else◌, is_some, unwrap_or, map}
+use Rattle.std.specs.Prelude.{◌⊎◌, pos, ◌==◌, ◌&&◌, ◌||◌, nat_le, if◌then◌else◌, is_some, unwrap_or}
 use Rattle.std.specs.Char.{digit_value}
 use Rattle.std.specs.Fmt.{decimal}
-use Rattle.std.specs.Str.{byte}
 use Rattle.std.specs.Str.Parse.{AllDigits, digits_value, digits_value_after}
 use Rattle.lt_tree.specs.Tree as c
-use Rattle.lt_tree.specs.Constants.{digit, number_from, number_behind_zero, integer_value, with_suffix, value_of, signed_byte, character_byte}
+use Rattle.lt_tree.specs.Constants.{digit, number_from, number_behind_zero, integer_value, with_suffix, value_of}
 use Rattle.lt_tree.specs.Typing.MarkRules.{id_from, id_of, number_of_id, is_tag}
 use Rattle.lt_tree.specs.Typing.Entities.{Known, greatest_label_id}
 use Rattle.lt_objectives.specs.declared.criteria.Criterion.{Criterion}
 use Rattle.lt_objectives.specs.declared.criteria.Criterion.TheVariants as C
 use Rattle.lt_objectives.specs.Criteria.{tag_of}
 use Rattle.lt_objectives.specs.Objectives.{Form, at_start, in_front, around, objective, all_at}
-use Rattle.lt_objectives.specs.Marked.{NewMark, ids_of, numbered, label, labels, is_there, same_form}
+use Rattle.lt_objectives.specs.Marked.{NewMark, ids_of, numbered, label, labels, same_form}
 use Rattle.lt_mark_typing.specs.Beside.{is_used}
-use Rattle.lt_mark_typing.specs.Placed.{IsNewId, AreNewLabels}
+use Rattle.lt_mark_typing.specs.Placed.{AreNewLabels}
 use Rattle.lt_objective_typing.proofs.Both.{both_true}
 use Rattle.lt_objective_typing.specs.Laws.{ArePredicates, AddsIds, LabelsOfObjectivesAreNew}
 

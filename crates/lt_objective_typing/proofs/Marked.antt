@@ -17,7 +17,7 @@ use Rattle.lt_tree.specs.Typing.NodeEnds.{text_object}
 use Rattle.lt_tree.specs.Typing.ExpressionTyping.{expression}
 use Rattle.lt_objectives.specs.Copies.{is_core}
 use Rattle.lt_object_laws.specs.Further.{IsFurther, never_made}
-use Rattle.lt_mark_laws.proofs.TypeLists.{all_both}
+use Rattle.lt_mark_laws.proofs.Lists.{all_both}
 use Rattle.lt_mark_typing.specs.Laws.{PredicatesAreMade, PureExpressionsAreThere, NamedObjectsAreKnown}
 use Rattle.lt_erased_typing.specs.Literals.{HasMoreTexts, none_more, one_more, one_unmade, NamesObjects}
 use Rattle.lt_erased_typing.specs.Erasable.{CanBeErasedWith, entered}

@@ -27,20 +27,20 @@ ShapeOf test cells = AllByRecursion (λ (cell : ShapeCell). is_of test cell.ty �
 abbrev ok : {A : Type 0} → A → Result A Ub
 ok a = Ok a
 
-ok_is : {A : Type 0} {x y : A} → ok x ≡ ok y → x ≡ y
+pub ok_is : {A : Type 0} {x y : A} → ok x ≡ ok y → x ≡ y
 ok_is e = cc
 
-some_is : {A : Type 0} {x y : A} → Some x ≡ Some y → x ≡ y
+pub some_is : {A : Type 0} {x y : A} → Some x ≡ Some y → x ≡ y
 some_is e = cc
 
-no_ok : {A : Type 0} {x : A} {kind : Ub} → Err kind ≡ ok x → ⊥
+pub no_ok : {A : Type 0} {x : A} {kind : Ub} → Err kind ≡ ok x → ⊥
 no_ok e = cc
 
-no_some : {A : Type 0} {x : A} → None ≡ Some x → ⊥
+pub no_some : {A : Type 0} {x : A} → None ≡ Some x → ⊥
 no_some e = cc
 
 -- what comes before comes too
-then_ok : {A B : Type 0} (r : Result A Ub) (go : A → Result B Ub) (b : B) → then_result r go ≡ ok b → (a : A) × (r ≡ ok a) × (go a ≡ ok b)
+pub then_ok : {A B : Type 0} (r : Result A Ub) (go : A → Result B Ub) (b : B) → then_result r go ≡ ok b → (a : A) × (r ≡ ok a) × (go a ≡ ok b)
 then_ok (Ok a) go b e = (a, refl, e)
 then_ok (Err kind) go b e = absurd (no_ok e)
 

@@ -3,16 +3,21 @@ mod Memory
 mod Alike
 mod Machine
 mod Programs
+mod Standing
+mod Growing
+mod Roots
+mod Setting
 mod Expressions
 mod Statements
 mod Starting
 mod Objects
 mod Runs
-mod Lists
+pub mod Lists
 mod Shapes
+mod Passing
 mod Others
+mod Accessed
 pub mod Equal
 pub mod Places
-mod Sharing
 mod Listed
 pub mod Units

@@ -25,7 +25,7 @@ use Rattle.lt_ir.specs.Evaluation.{valued, number_in, address_in, used, truth_in
 use Rattle.lt_type_laws.specs.Renumbered.{memory_with, shape_cell_with, shape_with}
 use Rattle.lt_type_laws.proofs.Cells.{ShapeOf, store_of, copy_of, created_of, ended_of, sealed_of}
 use Rattle.lt_type_laws.proofs.Memory as mem
-use Rattle.lt_type_laws.proofs.Memory.{Comparison, Fits, result_with, option_with, MeetAlike, CellsMeetAlike, no_cells, a_cell, cell_meets, content_alike, shape_meets, met_with}
+use Rattle.lt_type_laws.proofs.Memory.{Comparison, Fits, result_with, option_with, MeetAlike, CellsMeetAlike, no_cells, a_cell, ShapeMeets, ShapeFits, content_alike, shape_meets, met_with}
 use Rattle.lt_type_laws.proofs.Alike.{other, Alike, both_give, both_end, Same, then_same, gives_same, over_same, defined_same, if_same}
 
 module _ (seen : Comparison) where
@@ -47,7 +47,7 @@ module _ (seen : Comparison) where
         subst (λ x. Alike seen (defined (question at.memory) at) (defined x (other seen at))) (sym (e at.memory fits)) ((defined_same seen (question at.memory)).alike at fits);
   }
 
-  changed_by : (x : Result Memory Ub) (at : At) → ((after : Memory) → x ≡ Ok after → Fits seen after)
+  pub changed_by : (x : Result Memory Ub) (at : At) → ((after : Memory) → x ≡ Ok after → Fits seen after)
       → Alike seen {A = Unit {0}} (elim (x) as (λ _. Answer (Unit {0})) [ Ok memory ↦ Gives tt (record at { memory = memory }) | Err kind ↦ Ends (Undefined kind) at ])
       (elim (result_with there x) as (λ _. Answer (Unit {0})) [ Ok memory ↦ Gives tt (record (other seen at) { memory = memory }) | Err kind ↦ Ends (Undefined kind) (other seen at) ])
   changed_by (Ok memory) at h = both_give (h memory refl)
@@ -131,13 +131,13 @@ module _ (seen : Comparison) where
       subst (λ b. S (stored tracks m ty a c p) (if b then written tracks (λ memory. store m memory a twin c) (one_cell twin) a p else absurdity)) (sym (content_alike seen m c d))
       (fitting_same (is_content_of m ty c) _ _
       (written_same tracks (λ memory. store m memory a ty c) (λ memory. store m memory a twin c) a p
-      (record { same = λ memory h. mem.store_with seen m memory a c d h; fits = λ memory after h e. store_of seen.shared m a ty c memory after h e }) (one_cell_alike d)))
+      (record { same = λ memory h. mem.store_with seen m memory a c d h; fits = λ memory after h e. store_of seen.held m a ty c memory after h e }) (one_cell_alike d)))
 
-  pub copied_same : (tracks : Bool) (m : DataModel) (shape : Shape) (a from : Option Address) (p : Footprint) → ShapeOf seen.shared shape.cells → S (copied tracks m shape a from p) (copied tracks m (shape_with seen.numbers shape) a from p)
+  pub copied_same : (tracks : Bool) (m : DataModel) (shape : Shape) (a from : Option Address) (p : Footprint) → ShapeMeets seen shape.cells → S (copied tracks m shape a from p) (copied tracks m (shape_with seen.numbers shape) a from p)
   copied_same tracks m shape a from p g = record {
     alike = λ at fits.
         (written_same tracks (λ memory. copy_struct m memory a from shape) (λ memory. copy_struct m memory a from (shape_with seen.numbers shape)) a p
-        (record { same = λ memory h. mem.copy_with seen m memory a from shape g h; fits = λ memory after h e. copy_of seen.shared m a from shape memory after h e }) (shape_meets seen shape.cells g)).alike at fits;
+        (record { same = λ memory h. mem.copy_with seen m memory a from shape g h; fits = λ memory after h e. copy_of seen.held m a from shape memory after h e }) (shape_meets seen shape.cells g)).alike at fits;
   }
 
   -- ---- operators
@@ -212,14 +212,14 @@ module _ (seen : Comparison) where
   created_by None k at h = both_end
   created_by (Some memory) k at h = both_give (h memory refl)
 
-  pub created_same : (shape : Shape) (zeroed : Bool) → ShapeOf seen.shared shape.cells → S (created shape zeroed) (created (shape_with seen.numbers shape) zeroed)
+  pub created_same : (shape : Shape) (zeroed : Bool) → ShapeOf seen.held shape.cells → S (created shape zeroed) (created (shape_with seen.numbers shape) zeroed)
   created_same shape zeroed g = record {
     alike = λ at fits.
         subst (λ k. Alike seen (created shape zeroed at) (elim (create_shaped (there at.memory) (shape_with seen.numbers shape) zeroed true) as (λ _. Answer ℕ) [ None ↦ Ends Cells (other seen at) | Some memory ↦ Gives k (record (other seen at) { memory = memory }) ]))
         (sym (length-map at.memory _))
         (subst (λ (x : Option Memory). Alike seen (created shape zeroed at) (elim (x) as (λ _. Answer ℕ) [ None ↦ Ends Cells (other seen at) | Some memory ↦ Gives (length at.memory) (record (other seen at) { memory = memory }) ]))
         (sym (mem.created_with seen at.memory shape zeroed true))
-        (created_by (create_shaped at.memory shape zeroed true) (length at.memory) at (λ after e. created_of seen.shared shape zeroed true at.memory after g fits e)));
+        (created_by (create_shaped at.memory shape zeroed true) (length at.memory) at (λ after e. created_of seen.held shape zeroed true at.memory after g fits e)));
   }
 
   pub bound_same : (v : Variable) (k : ℕ) → S (bound_to v k) (bound_to v k)
@@ -228,13 +228,13 @@ module _ (seen : Comparison) where
   begun_same : (v : Variable) (at : At) → is_begun v (other seen at) ≡ is_begun v at
   begun_same v at = ap (λ (found : Option ℕ). elim (found) as (λ _. Bool) [ None ↦ false | Some block ↦ true ]) (living_same v at)
 
-  begins_by : (v : Variable) (shape : Shape) (zeroed b : Bool) (at : At) → ShapeOf seen.shared shape.cells → Fits seen at.memory
+  begins_by : (v : Variable) (shape : Shape) (zeroed b : Bool) (at : At) → ShapeOf seen.held shape.cells → Fits seen at.memory
       → Alike seen {A = Unit {0}} (if b then absurdity at else (created shape zeroed >>= bound_to v) at) (if b then absurdity (other seen at) else (created (shape_with seen.numbers shape) zeroed >>= bound_to v) (other seen at))
   begins_by v shape zeroed true at g fits = both_end
   begins_by v shape zeroed false at g fits =
       (then_same seen (created shape zeroed) (created (shape_with seen.numbers shape) zeroed) (bound_to v) (bound_to v) (created_same shape zeroed g) (λ k. bound_same v k)).alike at fits
 
-  pub begins_same : (v : Variable) (shape : Shape) (zeroed : Bool) → ShapeOf seen.shared shape.cells → S (begins v shape zeroed) (begins v (shape_with seen.numbers shape) zeroed)
+  pub begins_same : (v : Variable) (shape : Shape) (zeroed : Bool) → ShapeOf seen.held shape.cells → S (begins v shape zeroed) (begins v (shape_with seen.numbers shape) zeroed)
   begins_same v shape zeroed g = record {
     alike = λ at fits.
         subst (λ b. Alike seen {A = Unit {0}} (begins v shape zeroed at) (if b then absurdity (other seen at) else (created (shape_with seen.numbers shape) zeroed >>= bound_to v) (other seen at))) (sym (begun_same v at))
@@ -247,10 +247,10 @@ module _ (seen : Comparison) where
   changed_alike at scope after twin fits e = subst (λ them. Alike seen (Gives (tt {0}) (record at { scope = scope; memory = after })) (Gives (tt {0}) (record at { scope = scope; memory = them }))) (sym e) (both_give fits)
 
   pub ends_same : (v : Variable) → S (ends v) (ends v)
-  ends_same v = block_same v _ _ (λ k. record { alike = λ at fits. changed_alike at _ _ _ (ended_of seen.shared at.memory k fits) (mem.ended_with seen at.memory k) })
+  ends_same v = block_same v _ _ (λ k. record { alike = λ at fits. changed_alike at _ _ _ (ended_of seen.held at.memory k fits) (mem.ended_with seen at.memory k) })
 
   pub seals_same : (v : Variable) → S (seals v) (seals v)
-  seals_same v = block_same v _ _ (λ k. record { alike = λ at fits. changed_alike at _ _ _ (sealed_of seen.shared at.memory k fits) (mem.sealed_with seen at.memory k) })
+  seals_same v = block_same v _ _ (λ k. record { alike = λ at fits. changed_alike at _ _ _ (sealed_of seen.held at.memory k fits) (mem.sealed_with seen at.memory k) })
 
   took_by : (name : List ℕ) (x : Option (ℤ × List Left)) (at : At) → Fits seen at.memory → Alike seen (took name at x) (took name (other seen at) x)
   took_by name None at fits = both_end
@@ -264,27 +264,27 @@ module _ (seen : Comparison) where
   pub scope_same : (scope : List Bound) → S (with_scope scope) (with_scope scope)
   scope_same scope = record { alike = λ at fits. both_give fits }
 
-  -- the cells of all of these shapes have such types
-  abbrev pub ShapesOf : List Shape → Type 0
-  ShapesOf shapes = AllByRecursion (λ (shape : Shape). ShapeOf seen.shared shape.cells) shapes
+  -- the cells of all of these shapes meet alike, and memory may have them
+  abbrev pub ShapesFit : List Shape → Type 0
+  ShapesFit shapes = AllByRecursion (λ (shape : Shape). ShapeFits seen shape.cells) shapes
 
   abbrev pub shapes_other : List Shape → List Shape
   shapes_other shapes = map (shape_with seen.numbers) shapes
 
-  pub begin_parameters_same : (k : ℕ) (shapes : List Shape) → ShapesOf shapes → S (begin_parameters k shapes) (begin_parameters k (shapes_other shapes))
+  pub begin_parameters_same : (k : ℕ) (shapes : List Shape) → ShapesFit shapes → S (begin_parameters k shapes) (begin_parameters k (shapes_other shapes))
   begin_parameters_same k [] h = gives_same seen tt
-  begin_parameters_same k (shape ∷ shapes) h = then_same seen _ _ _ _ (begins_same (Parameter k) shape false h.0) (λ _. begin_parameters_same (suc k) shapes h.1)
+  begin_parameters_same k (shape ∷ shapes) h = then_same seen _ _ _ _ (begins_same (Parameter k) shape false h.0.0) (λ _. begin_parameters_same (suc k) shapes h.1)
 
   pub end_parameters_same : (k : ℕ) (shapes : List Shape) → S (end_parameters k shapes) (end_parameters k (shapes_other shapes))
   end_parameters_same k [] = gives_same seen tt
   end_parameters_same k (shape ∷ shapes) = then_same seen _ _ _ _ (end_parameters_same (suc k) shapes) (λ _. ends_same (Parameter k))
 
-  store_one_same : (m : DataModel) (k : ℕ) (cells : List ShapeCell) (c : Content) → ShapeOf seen.shared cells → S (store_one m k cells c) (store_one m k (map (shape_cell_with seen.numbers) cells) c)
+  store_one_same : (m : DataModel) (k : ℕ) (cells : List ShapeCell) (c : Content) → ShapeMeets seen cells → S (store_one m k cells c) (store_one m k (map (shape_cell_with seen.numbers) cells) c)
   store_one_same m k [] c h = over_same seen _ Stopped
   store_one_same m k (cell ∷ cells) c h =
-      then_same seen _ _ _ _ (used_same c) (λ it. then_same seen _ _ _ _ (place_same (Parameter k)) (λ p. then_same seen _ _ _ _ (stored_same false m p it untouched (cell_meets seen cell.ty h.0)) (λ _. gives_same seen tt)))
+      then_same seen _ _ _ _ (used_same c) (λ it. then_same seen _ _ _ _ (place_same (Parameter k)) (λ p. then_same seen _ _ _ _ (stored_same false m p it untouched h.0) (λ _. gives_same seen tt)))
 
-  pub store_parameters_same : (m : DataModel) (k : ℕ) (shapes : List Shape) (cs : List Content) → ShapesOf shapes → S (store_parameters m k shapes cs) (store_parameters m k (shapes_other shapes) cs)
+  pub store_parameters_same : (m : DataModel) (k : ℕ) (shapes : List Shape) (cs : List Content) → ShapesFit shapes → S (store_parameters m k shapes cs) (store_parameters m k (shapes_other shapes) cs)
   store_parameters_same m k [] cs h = gives_same seen tt
   store_parameters_same m k (shape ∷ shapes) [] h = gives_same seen tt
-  store_parameters_same m k (shape ∷ shapes) (c ∷ cs) h = then_same seen _ _ _ _ (store_one_same m k shape.cells c h.0) (λ _. store_parameters_same m (suc k) shapes cs h.1)
+  store_parameters_same m k (shape ∷ shapes) (c ∷ cs) h = then_same seen _ _ _ _ (store_one_same m k shape.cells c h.0.1) (λ _. store_parameters_same m (suc k) shapes cs h.1)

@@ -3,6 +3,7 @@ use Rattle.std.proofs.Common.{◌≡◌, ℕ, ℤ, pos, zero, suc, List, [], ◌
 use Rattle.std.proofs.lemmas.List.{length-map}
 use Rattle.std.proofs.lemmas.List.Sums.{sum_by-cons}
 use Rattle.std.specs.Prelude.{◌==◌, ◌+◌, ◌+ℤ◌, ◌*ℤ◌, ◌&&◌, nat_le, if◌then◌else◌, Result, Ok, Err, slice_get, slice_set}
+use Rattle.std.specs.List.{AllByRecursion}
 use Rattle.lt_model.specs.declared.cell.Address.{Address}
 use Rattle.lt_model.specs.declared.cell.CellType.{CellType}
 use Rattle.lt_model.specs.declared.cell.CellType.TheVariants.{Num, Pointer}
@@ -23,11 +24,10 @@ use Rattle.lt_type_laws.specs.Renumbered.{cell_type_with, cell_with, block_with,
 use Rattle.lt_type_laws.specs.TypeLists.{is_of}
 use Rattle.lt_type_laws.proofs.Cells.{CellsOf, MemoryOf, ShapeOf, object_of, with_held_of}
 
--- which numbers types have in the other memory, and which of them are shared; no two of these have the same
+-- which numbers types have in the other memory, and which numbers cells may have in the first
 pub record Comparison : Type 0 where
   pub numbers : ℕ → ℕ
-  pub shared : ℕ → Bool
-  pub apart : (m n : ℕ) → shared m ≡ true → shared n ≡ true → numbers m ≡ numbers n → m ≡ n
+  pub held : ℕ → Bool
 
 abbrev pub result_with : {A B : Type 0} → (A → B) → Result A Ub → Result B Ub
 result_with f (Ok a) = Ok (f a)
@@ -57,16 +57,16 @@ module _ (seen : Comparison) where
   cells_other cells = map (cell_with seen.numbers) cells
 
   abbrev pub Fits : Memory → Type 0
-  Fits memory = MemoryOf seen.shared memory
+  Fits memory = MemoryOf seen.held memory
 
   -- ---- accesses that meet alike
 
   -- an access of the second type meets the cells, renumbered, that one of the first meets
   pub data MeetAlike : CellType → CellType → Type 0 where
     numbers : {s : Scalar} → MeetAlike (Num s) (Num s)
-    pointers : {p q : ℕ} → ((k : ℕ) → seen.shared k ≡ true → (q == seen.numbers k) ≡ (p == k)) → MeetAlike (Pointer p) (Pointer q)
+    pointers : {p q : ℕ} → ((k : ℕ) → seen.held k ≡ true → (q == seen.numbers k) ≡ (p == k)) → MeetAlike (Pointer p) (Pointer q)
 
-  pub meets : {ty other : CellType} → MeetAlike ty other → (c : CellType) → is_of seen.shared c ≡ true → corresponds other (cell_type_with seen.numbers c) ≡ corresponds ty c
+  pub meets : {ty other : CellType} → MeetAlike ty other → (c : CellType) → is_of seen.held c ≡ true → corresponds other (cell_type_with seen.numbers c) ≡ corresponds ty c
   meets numbers (Num s) h = refl
   meets numbers (Pointer k) h = refl
   meets (pointers f) (Num s) h = refl
@@ -82,10 +82,13 @@ module _ (seen : Comparison) where
   pub same_tests : (i j m k : ℕ) → (i ≡ j → m ≡ k) → (m ≡ k → i ≡ j) → (i == j) ≡ (m == k)
   same_tests i j m k f g = tests_by (i == j) (m == k) i j m k refl refl f g
 
-  -- a cell's type meets as it does renumbered
-  pub cell_meets : (c : CellType) → is_of seen.shared c ≡ true → MeetAlike c (cell_type_with seen.numbers c)
-  cell_meets (Num s) h = numbers
-  cell_meets (Pointer m) h = pointers (λ k l. same_tests (seen.numbers m) (seen.numbers k) m k (seen.apart m k h l) (ap seen.numbers))
+  -- accesses by the types of these cells meet as they do renumbered
+  abbrev pub ShapeMeets : List ShapeCell → Type 0
+  ShapeMeets cells = AllByRecursion (λ (cell : ShapeCell). MeetAlike cell.ty (cell_type_with seen.numbers cell.ty)) cells
+
+  -- so they do, and memory may have these cells
+  abbrev pub ShapeFits : List ShapeCell → Type 0
+  ShapeFits cells = ShapeOf seen.held cells × ShapeMeets cells
 
   pub as_type_alike : (model : DataModel) (c : Content) {ty other : CellType} → MeetAlike ty other → as_type model other c ≡ as_type model ty c
   as_type_alike model c numbers = refl
@@ -107,17 +110,17 @@ module _ (seen : Comparison) where
 
   -- ---- cells
 
-  pub held_with : (cells : List StoredCell) (offset : ℕ) {ty other : CellType} → MeetAlike ty other → CellsOf seen.shared cells → held_at (cells_other cells) offset other ≡ held_at cells offset ty
+  pub held_with : (cells : List StoredCell) (offset : ℕ) {ty other : CellType} → MeetAlike ty other → CellsOf seen.held cells → held_at (cells_other cells) offset other ≡ held_at cells offset ty
   held_with [] offset d h = refl
   held_with (c ∷ cs) offset {ty} {other} d h =
       ap (λ b. if c.offset == offset && b then ok c.holds else held_at (cells_other cs) offset other) (meets d c.ty h.0)
       ∙ ap (λ rest. if c.offset == offset && corresponds ty c.ty then ok c.holds else rest) (held_with cs offset d h.1)
 
-  before_with : (c : StoredCell) (x : Result (List StoredCell) Ub) → before_cells (cell_with seen.numbers c) (result_with cells_other x) ≡ result_with cells_other (before_cells c x)
+  pub before_with : (c : StoredCell) (x : Result (List StoredCell) Ub) → before_cells (cell_with seen.numbers c) (result_with cells_other x) ≡ result_with cells_other (before_cells c x)
   before_with c (Ok cells) = refl
   before_with c (Err kind) = refl
 
-  pub with_held_with : (model : DataModel) (cells : List StoredCell) (offset : ℕ) {ty other : CellType} (x : Content) → MeetAlike ty other → CellsOf seen.shared cells
+  pub with_held_with : (model : DataModel) (cells : List StoredCell) (offset : ℕ) {ty other : CellType} (x : Content) → MeetAlike ty other → CellsOf seen.held cells
       → with_held model (cells_other cells) offset other x ≡ result_with cells_other (with_held model cells offset ty x)
   with_held_with model [] offset x d h = refl
   with_held_with model (c ∷ cs) offset {ty} {other} x d h =
@@ -130,22 +133,22 @@ module _ (seen : Comparison) where
       by true g = ap (λ held. ok (record { offset = c.offset; ty = cell_type_with seen.numbers c.ty; holds = held } ∷ cells_other cs)) (as_type_with model c.ty x)
       by false g = ap (before_cells (cell_with seen.numbers c)) g ∙ before_with c (with_held model cs offset ty x)
 
-  gathered_with : (cells : List StoredCell) (base : ℕ) (shape : List ShapeCell) → ShapeOf seen.shared shape → CellsOf seen.shared cells
+  gathered_with : (cells : List StoredCell) (base : ℕ) (shape : List ShapeCell) → ShapeMeets shape → CellsOf seen.held cells
       → gathered (cells_other cells) base (map (shape_cell_with seen.numbers) shape) ≡ gathered cells base shape
   gathered_with cells base [] g h = refl
   gathered_with cells base (c ∷ rest) g h =
-      ap (λ x. then_result x (λ held. then_result (gathered (cells_other cells) base (map (shape_cell_with seen.numbers) rest)) (λ others. ok (held ∷ others)))) (held_with cells (base + c.offset) (cell_meets c.ty g.0) h)
+      ap (λ x. then_result x (λ held. then_result (gathered (cells_other cells) base (map (shape_cell_with seen.numbers) rest)) (λ others. ok (held ∷ others)))) (held_with cells (base + c.offset) g.0 h)
       ∙ ap (λ x. then_result (held_at cells (base + c.offset) c.ty) (λ held. then_result x (λ others. ok (held ∷ others)))) (gathered_with cells base rest g.1 h)
 
-  scattered_with : (model : DataModel) (cells : List StoredCell) (base : ℕ) (shape : List ShapeCell) (contents : List Content) → ShapeOf seen.shared shape → CellsOf seen.shared cells
+  scattered_with : (model : DataModel) (cells : List StoredCell) (base : ℕ) (shape : List ShapeCell) (contents : List Content) → ShapeMeets shape → CellsOf seen.held cells
       → scattered model (cells_other cells) base (map (shape_cell_with seen.numbers) shape) contents ≡ result_with cells_other (scattered model cells base shape contents)
   scattered_with model cells base [] contents g h = refl
   scattered_with model cells base (c ∷ rest) [] g h = refl
   scattered_with model cells base (c ∷ rest) (x ∷ others) g h =
       then_with (with_held model cells (base + c.offset) c.ty x) (with_held model (cells_other cells) (base + c.offset) (cell_type_with seen.numbers c.ty) x)
       (λ after. scattered model after base rest others) (λ after. scattered model after base (map (shape_cell_with seen.numbers) rest) others)
-      cells_other cells_other (with_held_with model cells (base + c.offset) x (cell_meets c.ty g.0) h)
-      (λ after e. scattered_with model after base rest others g.1 (with_held_of seen.shared model cells after (base + c.offset) c.ty x e h))
+      cells_other cells_other (with_held_with model cells (base + c.offset) x g.0 h)
+      (λ after e. scattered_with model after base rest others g.1 (with_held_of seen.held model cells after (base + c.offset) c.ty x e h))
 
   -- ---- blocks
 
@@ -202,7 +205,7 @@ module _ (seen : Comparison) where
       (λ block. then_result (held_at block.cells (offset_of a) other) (λ held. then_result (usable (memory_with seen.numbers memory) held) (λ used. ok (as_type model other used))))
       (block_with seen.numbers) (object_with memory a)
       (λ block e.
-      ap (λ x. then_result x (λ held. then_result (usable (memory_with seen.numbers memory) held) (λ used. ok (as_type model other used)))) (held_with block.cells (offset_of a) d (object_of seen.shared memory a block e h))
+      ap (λ x. then_result x (λ held. then_result (usable (memory_with seen.numbers memory) held) (λ used. ok (as_type model other used)))) (held_with block.cells (offset_of a) d (object_of seen.held memory a block e h))
       ∙ used_by (held_at block.cells (offset_of a) ty))
     where
       as_used : (x : Result Content Ub) → then_result x (λ used. ok (as_type model other used)) ≡ then_result x (λ used. ok (as_type model ty used))
@@ -248,10 +251,12 @@ module _ (seen : Comparison) where
   written_with true memory other e = ap ok e
   written_with false memory other e = refl
 
-  pub store_with : (model : DataModel) (memory : Memory) (a : Option Address) {ty other : CellType} (x : Content) → MeetAlike ty other → Fits memory
+  -- what is stored in a living block is stored alike
+  pub store_by : (model : DataModel) (memory : Memory) (a : Option Address) (ty other : CellType) (x : Content)
+      → ((block : Block) → object_at memory a ≡ ok block → with_held model (cells_other block.cells) (offset_of a) other x ≡ result_with cells_other (with_held model block.cells (offset_of a) ty x))
       → store model (memory_with seen.numbers memory) a other x ≡ result_with (memory_with seen.numbers) (store model memory a ty x)
   unfolding store
-  store_with model memory a {ty} {other} x d h =
+  store_by model memory a ty other x h =
       then_with (object_at memory a) (object_at (memory_with seen.numbers memory) a)
       (λ block. then_result (with_held model block.cells (offset_of a) ty x) (λ cells. if block.writable then ok (replaced memory a block cells) else Err U.Sealed))
       (λ block. then_result (with_held model block.cells (offset_of a) other x) (λ cells. if block.writable then ok (replaced (memory_with seen.numbers memory) a block cells) else Err U.Sealed))
@@ -260,10 +265,14 @@ module _ (seen : Comparison) where
       then_with (with_held model block.cells (offset_of a) ty x) (with_held model (cells_other block.cells) (offset_of a) other x)
       (λ cells. if block.writable then ok (replaced memory a block cells) else Err U.Sealed)
       (λ cells. if block.writable then ok (replaced (memory_with seen.numbers memory) a (block_with seen.numbers block) cells) else Err U.Sealed)
-      cells_other (memory_with seen.numbers) (with_held_with model block.cells (offset_of a) x d (object_of seen.shared memory a block e h))
+      cells_other (memory_with seen.numbers) (h block e)
       (λ cells e. written_with block.writable (replaced memory a block cells) (replaced (memory_with seen.numbers memory) a (block_with seen.numbers block) (cells_other cells)) (replaced_with memory a block cells)))
 
-  pub copy_with : (model : DataModel) (memory : Memory) (to from : Option Address) (shape : Shape) → ShapeOf seen.shared shape.cells → Fits memory
+  pub store_with : (model : DataModel) (memory : Memory) (a : Option Address) {ty other : CellType} (x : Content) → MeetAlike ty other → Fits memory
+      → store model (memory_with seen.numbers memory) a other x ≡ result_with (memory_with seen.numbers) (store model memory a ty x)
+  store_with model memory a {ty} {other} x d h = store_by model memory a ty other x (λ block e. with_held_with model block.cells (offset_of a) x d (object_of seen.held memory a block e h))
+
+  pub copy_with : (model : DataModel) (memory : Memory) (to from : Option Address) (shape : Shape) → ShapeMeets shape.cells → Fits memory
       → copy_struct model (memory_with seen.numbers memory) to from (shape_with seen.numbers shape) ≡ result_with (memory_with seen.numbers) (copy_struct model memory to from shape)
   unfolding copy_struct
   copy_with model memory to from shape g h =
@@ -290,9 +299,9 @@ module _ (seen : Comparison) where
       (λ contents. then_result (scattered model target.cells (offset_of to) shape.cells contents) (end target))
       (λ contents. then_result (scattered model (cells_other target.cells) (offset_of to) cells' contents) (end' (block_with seen.numbers target)))
       (λ contents. contents) (memory_with seen.numbers)
-      (gathered_with source.cells (offset_of from) shape.cells g (object_of seen.shared memory from source e2 h) ∙ as_it_was (gathered source.cells (offset_of from) shape.cells))
+      (gathered_with source.cells (offset_of from) shape.cells g (object_of seen.held memory from source e2 h) ∙ as_it_was (gathered source.cells (offset_of from) shape.cells))
       (λ contents e3. then_with (scattered model target.cells (offset_of to) shape.cells contents) (scattered model (cells_other target.cells) (offset_of to) cells' contents) (end target) (end' (block_with seen.numbers target)) cells_other (memory_with seen.numbers)
-      (scattered_with model target.cells (offset_of to) shape.cells contents g (object_of seen.shared memory to target e1 h))
+      (scattered_with model target.cells (offset_of to) shape.cells contents g (object_of seen.held memory to target e1 h))
       (λ cells e4. written_with target.writable (replaced memory to target cells) (replaced (memory_with seen.numbers memory) to (block_with seen.numbers target) (cells_other cells)) (replaced_with memory to target cells)))))))
     where
       as_it_was : {A : Type 0} (x : Result A Ub) → x ≡ result_with (λ a. a) x
@@ -355,7 +364,7 @@ module _ (seen : Comparison) where
   is_met_with memory a {ty} {other} d h =
       ap (λ (x : Result Content Ub). elim (x) as (λ _. Bool) [ Ok held ↦ true | Err kind ↦ false ])
       (then_as (object_at memory a) (object_at (memory_with seen.numbers memory) a) (λ block. held_at block.cells (offset_of a) ty) (λ block. held_at block.cells (offset_of a) other) (block_with seen.numbers) (object_with memory a)
-      (λ block e. held_with block.cells (offset_of a) d (object_of seen.shared memory a block e h)))
+      (λ block e. held_with block.cells (offset_of a) d (object_of seen.held memory a block e h)))
 
   -- the cells of two accesses, each of which meets alike
   pub data CellsMeetAlike : List ShapeCell → List ShapeCell → Type 0 where
@@ -363,9 +372,9 @@ module _ (seen : Comparison) where
     a_cell : {offset : ℕ} {ty other : CellType} {cells others : List ShapeCell} → MeetAlike ty other → CellsMeetAlike cells others
         → CellsMeetAlike (record { offset = offset; ty = ty } ∷ cells) (record { offset = offset; ty = other } ∷ others)
 
-  pub shape_meets : (cells : List ShapeCell) → ShapeOf seen.shared cells → CellsMeetAlike cells (map (shape_cell_with seen.numbers) cells)
+  pub shape_meets : (cells : List ShapeCell) → ShapeMeets cells → CellsMeetAlike cells (map (shape_cell_with seen.numbers) cells)
   shape_meets [] h = no_cells
-  shape_meets (c ∷ cs) h = a_cell (cell_meets c.ty h.0) (shape_meets cs h.1)
+  shape_meets (c ∷ cs) h = a_cell h.0 (shape_meets cs h.1)
 
   pub met_with : (memory : Memory) (a : Option Address) {cells others : List ShapeCell} → CellsMeetAlike cells others → Fits memory → cells_met others a (memory_with seen.numbers memory) ≡ cells_met cells a memory
   met_with memory a no_cells h = refl

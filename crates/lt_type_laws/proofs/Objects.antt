@@ -20,10 +20,10 @@ use Rattle.lt_meaning.specs.Statements.{parts_in}
 use Rattle.lt_meaning.specs.Runs.{name_in_files, fixed_content, fixed_in, letters_in, part_in, all_parts_in, initial, initials}
 use Rattle.lt_type_laws.specs.Renumbered.{cell_type_with, cell_with, shape_with}
 use Rattle.lt_type_laws.proofs.Memory.{Comparison, as_type_with, new_with}
-use Rattle.lt_type_laws.proofs.Programs.{HasShape, IsAlike}
-use Rattle.lt_type_laws.proofs.Starting.{static_with, StaticsOf}
+use Rattle.lt_type_laws.proofs.Programs.{HasShape}
+use Rattle.lt_type_laws.proofs.Roots.{static_with, StaticsFit}
 
-module _ (seen : Comparison) (P : Program) (ts : List CType) (program_alike : IsAlike seen P ts) where
+module _ (seen : Comparison) (P : Program) (ts : List CType) where
   abbrev Q : Program
   Q = record P { types = ts }
 
@@ -87,10 +87,10 @@ module _ (seen : Comparison) (P : Program) (ts : List CType) (program_alike : Is
   initials_same [] h = refl
   initials_same (object ∷ objects) h = initials_by (is_static object.life) object (initials P objects) (initials Q objects) h.0 (initials_same objects h.1)
 
-  fit_by : (b : Bool) (object : Object) (its : List Static) → HasShape seen P ts object.type → StaticsOf seen its → StaticsOf seen (if b then initial P object ∷ its else its)
+  fit_by : (b : Bool) (object : Object) (its : List Static) → HasShape seen P ts object.type → StaticsFit seen its → StaticsFit seen (if b then initial P object ∷ its else its)
   fit_by true object its h g = (h.1, g)
   fit_by false object its h g = g
 
-  pub initials_fit : (objects : List Object) → AllByRecursion (λ (object : Object). HasShape seen P ts object.type) objects → StaticsOf seen (initials P objects)
+  pub initials_fit : (objects : List Object) → AllByRecursion (λ (object : Object). HasShape seen P ts object.type) objects → StaticsFit seen (initials P objects)
   initials_fit [] h = tt
   initials_fit (object ∷ objects) h = fit_by (is_static object.life) object (initials P objects) h.0 (initials_fit objects h.1)

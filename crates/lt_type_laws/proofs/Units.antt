@@ -8,16 +8,14 @@ use Rattle.lt_tree.specs.Tree as c
 use Rattle.lt_tree.specs.Typing.Types.{CType, bare, same}
 use Rattle.lt_tree.specs.Typing.Extents.{StructType, Member}
 use Rattle.lt_tree.specs.Typing.Entities.{Object, Declared, Fact}
-use Rattle.lt_tree.specs.Typing.Shapes.{place_among}
 use Rattle.lt_tree.specs.Typing.Rules.{Rule}
 use Rattle.lt_tree.specs.Typing.Steps.{Outcome, Goes, Breaks}
 use Rattle.lt_tree.specs.Typing.UnitTyping.{answer, typing_to}
 use Rattle.lt_tree.specs.Typing.Programs.{Program, typed, broken, made_of, types_of_struct}
-use Rattle.lt_type_laws.specs.TypeLists.{HasItsTypes, KnowsTypesOf, is_shared, types_of}
-use Rattle.lt_type_laws.specs.Laws.{UnitsHaveTheirTypes, KnownTypesAreListed, ProgramsAreRenumbered, ProgramsShareTypes}
+use Rattle.lt_type_laws.specs.TypeLists.{AreAmong, HasItsTypes, HasTypesOfObjects, KnowsTypesOf, types_of}
+use Rattle.lt_type_laws.specs.Laws.{UnitsHaveTheirTypes, KnownTypesAreListed, ProgramsAreRenumbered}
 use Rattle.lt_type_laws.proofs.Equal.{same_exact}
 use Rattle.lt_type_laws.proofs.Places.{types_renumbered}
-use Rattle.lt_type_laws.proofs.Sharing.{numbers_shared, listed_shared}
 use Rattle.lt_type_laws.proofs.Listed.{or_first, or_second, first_listed, second_listed, new_listed, each_from, own_listed, IsClosed, none_closed, closed_both, made_closed, each_closed}
 
 -- ---- programs of units
@@ -157,6 +155,26 @@ known_there t p q there h g =
     (λ f. declared_listed t q there (ap (λ (them : List Declared). list_any (same t) (flat_map (λ (f : Declared). made_of f.type) them)) h.declared ∙ f))
     (λ f. facts_there t q there p.facts h.facts f)
 
+-- ---- types of both lists
+
+module _ (p q : Program) (here : HasItsTypes p) (there : HasItsTypes q) (h : HasTypesOfObjects p q) where
+  abbrev InBoth : List CType → Type 0
+  InBoth types = AreAmong p.types types × AreAmong q.types types
+
+  all_in_both : {A : Type 0} (made : A → List CType) (xs : List A) → AllByRecursion (λ (x : A). AreAmong p.types (made x)) xs → AllByRecursion (λ (x : A). AreAmong q.types (made x)) xs → AllByRecursion (λ (x : A). InBoth (made x)) xs
+  all_in_both made [] f g = tt
+  all_in_both made (x ∷ xs) f g = ((f.0, g.0), all_in_both made xs f.1 g.1)
+
+  pub objects_in_both : AllByRecursion (λ (object : Object). InBoth (made_of object.type)) p.objects
+  objects_in_both =
+      all_in_both (λ (object : Object). made_of object.type) p.objects (each_from (λ t. list_any (same t) p.types ≡ true) (λ (object : Object). made_of object.type) p.objects (λ t g. objects_listed t p here g))
+      (each_from (λ t. list_any (same t) q.types ≡ true) (λ (object : Object). made_of object.type) p.objects (λ t g. objects_listed t q there (objects_there t q.objects p.objects h.objects g)))
+
+  pub members_in_both : AllByRecursion (λ (it : StructType). InBoth (types_of_struct it)) p.structs
+  members_in_both =
+      all_in_both types_of_struct p.structs (each_from (λ t. list_any (same t) p.types ≡ true) types_of_struct p.structs (λ t g. structs_listed t p here g))
+      (each_from (λ t. list_any (same t) q.types ≡ true) types_of_struct p.structs (λ t g. structs_listed t q there (ap (λ them. list_any (same t) (flat_map types_of_struct them)) h.structs ∙ g)))
+
 -- ---- the laws
 
 pub known_listed : KnownTypesAreListed
@@ -168,14 +186,4 @@ programs_renumbered p q here there h = record {
   numbers = types_renumbered p.types q.types (types_of p) (types_of q) here there (λ t g. known_there t p q there h (sym (in_list t p here) ∙ g));
   objects = each_from (λ t. list_any (same t) p.types ≡ true) (λ (object : Object). made_of object.type) p.objects (λ t g. objects_listed t p here g);
   members = each_from (λ t. list_any (same t) p.types ≡ true) types_of_struct p.structs (λ t g. structs_listed t p here g);
-}
-
-pub programs_share : ProgramsShareTypes
-programs_share p q here there h = record {
-  but_for_types = refl;
-  numbers = numbers_shared p.types q.types (types_of p) here;
-  objects = each_from (λ t. is_shared p.types q.types (place_among 0 t p.types) ≡ true) (λ (object : Object). made_of object.type) p.objects
-      (λ t g. listed_shared p.types q.types t (objects_listed t p here g) (objects_listed t q there (objects_there t q.objects p.objects h.objects g)));
-  members = each_from (λ t. is_shared p.types q.types (place_among 0 t p.types) ≡ true) types_of_struct p.structs
-      (λ t g. listed_shared p.types q.types t (structs_listed t p here g) (structs_listed t q there (ap (λ them. list_any (same t) (flat_map types_of_struct them)) h.structs ∙ g)));
 }

@@ -1,14 +1,13 @@
 -- The types by which the code of a typed program gets at memory: of what is loaded, stored and stepped.
 use Rattle.std.specs.Prelude.{◌≡◌, Bool, true, List, [], ◌∷◌, Option, Some, None}
 use Rattle.std.specs.List.{list_any}
-use Rattle.lt_tree.specs.Typing.Types.{CType, Num, Struct, Qualified, bare, same}
+use Rattle.lt_tree.specs.Typing.Types.{CType, Num, Qualified, bare, same}
 use Rattle.lt_tree.specs.Typing.TypedTree as e
 use Rattle.lt_tree.specs.Typing.TypedTree.{Value, Values, Place, Marks, Mark, Bindings, Start, StartPart, Local, Statement, Items, Cases, type_of}
 
--- a type's name in memory's cells is that of a number, or it is in a list; a struct is copied cell by cell
+-- a type's name in memory's cells is that of a number, or it is in a list
 abbrev pub is_named_in : List CType → CType → Bool
 is_named_in types (Num s) = true
-is_named_in types (Struct k) = true
 is_named_in types (Qualified q t) = is_named_in types t
 is_named_in types t = list_any (same (bare t)) types
 

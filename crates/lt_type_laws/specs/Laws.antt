@@ -1,5 +1,5 @@
 -- That numbers of types change nothing.
-use Rattle.std.specs.Prelude.{◌≡◌, ℕ, Bool, true, List, [], length, slice_get, Some}
+use Rattle.std.specs.Prelude.{◌≡◌, ℕ, true, List, [], length, slice_get, Some}
 use Rattle.std.specs.List.{AllByRecursion, list_any}
 use Rattle.lt_model.specs.declared.scalar.DataModel.{DataModel}
 use Rattle.lt_model.specs.declared.input.Input.{Input}
@@ -12,7 +12,7 @@ use Rattle.lt_tree.specs.Typing.Programs.{Program, made_of, types_of_struct, wit
 use Rattle.lt_meaning.specs.Runs.{run}
 use Rattle.lt_type_laws.specs.Accesses.{is_named_in, AccessesItems}
 use Rattle.lt_type_laws.specs.Renumbered.{input_with, over_with}
-use Rattle.lt_type_laws.specs.TypeLists.{AreAmong, Renumbers, HaveNumbers, HasOtherTypes, AreBelow, SharesTypes, AreOf, numbers_in, is_shared, HasItsTypes, HasTypesOfObjects, KnowsTypesOf}
+use Rattle.lt_type_laws.specs.TypeLists.{AreAmong, Renumbers, HaveNumbers, HasOtherTypes, AreBelow, numbers_in, HasItsTypes, KnowsTypesOf}
 
 -- A program with another list of types runs alike, where memory's cells have the numbers of that list.
 abbrev pub OtherTypesChangeNothing : Type 0
@@ -20,17 +20,15 @@ OtherTypesChangeNothing =
     (r : ℕ → ℕ) (p q : Program) (f : Function) (input : Input) (ticks : ℕ) → HasOtherTypes r p q → AreBelow (length p.types) input.blocks
     → run q f (input_with r input) ticks ≡ over_with r (run p f input ticks)
 
--- So does one whose list shares some types with the first one's, on inputs whose cells have integer types or these.
-abbrev pub SharedTypesChangeNothing : Type 0
-SharedTypesChangeNothing =
-    (shared : ℕ → Bool) (r : ℕ → ℕ) (p q : Program) (f : Function) (input : Input) (ticks : ℕ) → SharesTypes shared r p q → AreOf shared input.blocks
-    → run q f (input_with r input) ticks ≡ over_with r (run p f input ticks)
-
 -- Where each type of a list is in another, and both have each type once, the types of the first have numbers in the second.
 abbrev pub TypesAreRenumbered : Type 0
 TypesAreRenumbered =
     (types others ts us : List CType) → types ≡ with_new [] ts → others ≡ with_new [] us
     → ((t : CType) → list_any (same t) types ≡ true → list_any (same t) others ≡ true) → HaveNumbers (numbers_in types others) types others
+
+-- The types of both lists have numbers in the second, where both have each type once.
+abbrev pub ListsHaveNumbers : Type 0
+ListsHaveNumbers = (types others ts us : List CType) → types ≡ with_new [] ts → others ≡ with_new [] us → Renumbers (numbers_in types others) types others
 
 -- The list of types of a unit's program is of the types of members, objects, functions and expressions, each once.
 abbrev pub UnitsHaveTheirTypes : Type 0
@@ -43,12 +41,6 @@ KnownTypesAreListed = (p : Program) → HasItsTypes p → (t : CType) → list_a
 -- A program has another list of types if it gets that of a program which knows its types.
 abbrev pub ProgramsAreRenumbered : Type 0
 ProgramsAreRenumbered = (p q : Program) → HasItsTypes p → HasItsTypes q → KnowsTypesOf p q → HasOtherTypes (numbers_in p.types q.types) p (record p { types = q.types })
-
--- It shares the types of both lists with that of any program with the same structs and, among its objects, some of the same types.
-abbrev pub ProgramsShareTypes : Type 0
-ProgramsShareTypes =
-    (p q : Program) → HasItsTypes p → HasItsTypes q → HasTypesOfObjects p q
-    → SharesTypes (is_shared p.types q.types) (numbers_in p.types q.types) p (record p { types = q.types })
 
 -- each type by which functions of a program get at memory is named in a list
 abbrev pub FunctionsAccess : List CType → List Function → Type 0

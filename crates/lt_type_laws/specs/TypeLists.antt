@@ -1,12 +1,12 @@
 -- Programs that are the same but for their lists of types: the number of a pointer's type is its place in the list, and memory has it in its cells. What isn't
--- in the list has its length as the number, which no cell has.
-use Rattle.std.specs.Prelude.{◌≡◌, ◌<◌, ℕ, Bool, true, false, ◌&&◌, nat_lt, List, [], ◌++◌, length, slice_index_or}
+-- in the list has its length as the number.
+use Rattle.std.specs.Prelude.{◌≡◌, ◌<◌, ℕ, Bool, true, false, nat_lt, List, [], ◌++◌, length, Some, None, slice_get}
 use Rattle.std.specs.List.{AllByRecursion, flat_map, list_any}
 use Rattle.lt_model.specs.declared.cell.CellType.{CellType}
 use Rattle.lt_model.specs.declared.cell.CellType.TheVariants.{Num, Pointer}
 use Rattle.lt_model.specs.declared.cell.ShapeCell.{ShapeCell}
 use Rattle.lt_model.specs.declared.input.BlockIn.{BlockIn}
-use Rattle.lt_tree.specs.Typing.Types.{CType, Void, bare, same}
+use Rattle.lt_tree.specs.Typing.Types.{CType, bare, same}
 use Rattle.lt_tree.specs.Typing.Extents.{StructType}
 use Rattle.lt_tree.specs.Typing.Entities.{Object, Declared, Fact}
 use Rattle.lt_tree.specs.Typing.Shapes.{place_among}
@@ -45,24 +45,7 @@ pub record HasOtherTypes (r : ℕ → ℕ) (p q : Program) : Type 0 where
 abbrev pub AreBelow : ℕ → List BlockIn → Type 0
 AreBelow n blocks = AreOf (λ k. nat_lt k n) blocks
 
--- ---- lists that share some types
-
--- A type has a shared number in the first list exactly where it has in the second the number that r gives of that. No two of these are the same.
-pub record ShareNumbers (shared : ℕ → Bool) (r : ℕ → ℕ) (types others : List CType) : Type 0 where
-  pub apart : (m n : ℕ) → shared m ≡ true → shared n ≡ true → r m ≡ r n → m ≡ n
-  pub there : (t : CType) (n : ℕ) → shared n ≡ true → place_among 0 (bare t) types ≡ n → place_among 0 (bare t) others ≡ r n
-  pub back : (t : CType) (n : ℕ) → shared n ≡ true → place_among 0 (bare t) others ≡ r n → place_among 0 (bare t) types ≡ n
-
--- these types have shared numbers in a list
-abbrev pub AreShared : (ℕ → Bool) → List CType → List CType → Type 0
-AreShared shared types them = AllByRecursion (λ t. shared (place_among 0 t types) ≡ true) them
-
--- The second program is the first with another list of types. The lists share some types, among them those of which objects and members of structs are made.
-pub record SharesTypes (shared : ℕ → Bool) (r : ℕ → ℕ) (p q : Program) : Type 0 where
-  pub but_for_types : q ≡ record p { types = q.types }
-  pub numbers : ShareNumbers shared r p.types q.types
-  pub objects : AllByRecursion (λ (object : Object). AreShared shared p.types (made_of object.type)) p.objects
-  pub members : AllByRecursion (λ (it : StructType). AreShared shared p.types (types_of_struct it)) p.structs
+-- ---- lists that may both have some types
 
 -- The numbers that r gives: that of a type of both lists in the second list, of its number in the first, and of no other number.
 pub record Renumbers (r : ℕ → ℕ) (types others : List CType) : Type 0 where
@@ -71,13 +54,9 @@ pub record Renumbers (r : ℕ → ℕ) (types others : List CType) : Type 0 wher
 
 -- ---- lists of types of typed units
 
--- the numbers that the types of one list have in another, by their numbers in the first
+-- the numbers that the types of one list have in another, by their numbers in the first; what isn't the number of one becomes that of no type
 abbrev pub numbers_in : List CType → List CType → ℕ → ℕ
-numbers_in types others n = place_among 0 (slice_index_or types n Void) others
-
--- whether the type of a number in the first list is in the second too
-abbrev pub is_shared : List CType → List CType → ℕ → Bool
-is_shared types others n = nat_lt n (length types) && list_any (same (slice_index_or types n Void)) others
+numbers_in types others n = elim (slice_get types n) [ None ↦ length others | Some t ↦ place_among 0 t others ]
 
 -- the types of members, of objects, of functions and of expressions, each behind the types of which it is made
 abbrev pub types_of : Program → List CType

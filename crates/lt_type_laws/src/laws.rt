@@ -1,16 +1,11 @@
 //! Laws of the definitions; the functions do nothing.
 
-ghost use Rattle.lt_type_laws.specs.Laws.{KnownTypesAreListed, OtherTypesChangeNothing, ProgramsAreRenumbered, ProgramsShareTypes, SharedTypesChangeNothing, TypesAreRenumbered, UnitsHaveTheirTypes};
+ghost use Rattle.lt_type_laws.specs.Laws.{AccessedTypesChangeNothing, KnownTypesAreListed, ListsHaveNumbers, OtherTypesChangeNothing, ProgramsAreRenumbered, TypesAreRenumbered, UnitsHaveTheirTypes};
 
 /// A program with another list of types has the same end, ticks, values left and marks in each run, and the same memory
 /// but for the numbers of types in its cells.
 pub fn other_types_change_nothing()
     ensures { OtherTypesChangeNothing }
-{}
-
-/// So has one whose list shares some types with it, on inputs whose cells have these.
-pub fn shared_types_change_nothing()
-    ensures { SharedTypesChangeNothing }
 {}
 
 /// Where a list has each type of another, and both have each once, the types of that have numbers in it.
@@ -33,8 +28,13 @@ pub fn programs_are_renumbered()
     ensures { ProgramsAreRenumbered }
 {}
 
-/// A program with the list of types of one with the same structs, and objects of its types among others, shares the types
-/// that are in both.
-pub fn programs_share_types()
-    ensures { ProgramsShareTypes }
+/// Where two lists have each type once, the types of both have numbers in the second.
+pub fn lists_have_numbers()
+    ensures { ListsHaveNumbers }
+{}
+
+/// A program that gets at memory by types of two lists has the same end, ticks, values left and marks in each run with
+/// either, and the same memory but for the numbers of types in its cells, whatever numbers its input's cells have.
+pub fn accessed_types_change_nothing()
+    ensures { AccessedTypesChangeNothing }
 {}

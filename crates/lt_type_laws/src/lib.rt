@@ -4,7 +4,7 @@
 mod laws;
 
 pub use laws::{
-    known_types_are_listed, other_types_change_nothing, programs_are_renumbered,
-    programs_share_types, shared_types_change_nothing, types_are_renumbered,
+    accessed_types_change_nothing, known_types_are_listed, lists_have_numbers,
+    other_types_change_nothing, programs_are_renumbered, types_are_renumbered,
     units_have_their_types,
 };

@@ -13,19 +13,19 @@ loop-rest-init c = record {
 pub returns-then-not-branch : goal.returns-then-not-branch
 returns-then-not-branch c =
     let rest = c.loop-rest.rest.now in
-    let some : 0 < length rest = omega (arith, c.first_cut-sort.ensures.some, c.first_cut-sort.ensures.within) in
+    let some : 0 < length rest = omega (arith, c.front_cut-sort.ensures.some, c.front_cut-sort.ensures.within) in
     let takes = rw (c.split_at.ensures.front, c.if-not-branch.true) at c.in_ok-take.ensures.answer in
-    stops c.args.text.now c.loop-rest.fresh rest c.loop-rest.invariant.within some c.first_cut-sort.result c.first_cut-sort.ensures.value (answer_with c.loop-rest.walk) c.loop-rest.invariant.goes_on takes
+    stops c.args.text.now c.loop-rest.fresh rest c.loop-rest.invariant.within some c.front_cut-sort.result c.front_cut-sort.ensures.value (answer_with c.loop-rest.walk) c.loop-rest.invariant.goes_on takes
 
 pub loop-rest-preserved : goal.loop-rest-preserved
 loop-rest-preserved c =
     let rest = c.loop-rest.rest.now in
-    let some : 0 < length rest = omega (arith, c.first_cut-sort.ensures.some, c.first_cut-sort.ensures.within) in
+    let some : 0 < length rest = omega (arith, c.front_cut-sort.ensures.some, c.front_cut-sort.ensures.within) in
     let takes = rw (c.split_at.ensures.front, c.if-not-branch.false) at c.in_ok-take.ensures.answer in
-    let on = turn c.args.text.now c.loop-rest.fresh rest c.loop-rest.invariant.within some c.first_cut-sort.result c.first_cut-sort.ensures.value (answer_with c.loop-rest.walk) c.loop-rest.invariant.goes_on (answer_with c.take.new.self) takes in
+    let on = turn c.args.text.now c.loop-rest.fresh rest c.loop-rest.invariant.within some c.front_cut-sort.result c.front_cut-sort.ensures.value (answer_with c.loop-rest.walk) c.loop-rest.invariant.goes_on (answer_with c.take.new.self) takes in
     record {
       within = omega (arith, c.split_at.ensures.back_len);
-      fits = omega (arith, c.split_at.ensures.back_len, c.in_ok-take.ensures.most, c.first_cut-sort.ensures.some, c.loop-rest.invariant.fits);
+      fits = omega (arith, c.split_at.ensures.back_len, c.in_ok-take.ensures.most, c.front_cut-sort.ensures.some, c.loop-rest.invariant.fits);
       goes_on = rw (c.fresh_after-fresh.ensures, c.split_at.ensures.front, c.split_at.ensures.back) on;
     }
 
