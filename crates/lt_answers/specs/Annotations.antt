@@ -9,10 +9,8 @@ use Rattle.lt_tree.specs.CanonUnits.{canon}
 use Rattle.lt_tree.specs.Erasure.{erased_unit}
 use Rattle.lt_tree.specs.Typing.Programs.{Program}
 use Rattle.lt_print.specs.Laws.{IsOfUnitAlone}
-use Rattle.lt_objectives.specs.Criteria.{criteria_in}
 use Rattle.lt_objectives.specs.Marked.{marked}
 use Rattle.lt_mark_typing.specs.MarkedRuns.{is_from, RunsAs}
-use Rattle.lt_erased_typing.specs.CopiedExpressions.{AllCopiesAreSimple}
 use Rattle.lt_answers.specs.Programs.{IsProgram, HasNoProgram}
 use Rattle.lt_answers.specs.declared.status.Refusal.{Refusal}
 use Rattle.lt_answers.specs.declared.status.Refusal.TheVariants.{Grown}
@@ -32,8 +30,7 @@ pub record HasAnnotation (model : DataModel) (set : ℕ) (text : List ℕ) (anno
 -- ---- what is put
 
 -- `out` is the canonical text of the annotated unit, and doesn't nest too deeply. Its tokens derive this unit and no other, which without its marks is the
--- unit of the text without its marks. Where what predicates copy is simple, it runs as the unit of the text does, new marks and string literals in their
--- predicates aside, where these have room.
+-- unit of the text without its marks. It runs as the unit of the text does, new marks and string literals in their predicates aside, where these have room.
 pub record IsAnnotation (model : DataModel) (set : ℕ) (text out : List ℕ) : Type 0 where
   pub annotated : SourceUnit
   pub has : HasAnnotation model set text annotated
@@ -41,8 +38,7 @@ pub record IsAnnotation (model : DataModel) (set : ℕ) (text out : List ℕ) : 
   pub shallow : (nest : ℕ) → NestsTo out nest → nest ≤ deepest
   pub alone : IsOfUnitAlone out annotated
   pub same : erased_unit annotated ≡ erased_unit has.is_program.unit
-  pub runs : AllCopiesAreSimple model (criteria_in set) has.is_program.unit has.program (first_id has.is_program.unit)
-      → RunsAs (is_from (first_id has.is_program.unit)) model has.program annotated
+  pub runs : RunsAs (is_from (first_id has.is_program.unit)) model has.program annotated
 
 -- ---- refusals
 

@@ -1,11 +1,12 @@
 -- Objectives by what is known of a node.
-use Rattle.std.specs.Prelude.{ℕ, Bool, if◌then◌else◌, List, [], ◌∷◌, Option, Some, None}
+use Rattle.std.specs.Prelude.{ℕ, Bool, ◌&&◌, if◌then◌else◌, List, [], ◌∷◌, Option, Some, None}
 use Rattle.std.specs.List.{flat_map}
 use Rattle.lt_tree.specs.Tree as c
 use Rattle.lt_tree.specs.Typing.Programs.{Program}
 use Rattle.lt_objectives.specs.declared.criteria.Criterion.{Criterion}
 use Rattle.lt_objectives.specs.declared.criteria.Criterion.TheVariants as C
 use Rattle.lt_objectives.specs.Decisions.{one}
+use Rattle.lt_objectives.specs.Copies.{is_pure_without_marks}
 use Rattle.lt_objectives.specs.Objectives.{Objective, domains_of_object, both_truths}
 use Rattle.lt_facts.specs.Indices.{at_place}
 use Rattle.lt_facts.specs.Facts.{parameters_of}
@@ -22,11 +23,11 @@ tested C.Decision decision clause = decision
 tested C.Condition decision clause = clause
 tested _ decision clause = None
 
--- both truths of an expression that is a test
-abbrev pub truths_of_test : Criterion → ℕ → Option ℕ → c.Expression → List Objective
-truths_of_test criterion k None e = []
-truths_of_test criterion k (Some decided) e = both_truths criterion k decided e
+-- both truths of an expression that is a test, by whether predicates may copy each of its nodes
+abbrev pub truths_of_test : Criterion → (fits : Bool) → ℕ → Option ℕ → c.Expression → List Objective
+truths_of_test criterion fits k None e = []
+truths_of_test criterion fits k (Some decided) e = both_truths criterion (fits && is_pure_without_marks e) k decided e
 
 -- the same where labels may stand
-abbrev pub truths_where_open : (open_place : Bool) → Criterion → ℕ → Option ℕ → c.Expression → List Objective
-truths_where_open open_place criterion k test e = if open_place then truths_of_test criterion k test e else []
+abbrev pub truths_where_open : (open_place fits : Bool) → Criterion → ℕ → Option ℕ → c.Expression → List Objective
+truths_where_open open_place fits criterion k test e = if open_place then truths_of_test criterion fits k test e else []

@@ -2,7 +2,7 @@
 
 ghost use Rattle.std.specs.Prelude.{◌≡◌, ◌≤◌, ◌+◌, ◌&&◌, false, IfErr, OnOk, None, slice_index_or};
 ghost use Rattle.lt_tree.specs.View.{expression_of};
-ghost use Rattle.lt_objectives.specs.Copies.{is_core};
+ghost use Rattle.lt_objectives.specs.Copies.{is_core, is_pure_without_marks};
 ghost use Rattle.lt_objectives.specs.Objectives.{both_truths};
 ghost use Rattle.lt_numbering.specs.Numbering.{Adds, IdsAreOut, most_id};
 ghost use Rattle.lt_crit.specs.Known.{tested, truths_where_open};
@@ -27,9 +27,11 @@ pub fn add_at_expression(
 ) -> Result<(), MarkStop>
     requires { new.old.next ≤ most_id + 1 }
     ensures within { OnOk result (new.new.next ≤ most_id + 1) }
-    ensures added { OnOk result (Adds new.old new.new (truths_where_open (is_core (expression_of e.now) && slice_index_or survey.now.open.items number false) criterion number
+    ensures added { OnOk result (Adds new.old new.new (truths_where_open (is_core (expression_of e.now) && slice_index_or survey.now.open.items number false)
+        (slice_index_or survey.now.copied.items number false) criterion number
         (tested criterion (slice_index_or survey.now.decisions.items number None) (slice_index_or survey.now.clauses.items number None)) (expression_of e.now))) }
-    ensures ids { IfErr result (IdsAreOut new.old (truths_where_open (is_core (expression_of e.now) && slice_index_or survey.now.open.items number false) criterion number
+    ensures ids { IfErr result (IdsAreOut new.old (truths_where_open (is_core (expression_of e.now) && slice_index_or survey.now.open.items number false)
+        (slice_index_or survey.now.copied.items number false) criterion number
         (tested criterion (slice_index_or survey.now.decisions.items number None) (slice_index_or survey.now.clauses.items number None)) (expression_of e.now))) }
 {
     let is_place = is_core(e) && is_true_at(&survey.open, number);
@@ -38,7 +40,10 @@ pub fn add_at_expression(
     }
     match tested(survey, criterion, number) {
         None => Ok(()),
-        Some(decided) => add_both_truths(alloc, criterion, number, decided, e, new),
+        Some(decided) => {
+            let fits = is_true_at(&survey.copied, number);
+            add_both_truths(alloc, criterion, fits, number, decided, e, new)
+        }
     }
 }
 
@@ -78,10 +83,11 @@ pub fn place_at(places: &[Option<usize>], number: usize) -> Option<usize>
     }
 }
 
-/// Two labels in front of an expression that predicates may copy; else a `pc_decide` around what stands at `decided`.
+/// Two labels in front of an expression that predicates may copy, as far as each of its nodes fits; else a `pc_decide` around what stands at `decided`.
 fn add_both_truths(
     alloc: Global,
     criterion: Criterion,
+    fits: bool,
     number: usize,
     decided: usize,
     e: &Expr,
@@ -89,11 +95,11 @@ fn add_both_truths(
 ) -> Result<(), MarkStop>
     requires { new.old.next ≤ most_id + 1 }
     ensures within { OnOk result (new.new.next ≤ most_id + 1) }
-    ensures added { OnOk result (Adds new.old new.new (both_truths criterion number decided (expression_of e.now))) }
-    ensures ids { IfErr result (IdsAreOut new.old (both_truths criterion number decided (expression_of e.now))) }
+    ensures added { OnOk result (Adds new.old new.new (both_truths criterion (fits && is_pure_without_marks (expression_of e.now)) number decided (expression_of e.now))) }
+    ensures ids { IfErr result (IdsAreOut new.old (both_truths criterion (fits && is_pure_without_marks (expression_of e.now)) number decided (expression_of e.now))) }
 {
     let plain = erase_expression(alloc, e)?;
-    if is_pure(&plain) && !hides(e) {
+    if fits && is_pure(&plain) && !hides(e) {
         let predicates = both_truths(alloc, &plain)?;
         new.add(alloc, number as u64, Form::InFront, criterion, predicates)
     } else {

@@ -7,7 +7,7 @@ use Rattle.lt_tree.specs.Typing.Entities.{Known, Object, Label, Fact}
 use Rattle.lt_tree.specs.Typing.Steps.{Goes}
 use Rattle.lt_tree.specs.Typing.Expressions.{Typed, as_value, as_truth, own_type}
 use Rattle.lt_tree.specs.Typing.ExpressionTyping.{expression}
-use Rattle.lt_objectives.specs.Copies.{is_core, can_be_copied}
+use Rattle.lt_objectives.specs.Copies.{is_core, is_pure_without_marks}
 use Rattle.lt_erased_typing.specs.Literals.{HasMoreTexts, NamesObjects}
 use Rattle.lt_erased_typing.specs.Plain.{IsPlainWith}
 use Rattle.lt_erased_typing.specs.Simple.{IsSimpleWith}
@@ -44,5 +44,5 @@ PlainExpressionsCanBeErased =
 -- Marks can be taken off what predicates copy: where such an expression is typed, its marks hide nothing from an operator.
 abbrev pub CopiesWithLiteralsCanBeErased : Type 0
 CopiesWithLiteralsCanBeErased =
-    (known next : Known) (e : c.Expression) (x : Typed) → NamesObjects known → can_be_copied e ≡ true → IsSimpleWith true known.frames e
+    (known next : Known) (e : c.Expression) (x : Typed) → NamesObjects known → is_pure_without_marks e ≡ true → IsSimpleWith true known.frames e
     → expression e as_value known ≡ Goes x next → CanBeErasedWith true as_value known e

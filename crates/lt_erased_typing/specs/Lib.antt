@@ -2,6 +2,5 @@ pub mod Literals
 pub mod Erasable
 pub mod Plain
 pub mod Simple
-pub mod CopiedExpressions
 pub mod Examples
 pub mod Laws

@@ -100,12 +100,12 @@ module _ (unit : c.Unit) (p q : Program) (model : p.model ≡ q.model) (types : 
 
   differences_same : (criterion : Criterion) (k : ℕ) (e : c.Expression) → differences unit p criterion k e ≡ differences unit q criterion k e
   differences_same criterion k e =
-      ap (λ (list : List c.Expression). if can_be_copied e && is_value_position unit k then all_at k in_front criterion (map (inequality (erased e)) list) else []) (mutants_same criterion k e (erased e))
+      ap (λ (list : List c.Expression). if can_be_copied unit k e && is_value_position unit k then all_at k in_front criterion (map (inequality (erased e)) list) else []) (mutants_same criterion k e (erased e))
 
   expression_same : (criterion : Criterion) (k : ℕ) (e : c.Expression) → at_expression unit p criterion k e ≡ at_expression unit q criterion k e
   expression_same criterion k e =
-      ap (λ (b : Bool). if is_core e && b then at_test criterion (decided_at (decisions unit) k) (decided_at (clauses unit) k) k e ++ differences unit p criterion k e else []) (open_same k)
-      ∙ ap (λ (list : List Objective). if is_core e && is_open unit q k then at_test criterion (decided_at (decisions unit) k) (decided_at (clauses unit) k) k e ++ list else []) (differences_same criterion k e)
+      ap (λ (b : Bool). if is_core e && b then at_test criterion (can_be_copied unit k e) (decided_at (decisions unit) k) (decided_at (clauses unit) k) k e ++ differences unit p criterion k e else []) (open_same k)
+      ∙ ap (λ (list : List Objective). if is_core e && is_open unit q k then at_test criterion (can_be_copied unit k e) (decided_at (decisions unit) k) (decided_at (clauses unit) k) k e ++ list else []) (differences_same criterion k e)
 
   body_same : (criterion : Criterion) (k : ℕ) → at_body unit p criterion k ≡ at_body unit q criterion k
   body_same C.InputDomain k = domains k

@@ -40,8 +40,8 @@ labels_ask place form criterion (p ∷ ps) one = let more = labels_ask place for
 
 -- ---- at decisions and clauses
 
-truths_ask : (criterion : Criterion) (k decided : ℕ) (e : c.Expression) → ids_asked (both_truths criterion k decided e) ≤ 2
-truths_ask criterion k decided e = by (can_be_copied e)
+truths_ask : (criterion : Criterion) (copied : Bool) (k decided : ℕ) (e : c.Expression) → ids_asked (both_truths criterion copied k decided e) ≤ 2
+truths_ask criterion copied k decided e = by copied
   where
     by : (b : Bool) → ids_asked (if b then all_at k in_front criterion (erased e ∷ negation (erased e) ∷ []) else objective decided around criterion (erased e) ∷ []) ≤ 2
     by true = omega arith
@@ -93,15 +93,15 @@ few_active d h =
     at_most : (n : ℕ) → nat_le n most_clauses ≡ true → n ≤ 8
     at_most n h = grind (arith, nat_tests)
 
-combinations_ask : (criterion : Criterion) (k n : ℕ) (predicates : c.Expression → List c.Expression) (d : c.Expression)
+combinations_ask : (criterion : Criterion) (copied : Bool) (k n : ℕ) (predicates : c.Expression → List c.Expression) (d : c.Expression)
     → (has_few_clauses (erased d) ≡ true → length (predicates (erased d)) ≤ n)
-    → ids_asked (combinations criterion k predicates d) ≤ n
-combinations_ask criterion k n predicates d h = by (can_be_copied d && has_few_clauses (erased d)) refl
+    → ids_asked (combinations criterion copied k predicates d) ≤ n
+combinations_ask criterion copied k n predicates d h = by (copied && has_few_clauses (erased d)) refl
   where
-    by : (b : Bool) → (can_be_copied d && has_few_clauses (erased d)) ≡ b → ids_asked (if b then all_at k in_front criterion (predicates (erased d)) else []) ≤ n
+    by : (b : Bool) → (copied && has_few_clauses (erased d)) ≡ b → ids_asked (if b then all_at k in_front criterion (predicates (erased d)) else []) ≤ n
     by true e =
         let many = labels_ask k in_front criterion (predicates (erased d)) refl in
-        let few = h (second_so (can_be_copied d) (has_few_clauses (erased d)) e) in
+        let few = h (second_so copied (has_few_clauses (erased d)) e) in
         omega (arith, many, few)
     by false e = omega arith
 
@@ -119,25 +119,25 @@ asked_by_decision C.MultipleCondition = 256
 asked_by_decision C.GeneralActiveClause = 16
 asked_by_decision _ = 0
 
-test_asks : (criterion : Criterion) (decision clause : Option ℕ) (k : ℕ) (e : c.Expression)
-    → ids_asked (at_test criterion decision clause k e) ≤ asked_by_test criterion + asked_by_decision criterion * count (is_some decision)
-test_asks C.Decision (Some decided) clause k e = let h = truths_ask C.Decision k decided e in omega (arith, h)
-test_asks C.Decision None clause k e = omega arith
-test_asks C.Condition decision (Some decided) k e = let h = truths_ask C.Condition k decided e in omega (arith, h)
-test_asks C.Condition decision None k e = omega arith
-test_asks C.MultipleCondition (Some decided) clause k e = combinations_ask C.MultipleCondition k 256 (λ d. conjunctions (clause_list d)) e (few_conjunctions (erased e))
-test_asks C.MultipleCondition None clause k e = omega arith
-test_asks C.GeneralActiveClause (Some decided) clause k e = combinations_ask C.GeneralActiveClause k 16 active_clauses e (few_active (erased e))
-test_asks C.GeneralActiveClause None clause k e = omega arith
-test_asks C.Function decision clause k e = omega arith
-test_asks C.InputDomain decision clause k e = omega arith
-test_asks C.CorrelatedActiveClause decision clause k e = omega arith
-test_asks C.RestrictedActiveClause decision clause k e = omega arith
-test_asks C.AllUses decision clause k e = omega arith
-test_asks C.AbsoluteValue decision clause k e = omega arith
-test_asks C.ArithmeticOperator decision clause k e = omega arith
-test_asks C.LogicalConnector decision clause k e = omega arith
-test_asks C.RelationalOperator decision clause k e = omega arith
+test_asks : (criterion : Criterion) (copied : Bool) (decision clause : Option ℕ) (k : ℕ) (e : c.Expression)
+    → ids_asked (at_test criterion copied decision clause k e) ≤ asked_by_test criterion + asked_by_decision criterion * count (is_some decision)
+test_asks C.Decision copied (Some decided) clause k e = let h = truths_ask C.Decision copied k decided e in omega (arith, h)
+test_asks C.Decision copied None clause k e = omega arith
+test_asks C.Condition copied decision (Some decided) k e = let h = truths_ask C.Condition copied k decided e in omega (arith, h)
+test_asks C.Condition copied decision None k e = omega arith
+test_asks C.MultipleCondition copied (Some decided) clause k e = combinations_ask C.MultipleCondition copied k 256 (λ d. conjunctions (clause_list d)) e (few_conjunctions (erased e))
+test_asks C.MultipleCondition copied None clause k e = omega arith
+test_asks C.GeneralActiveClause copied (Some decided) clause k e = combinations_ask C.GeneralActiveClause copied k 16 active_clauses e (few_active (erased e))
+test_asks C.GeneralActiveClause copied None clause k e = omega arith
+test_asks C.Function copied decision clause k e = omega arith
+test_asks C.InputDomain copied decision clause k e = omega arith
+test_asks C.CorrelatedActiveClause copied decision clause k e = omega arith
+test_asks C.RestrictedActiveClause copied decision clause k e = omega arith
+test_asks C.AllUses copied decision clause k e = omega arith
+test_asks C.AbsoluteValue copied decision clause k e = omega arith
+test_asks C.ArithmeticOperator copied decision clause k e = omega arith
+test_asks C.LogicalConnector copied decision clause k e = omega arith
+test_asks C.RelationalOperator copied decision clause k e = omega arith
 
 -- ---- mutants
 
@@ -210,7 +210,7 @@ mutants_at_most unit program C.RestrictedActiveClause k e plain = omega arith
 mutants_at_most unit program C.AllUses k e plain = omega arith
 
 differences_ask : (unit : c.Unit) (program : Program) (criterion : Criterion) (k : ℕ) (e : c.Expression) → ids_asked (differences unit program criterion k e) ≤ asked_by_mutants criterion
-differences_ask unit program criterion k e = by (can_be_copied e && is_value_position unit k)
+differences_ask unit program criterion k e = by (can_be_copied unit k e && is_value_position unit k)
   where
     by : (b : Bool) → ids_asked (if b then all_at k in_front criterion (map (inequality (erased e)) (mutants unit program criterion k e (erased e))) else []) ≤ asked_by_mutants criterion
     by true =
@@ -236,12 +236,12 @@ expression_asks : (unit : c.Unit) (program : Program) (criterion : Criterion) (k
 expression_asks unit program criterion k e = by (is_asked unit program k e)
   where
     test : List Objective
-    test = at_test criterion (decided_at (decisions unit) k) (decided_at (clauses unit) k) k e
+    test = at_test criterion (can_be_copied unit k e) (decided_at (decisions unit) k) (decided_at (clauses unit) k) k e
 
     by : (b : Bool) → ids_asked (if b then test ++ differences unit program criterion k e else [])
         ≤ (asked_by_test criterion + asked_by_mutants criterion) * count b + asked_by_decision criterion * count (b && is_decided unit k)
     by true =
-        let at_the_test = test_asks criterion (decided_at (decisions unit) k) (decided_at (clauses unit) k) k e in
+        let at_the_test = test_asks criterion (can_be_copied unit k e) (decided_at (decisions unit) k) (decided_at (clauses unit) k) k e in
         let mutated = differences_ask unit program criterion k e in
         let both = total_both (λ (it : Objective). ids_of it.form) test (differences unit program criterion k e) in
         omega (arith, at_the_test, mutated, both)

@@ -30,7 +30,7 @@ ones_if false xs a = tt
 
 module _ (unit : c.Unit) (program : Program) where
   differences_ones : (k : ℕ) (e : c.Expression) → AllOnes (differences unit program C.Function k e)
-  differences_ones k e = ones_if (can_be_copied e && is_value_position unit k) [] tt
+  differences_ones k e = ones_if (can_be_copied unit k e && is_value_position unit k) [] tt
 
   node_ones : (k : ℕ) (node : Node) → AllOnes (at_node unit program C.Function (record { number = k; node = node }))
   node_ones k (an_external (c.Defines s d body)) = ((refl, refl), tt)

@@ -14,8 +14,8 @@ use Rattle.lt_objectives.specs.declared.criteria.Criterion.{Criterion}
 use Rattle.lt_objectives.specs.declared.criteria.Criterion.TheVariants as C
 use Rattle.lt_objectives.specs.Places.{Site, is_open, is_value_position}
 use Rattle.lt_objectives.specs.Decisions.{decisions, clauses, negation, clause_list, conjunctions, active_clauses, has_few_clauses, inequality}
-use Rattle.lt_objectives.specs.Copies.{is_core, hides, can_be_copied}
-use Rattle.lt_objectives.specs.Objectives.{at_start, in_front, around, Objective, objective, all_at, decided_at, both_truths, combinations, at_test, mutants, differences, at_expression, at_body, at_node}
+use Rattle.lt_objectives.specs.Copies.{is_core, hides, is_pure_without_marks, all_nodes_fit, can_be_copied}
+use Rattle.lt_objectives.specs.Objectives.{at_start, in_front, around, Objective, all_at, decided_at, both_truths, combinations, at_test, mutants, differences, at_expression, at_body, at_node}
 use Rattle.lt_objectives.specs.Criteria.{tag_of}
 use Rattle.lt_print.proofs.CuttingQuotes.{IsByte}
 use Rattle.lt_print.proofs.Clean.{IsConstant}
@@ -122,52 +122,50 @@ fitting_if : (k : ℕ) (node : Node) (b : Bool) (xs : List Objective) → (b ≡
 fitting_if k node true xs f = f refl
 fitting_if k node false xs f = tt
 
-copied_pure : (e : c.Expression) → can_be_copied e ≡ true → is_pure (erased e) ≡ true
-copied_pure e copied = (and_parts (is_pure (erased e)) (not (hides e)) copied).0
+-- what predicates may copy is pure without its marks
+copied_pure : (unit : c.Unit) (k : ℕ) (e : c.Expression) → can_be_copied unit k e ≡ true → is_pure (erased e) ≡ true
+copied_pure unit k e copied = (and_parts (is_pure (erased e)) (not (hides e)) (and_parts (is_pure_without_marks e) (all_nodes_fit unit k e) copied).0).0
 
 module _ (criterion : Criterion) (k : ℕ) (e : c.Expression) where
   front_fitting : (ps : List c.Expression) → Each (Made e) ps → AllFitting k (an_expression e) (all_at k in_front criterion ps)
   front_fitting [] made = tt
   front_fitting (p ∷ ps) made = ((precedes e refl refl refl made.0, tag_bytes criterion), front_fitting ps made.1)
 
-  truths_by : (b : Bool) (place : ℕ) → can_be_copied e ≡ b
-      → AllFitting k (an_expression e) (if b then all_at k in_front criterion (erased e ∷ negation (erased e) ∷ []) else objective place around criterion (erased e) ∷ [])
-  truths_by true place copied =
-      front_fitting (erased e ∷ negation (erased e) ∷ []) (each_made e (erased e ∷ negation (erased e) ∷ []) (λ scope g. both_truths_have (good_kept scope) (erased e) g) (both_truths_have pure_kept (erased e) (copied_pure e copied)))
-  truths_by false place copied = ((surrounds refl, tag_bytes criterion), tt)
+  truths_fitting : (copied : Bool) (place : ℕ) → (copied ≡ true → IsPure (erased e)) → AllFitting k (an_expression e) (both_truths criterion copied k place e)
+  truths_fitting true place pure =
+      front_fitting (erased e ∷ negation (erased e) ∷ []) (each_made e (erased e ∷ negation (erased e) ∷ []) (λ scope g. both_truths_have (good_kept scope) (erased e) g) (both_truths_have pure_kept (erased e) (pure refl)))
+  truths_fitting false place pure = ((surrounds refl, tag_bytes criterion), tt)
 
-  truths_fitting : (place : ℕ) → AllFitting k (an_expression e) (both_truths criterion k place e)
-  truths_fitting place = truths_by (can_be_copied e) place refl
+  combinations_fitting : (copied : Bool) (predicates : c.Expression → List c.Expression) → ((scope : Scope) → Good scope (erased e) → Each (Good scope) (predicates (erased e))) → (IsPure (erased e) → Each IsPure (predicates (erased e)))
+      → (copied ≡ true → IsPure (erased e)) → AllFitting k (an_expression e) (combinations criterion copied k predicates e)
+  combinations_fitting copied predicates good kept pure =
+      fitting_if k (an_expression e) (copied && has_few_clauses (erased e)) (all_at k in_front criterion (predicates (erased e)))
+      (λ h. front_fitting (predicates (erased e)) (each_made e (predicates (erased e)) good (kept (pure (and_parts copied (has_few_clauses (erased e)) h).0))))
 
-  combinations_fitting : (predicates : c.Expression → List c.Expression) → ((scope : Scope) → Good scope (erased e) → Each (Good scope) (predicates (erased e))) → (IsPure (erased e) → Each IsPure (predicates (erased e)))
-      → AllFitting k (an_expression e) (combinations criterion k predicates e)
-  combinations_fitting predicates good pure =
-      fitting_if k (an_expression e) (can_be_copied e && has_few_clauses (erased e)) (all_at k in_front criterion (predicates (erased e)))
-      (λ h. front_fitting (predicates (erased e)) (each_made e (predicates (erased e)) good (pure (copied_pure e (and_parts (can_be_copied e) (has_few_clauses (erased e)) h).0))))
-
-test_fitting : (criterion : Criterion) (decision clause : Option ℕ) (k : ℕ) (e : c.Expression) → AllFitting k (an_expression e) (at_test criterion decision clause k e)
-test_fitting C.Decision (Some place) clause k e = truths_fitting C.Decision k e place
-test_fitting C.Condition decision (Some place) k e = truths_fitting C.Condition k e place
-test_fitting C.MultipleCondition (Some place) clause k e =
-    combinations_fitting C.MultipleCondition k e (λ d. conjunctions (clause_list d)) (λ scope g. each_conjunction (good_kept scope) (erased e) g) (λ p. each_conjunction pure_kept (erased e) p)
-test_fitting C.GeneralActiveClause (Some place) clause k e =
-    combinations_fitting C.GeneralActiveClause k e active_clauses (λ scope g. each_active (good_kept scope) (erased e) g) (λ p. each_active pure_kept (erased e) p)
-test_fitting _ decision clause k e = tt
+test_fitting : (criterion : Criterion) (copied : Bool) (decision clause : Option ℕ) (k : ℕ) (e : c.Expression) → (copied ≡ true → IsPure (erased e))
+    → AllFitting k (an_expression e) (at_test criterion copied decision clause k e)
+test_fitting C.Decision copied (Some place) clause k e pure = truths_fitting C.Decision k e copied place pure
+test_fitting C.Condition copied decision (Some place) k e pure = truths_fitting C.Condition k e copied place pure
+test_fitting C.MultipleCondition copied (Some place) clause k e pure =
+    combinations_fitting C.MultipleCondition k e copied (λ d. conjunctions (clause_list d)) (λ scope g. each_conjunction (good_kept scope) (erased e) g) (λ p. each_conjunction pure_kept (erased e) p) pure
+test_fitting C.GeneralActiveClause copied (Some place) clause k e pure =
+    combinations_fitting C.GeneralActiveClause k e copied active_clauses (λ scope g. each_active (good_kept scope) (erased e) g) (λ p. each_active pure_kept (erased e) p) pure
+test_fitting _ copied decision clause k e pure = tt
 
 module _ (unit : c.Unit) (program : Program) where
   differences_fitting : (criterion : Criterion) (k : ℕ) (e : c.Expression) → AllFitting k (an_expression e) (differences unit program criterion k e)
   differences_fitting criterion k e =
-      fitting_if k (an_expression e) (can_be_copied e && is_value_position unit k) (all_at k in_front criterion (map (inequality (erased e)) (mutants unit program criterion k e (erased e))))
+      fitting_if k (an_expression e) (can_be_copied unit k e && is_value_position unit k) (all_at k in_front criterion (map (inequality (erased e)) (mutants unit program criterion k e (erased e))))
       (λ h. front_fitting criterion k e (map (inequality (erased e)) (mutants unit program criterion k e (erased e)))
       (each_made e (map (inequality (erased e)) (mutants unit program criterion k e (erased e))) (λ scope g. each_difference (good_kept scope) unit program criterion k e (erased e) g)
-      (each_difference pure_kept unit program criterion k e (erased e) (copied_pure e (and_parts (can_be_copied e) (is_value_position unit k) h).0))))
+      (each_difference pure_kept unit program criterion k e (erased e) (copied_pure unit k e (and_parts (can_be_copied unit k e) (is_value_position unit k) h).0))))
 
   expression_fitting : (criterion : Criterion) (k : ℕ) (e : c.Expression) → AllFitting k (an_expression e) (at_expression unit program criterion k e)
   expression_fitting criterion k e =
       fitting_if k (an_expression e) (is_core e && is_open unit program k)
-      (at_test criterion (decided_at (decisions unit) k) (decided_at (clauses unit) k) k e ++ differences unit program criterion k e)
-      (λ h. both_fitting k (an_expression e) (at_test criterion (decided_at (decisions unit) k) (decided_at (clauses unit) k) k e) (differences unit program criterion k e)
-      (test_fitting criterion (decided_at (decisions unit) k) (decided_at (clauses unit) k) k e) (differences_fitting criterion k e))
+      (at_test criterion (can_be_copied unit k e) (decided_at (decisions unit) k) (decided_at (clauses unit) k) k e ++ differences unit program criterion k e)
+      (λ h. both_fitting k (an_expression e) (at_test criterion (can_be_copied unit k e) (decided_at (decisions unit) k) (decided_at (clauses unit) k) k e) (differences unit program criterion k e)
+      (test_fitting criterion (can_be_copied unit k e) (decided_at (decisions unit) k) (decided_at (clauses unit) k) k e (copied_pure unit k e)) (differences_fitting criterion k e))
 
   -- what stands at the starts of bodies is good there
   abbrev pub Begin : Criterion → Site → Type 0

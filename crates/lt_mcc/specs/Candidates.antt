@@ -11,9 +11,9 @@ abbrev pub core_in : Node → Option c.Expression
 core_in (an_expression e) = if is_core e then Some e else None
 core_in node = None
 
--- that of a node where labels may stand and where a decision is
-abbrev pub candidate : Node → (is_open is_decision : Bool) → Option c.Expression
-candidate node is_open is_decision = if is_open && is_decision then core_in node else None
+-- that of a node where labels may stand, where a decision is, and of which predicates may copy each node
+abbrev pub candidate : Node → (is_open is_decision fits : Bool) → Option c.Expression
+candidate node is_open is_decision fits = if is_open && is_decision && fits then core_in node else None
 
 -- the predicates in front of it
 abbrev pub predicates : Combination → Option c.Expression → List c.Expression

@@ -9,23 +9,23 @@ use lt_sites::NodeRef;
 use lt_survey::Survey;
 use lt_tree::Expr;
 
-/// The decision of this number, if labels for combinations of its clauses may stand before it.
+/// The decision of this number, if labels for combinations of its clauses may stand before it, and predicates may copy each of its nodes.
 pub fn candidate<'u>(survey: &Survey<'u>, k: usize) -> Option<&'u Expr>
     requires { k < length survey.now.sites.items }
-    ensures { (node : Node) → option_map (λ site. node_of site.node) (slice_get survey.now.sites.items k) ≡ Some node → option_map (λ e. expression_of e.now) result ≡ candidate node (slice_index_or survey.now.open.items k false) (is_some (slice_index_or survey.now.decisions.items k None)) }
+    ensures { (node : Node) → option_map (λ site. node_of site.node) (slice_get survey.now.sites.items k) ≡ Some node → option_map (λ e. expression_of e.now) result ≡ candidate node (slice_index_or survey.now.open.items k false) (is_some (slice_index_or survey.now.decisions.items k None)) (slice_index_or survey.now.copied.items k false) }
 {
-    if !is_open(survey, k) || !is_decision(survey, k) {
+    if !is_set(&survey.open, k) || !is_decision(survey, k) || !is_set(&survey.copied, k) {
         return None;
     }
     core_in(survey.sites[k].node)
 }
 
-fn is_open(survey: &Survey<'_>, k: usize) -> bool
-    ensures { result ≡ slice_index_or survey.now.open.items k false }
+fn is_set(flags: &[bool], k: usize) -> bool
+    ensures { result ≡ slice_index_or flags.now k false }
 {
-    match survey.open.get(k) {
+    match flags.get(k) {
         None => false,
-        Some(is_open) => *is_open,
+        Some(flag) => *flag,
     }
 }
 

@@ -9,12 +9,12 @@ use lt_sites::NodeRef;
 use lt_survey::Survey;
 use lt_tree::Expr;
 
-/// The expression of this number, if labels for mutants may stand before it.
+/// The expression of this number, if labels for mutants may stand before it, and predicates may copy each of its nodes.
 pub fn candidate<'u>(survey: &Survey<'u>, k: usize) -> Option<&'u Expr>
     requires { k < length survey.now.sites.items }
-    ensures { (node : Node) → option_map (λ site. node_of site.node) (slice_get survey.now.sites.items k) ≡ Some node → option_map (λ e. expression_of e.now) result ≡ candidate node (slice_index_or survey.now.open.items k false) (slice_index_or survey.now.values.items k false) }
+    ensures { (node : Node) → option_map (λ site. node_of site.node) (slice_get survey.now.sites.items k) ≡ Some node → option_map (λ e. expression_of e.now) result ≡ candidate node (slice_index_or survey.now.open.items k false) (slice_index_or survey.now.values.items k false) (slice_index_or survey.now.copied.items k false) }
 {
-    if !is_set(&survey.open, k) || !is_set(&survey.values, k) {
+    if !is_set(&survey.open, k) || !is_set(&survey.values, k) || !is_set(&survey.copied, k) {
         return None;
     }
     core_in(survey.sites[k].node)

@@ -16,7 +16,7 @@ use Rattle.lt_objectives.specs.declared.criteria.Criterion.{Criterion}
 use Rattle.lt_objectives.specs.Criteria.{tag_of}
 use Rattle.lt_objectives.specs.Decisions.{one, decisions, clauses}
 use Rattle.lt_objectives.specs.Places.{core, is_open}
-use Rattle.lt_objectives.specs.Copies.{is_core}
+use Rattle.lt_objectives.specs.Copies.{is_core, can_be_copied}
 use Rattle.lt_objectives.specs.Objectives.{in_front, around, Objective, objective, at_test, differences, at_expression, decided_at, objectives}
 use Rattle.lt_objectives.specs.Marked.{numbered, next_id, labels, decided}
 use Rattle.lt_objective_places.specs.Stands.{IsAmong, Role, in_test, can_be_decided}
@@ -84,7 +84,7 @@ module _ (g : Given) {new : ℕ → Bool} {unit : c.Unit} {program : Program} {c
         by : (b : Bool) → is_core e ≡ b → labels in_front (marks_of unit program criterion id) k ≡ c.no_marks
         by true whole = first (objective d around criterion (erased (core k e).expression) ∷ []) (ap (λ it. at_expression unit program criterion it.number it.expression) (sym (core_is k e whole)) ∙ are) (λ j. refl)
         by false other =
-            first [] (ap (λ b. if b && is_open unit program k then at_test criterion (decided_at (decisions unit) k) (decided_at (clauses unit) k) k e ++ differences unit program criterion k e else []) other) (λ j. refl)
+            first [] (ap (λ b. if b && is_open unit program k then at_test criterion (can_be_copied unit k e) (decided_at (decisions unit) k) (decided_at (clauses unit) k) k e ++ differences unit program criterion k e else []) other) (λ j. refl)
 
     pub own_decision : Around k role e
     own_decision = by (at_expression unit program criterion (core k e).number (core k e).expression) (shape unit program criterion (core k e).number (core k e).expression) refl
@@ -119,7 +119,7 @@ module _ (g : Given) {new : ℕ → Bool} {unit : c.Unit} {program : Program} {c
                   (subst (λ l. IsIdAt (numbered j l) k n) (sym are) (record { objective = o; id = j }, inl refl, place, from, to)),
             ))
 
-        by : (list : List Objective) → Shape criterion (core k e).number (core k e).expression list → at_expression unit program criterion (core k e).number (core k e).expression ≡ list → Around k role e
+        by : (list : List Objective) → Shape unit criterion (core k e).number (core k e).expression list → at_expression unit program criterion (core k e).number (core k e).expression ≡ list → Around k role e
         by list shapes.nothing are = undecided (λ x. decided_of.decided_are x ∙ ap (λ l. decided (numbered j l) k x) are)
         by list (shapes.labels p ps copied) are =
             undecided (λ x. decided_of.decided_are x ∙ ap (λ l. decided (numbered j l) k x) are ∙ none_decided (core k e).number k j criterion (p ∷ ps) x)

@@ -12,6 +12,7 @@ use Rattle.lt_tree_laws.specs.Typing.NodeNumbers.{PartsAreNumbered}
 use Rattle.lt_objective_places.specs.Laws.{ConstantsAreClosed, PiecesStand, ObjectivesStandWhereTheyMay, MarksAreOfOneNode}
 use Rattle.lt_objective_typing.specs.Laws.{MarkedExpressionsHavePredicates, LabelsOfObjectivesAreNew}
 use Rattle.lt_erased_typing.specs.Laws.{CopiesWithLiteralsCanBeErased, TruthsAreTypedAsValues}
+use Rattle.lt_simple_copies.specs.Laws.{CopiesAreSimple}
 use Rattle.lt_typed_nodes.specs.Laws.{ConstantsStay, ValuesHaveTheirTypes}
 use Rattle.lt_made_types.specs.Laws.{NoTestIsAPointerToAFunction}
 use Rattle.lt_typed_nodes.specs.Coming.{OperandsAreComeTo, WhatIsComeToIsKnown}
@@ -42,5 +43,6 @@ pub record Given : Type 0 where
   pub constants : ConstantsStay
   pub closed : ConstantsAreClosed
   pub copies : CopiesWithLiteralsCanBeErased
+  pub simple : CopiesAreSimple
   pub tests : NoTestIsAPointerToAFunction
   pub unmarked : KeptUnmarked

@@ -1,6 +1,6 @@
 -- The new labels in front of an expression, and the new `pc_decide` around it.
 use Rattle.std.proofs.Common.{◌≡◌, ◌⊎◌, inl, inr, refl, sym, ap, ◌∙◌, subst, ℕ, ◌+◌, ◌<◌, ◌≤◌, List, [], ◌∷◌, ◌++◌, length, Bool, true, false, not, arith}
-use Rattle.std.proofs.lemmas.Bool.{false≢true}
+use Rattle.std.proofs.lemmas.Bool.{false≢true, and_parts}
 use Rattle.lt_tree.specs.Tree as c
 use Rattle.lt_tree.specs.Erasure.{erased}
 use Rattle.lt_tree.specs.Purity.{is_pure}
@@ -10,7 +10,7 @@ use Rattle.lt_tree.specs.Typing.Expressions.{Use, as_value, own_type}
 use Rattle.lt_tree.specs.Typing.Programs.{Program}
 use Rattle.lt_objectives.specs.declared.criteria.Criterion.{Criterion}
 use Rattle.lt_objectives.specs.Places.{part, core}
-use Rattle.lt_objectives.specs.Copies.{is_core, hides}
+use Rattle.lt_objectives.specs.Copies.{is_core, hides, is_pure_without_marks, all_nodes_fit}
 use Rattle.lt_objectives.specs.Objectives.{in_front, Objective, objective, all_at, at_expression, objectives}
 use Rattle.lt_objectives.specs.Marked.{NewMark, numbered, next_id, labels, decided}
 use Rattle.lt_objective_places.specs.Stands.{IsAmong, IsWithin, Role, IsNoTest, MayStand}
@@ -30,7 +30,6 @@ use Rattle.lt_objective_marks.specs.Settings.{marks_of, Setting, IsIdAt, AreUnus
 use Rattle.lt_objective_marks.proofs.Given.{Given}
 use Rattle.lt_objective_marks.proofs.Ids.{next_from, next_both, numbered_both, next_of_all, id_of_all}
 use Rattle.lt_objective_marks.proofs.Ends.{and_left}
-use Rattle.lt_objective_marks.proofs.Copies.{place_of, node_there}
 use Rattle.lt_objective_marks.proofs.Shapes as shapes
 use Rattle.lt_objective_marks.proofs.Shapes.{Shape, shape}
 use Rattle.lt_objective_marks.proofs.Predicates.{are_predicates}
@@ -117,7 +116,7 @@ module _ (g : Given) {new : ℕ → Bool} {unit : c.Unit} {program : Program} {c
         → AreUnused marks used known.next 1 → Labelled used known role e
     own_labels taken reached used comes unused = by (at_expression unit program criterion known.next e) (shape unit program criterion known.next e) refl
       where
-        by : (list : List Objective) → Shape criterion known.next e list → at_expression unit program criterion known.next e ≡ list → Labelled used known role e
+        by : (list : List Objective) → Shape unit criterion known.next e list → at_expression unit program criterion known.next e ≡ list → Labelled used known role e
         by list shapes.nothing are =
             unlabelled (labels_of.labels_are ∙ ap (λ l. labels in_front (numbered (next_id id labels_of.together.before) l) known.next) are)
         by list (shapes.a_decision d) are =
@@ -128,10 +127,9 @@ module _ (g : Given) {new : ℕ → Bool} {unit : c.Unit} {program : Program} {c
             let all = among_all (at_expression unit program criterion known.next e) labels_of.together o here in
             let may = (g.may_stand unit program criterion known.next o all refl).0 role e isin in
             let there = comes o may in
-            let listed = place_of o (objectives unit program criterion) all in
-            let node = node_there known.next e (g.stand.2 unit known.next (an_expression role e) isin).stand.there in
-            let simple = s.copies listed.0 o taken e known listed.1 refl refl node reached in
-            let erasable : (NamesObjects known → CanBeErasedWith true as_value known e) = λ named. g.copies known there.0.behind e there.0.found named copied simple there.0.goes in
+            let alone : (is_pure_without_marks e ≡ true) × (all_nodes_fit unit known.next e ≡ true) = and_parts (is_pure_without_marks e) (all_nodes_fit unit known.next e) copied in
+            let simple = g.simple s.greatest s.model unit taken e known reached alone.1 in
+            let erasable : (NamesObjects known → CanBeErasedWith true as_value known e) = λ named. g.copies known there.0.behind e there.0.found named alone.0 simple there.0.goes in
             let them = subst (LabelsAreOf unit program criterion in_front known.next id) are labels_of in
-            let found = new_labels known.next (p ∷ ps) them.together known used (are_predicates g s known e may.0 (and_left (is_pure (erased e)) (not (hides e)) copied) there.0 erasable there.1 (p ∷ ps) are) unused in
+            let found = new_labels known.next (p ∷ ps) them.together known used (are_predicates g s known e may.0 (and_left (is_pure (erased e)) (not (hides e)) alone.0) there.0 erasable there.1 (p ∷ ps) are) unused in
             labelled found.0 (subst (AreNewLabels new used found.0 known) (sym them.labels_are) found.1) found.2 o may simple

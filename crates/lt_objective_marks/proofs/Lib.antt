@@ -6,7 +6,6 @@ pub mod Made
 pub mod Values
 pub mod Noted
 pub mod Predicates
-pub mod Copies
 pub mod Labels
 pub mod Decided
 pub mod Mutated
@@ -48,11 +47,5 @@ pub mod OldIds
 pub mod Rounds
 pub mod FunctionsStand
 pub mod KnowAsMuch
-pub mod Anywhere
-pub mod SimpleErased
-pub mod UntaggedParts
-pub mod SimplePredicates
-pub mod SimpleMarked
 pub mod KeptExpressions
 pub mod KeptStatements
-pub mod UntaggedRounds

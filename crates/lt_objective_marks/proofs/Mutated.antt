@@ -27,6 +27,6 @@ module _ (unit : c.Unit) (program : Program) where
 
   pub mutants_there : (criterion : Criterion) (k : ℕ) (e : c.Expression) (it : Objective) → MayStand unit program criterion stands.as_value k e it in_front → (mutants unit program criterion k e (erased e) ≡ [] → ⊥)
   mutants_there criterion k e it may =
-      some_mutant criterion k e (can_be_copied e && is_value_position unit k) (mutants unit program criterion k e (erased e)) it
-      (at_it criterion k e (is_core e && is_open unit program k) (at_test criterion (decided_at (decisions unit) k) (decided_at (clauses unit) k) k e) (differences unit program criterion k e) it
-      (none_at unit criterion k e may.2.1) may.3)
+      some_mutant criterion k e (can_be_copied unit k e && is_value_position unit k) (mutants unit program criterion k e (erased e)) it
+      (at_it criterion k e (is_core e && is_open unit program k) (at_test criterion (can_be_copied unit k e) (decided_at (decisions unit) k) (decided_at (clauses unit) k) k e) (differences unit program criterion k e) it
+      (none_at unit criterion (can_be_copied unit k e) k e may.2.1) may.3)

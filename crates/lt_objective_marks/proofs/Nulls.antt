@@ -201,7 +201,7 @@ module _ (g : Given) {new : ℕ → Bool} {unit : c.Unit} {program : Program} {c
       own : LabelsAreOf unit program criterion in_front known.next id (at_expression unit program criterion known.next e)
       own = labels_of g s role e known isin
 
-      by : (list : List Objective) → Shape criterion known.next e list → at_expression unit program criterion known.next e ≡ list → labels in_front all known.next ≡ c.no_marks
+      by : (list : List Objective) → Shape unit criterion known.next e list → at_expression unit program criterion known.next e ≡ list → labels in_front all known.next ≡ c.no_marks
       by list shapes.nothing are = own.labels_are ∙ ap (λ l. labels in_front (numbered (next_id id own.together.before) l) known.next) are
       by list (shapes.a_decision d) are = own.labels_are ∙ ap (λ l. labels in_front (numbered (next_id id own.together.before) l) known.next) are
       by list (shapes.labels p ps copied) are =

@@ -91,10 +91,10 @@ none_of_both o false xs ys f g h = h
 -- a string literal that is no test has no objectives
 none_at_text : (unit : c.Unit) (program : Program) (criterion : Criterion) (k : ℕ) (bytes : List ℕ) (o : Objective) → IsNoTest unit k → IsAmong o (at_expression unit program criterion k (c.Text bytes)) → ⊥
 none_at_text unit program criterion k bytes o no_test h =
-    none_of_both o (is_open unit program k) (at_test criterion (decided_at (decisions unit) k) (decided_at (clauses unit) k) k (c.Text bytes)) (differences unit program criterion k (c.Text bytes))
-    (λ i. no_test_here (subst (λ d. AtTest k d None o) no_test.0 (subst (λ d. AtTest k (decided_at (decisions unit) k) d o) no_test.1 (of_test criterion (decided_at (decisions unit) k) (decided_at (clauses unit) k) k (c.Text bytes) o i))))
-    (λ i. none_if o (can_be_copied (c.Text bytes) && is_value_position unit k)
-    (subst (λ list. IsAmong o (if can_be_copied (c.Text bytes) && is_value_position unit k then all_at k in_front criterion (map (inequality (c.Text bytes)) list) else [])) (no_mutants unit program criterion k bytes) i))
+    none_of_both o (is_open unit program k) (at_test criterion (can_be_copied unit k (c.Text bytes)) (decided_at (decisions unit) k) (decided_at (clauses unit) k) k (c.Text bytes)) (differences unit program criterion k (c.Text bytes))
+    (λ i. no_test_here (subst (λ d. AtTest k d None o) no_test.0 (subst (λ d. AtTest k (decided_at (decisions unit) k) d o) no_test.1 (of_test criterion (can_be_copied unit k (c.Text bytes)) (decided_at (decisions unit) k) (decided_at (clauses unit) k) k (c.Text bytes) o i))))
+    (λ i. none_if o (can_be_copied unit k (c.Text bytes) && is_value_position unit k)
+    (subst (λ list. IsAmong o (if can_be_copied unit k (c.Text bytes) && is_value_position unit k then all_at k in_front criterion (map (inequality (c.Text bytes)) list) else [])) (no_mutants unit program criterion k bytes) i))
     h
 
 none_there : (unit : c.Unit) (program : Program) (criterion : Criterion) (k : ℕ) (bytes : List ℕ) (o : Objective) (form : Form) → (form ≡ at_start → ⊥) → o.form ≡ form

@@ -27,24 +27,24 @@ use Rattle.lt_objective_marks.specs.Settings.{Setting}
 use Rattle.lt_objective_marks.proofs.Given.{Given}
 use Rattle.lt_objective_marks.proofs.Noted.{signed_found, takes_integers}
 
-no_tests : (criterion : Criterion) (k : ℕ) (e : c.Expression) → at_test criterion None None k e ≡ []
-no_tests C.Decision k e = refl
-no_tests C.Condition k e = refl
-no_tests C.MultipleCondition k e = refl
-no_tests C.GeneralActiveClause k e = refl
-no_tests C.Function k e = refl
-no_tests C.InputDomain k e = refl
-no_tests C.CorrelatedActiveClause k e = refl
-no_tests C.RestrictedActiveClause k e = refl
-no_tests C.AllUses k e = refl
-no_tests C.AbsoluteValue k e = refl
-no_tests C.ArithmeticOperator k e = refl
-no_tests C.LogicalConnector k e = refl
-no_tests C.RelationalOperator k e = refl
+no_tests : (criterion : Criterion) (copied : Bool) (k : ℕ) (e : c.Expression) → at_test criterion copied None None k e ≡ []
+no_tests C.Decision copied k e = refl
+no_tests C.Condition copied k e = refl
+no_tests C.MultipleCondition copied k e = refl
+no_tests C.GeneralActiveClause copied k e = refl
+no_tests C.Function copied k e = refl
+no_tests C.InputDomain copied k e = refl
+no_tests C.CorrelatedActiveClause copied k e = refl
+no_tests C.RestrictedActiveClause copied k e = refl
+no_tests C.AllUses copied k e = refl
+no_tests C.AbsoluteValue copied k e = refl
+no_tests C.ArithmeticOperator copied k e = refl
+no_tests C.LogicalConnector copied k e = refl
+no_tests C.RelationalOperator copied k e = refl
 
-pub none_at : (unit : c.Unit) (criterion : Criterion) (k : ℕ) (e : c.Expression) → IsNoTest unit k → at_test criterion (decided_at (decisions unit) k) (decided_at (clauses unit) k) k e ≡ []
-none_at unit criterion k e none =
-    ap (λ it. at_test criterion it (decided_at (clauses unit) k) k e) none.0 ∙ ap (λ it. at_test criterion None it k e) none.1 ∙ no_tests criterion k e
+pub none_at : (unit : c.Unit) (criterion : Criterion) (copied : Bool) (k : ℕ) (e : c.Expression) → IsNoTest unit k → at_test criterion copied (decided_at (decisions unit) k) (decided_at (clauses unit) k) k e ≡ []
+none_at unit criterion copied k e none =
+    ap (λ it. at_test criterion copied it (decided_at (clauses unit) k) k e) none.0 ∙ ap (λ it. at_test criterion copied None it k e) none.1 ∙ no_tests criterion copied k e
 
 pub predicates_of : (k : ℕ) (criterion : Criterion) (list : List c.Expression) → map (λ (it : Objective). it.predicate) (all_at k in_front criterion list) ≡ list
 predicates_of k criterion [] = refl
@@ -99,20 +99,20 @@ module _ (g : Given) {new : ℕ → Bool} {unit : c.Unit} {program : Program} {c
 
     -- tests are scalars; what isn't one has no objectives as a test
     of_tests : (is_scalar (own_type there.found) ≡ true) ⊎ IsNoTest unit known.next → (used : List ℕ)
-        → ArePredicates new used known (map (λ it. it.predicate) (at_test criterion (decided_at (decisions unit) known.next) (decided_at (clauses unit) known.next) known.next e))
+        → ArePredicates new used known (map (λ it. it.predicate) (at_test criterion (can_be_copied unit known.next e) (decided_at (decisions unit) known.next) (decided_at (clauses unit) known.next) known.next e))
     of_tests (inl scalar) used =
-        (g.predicates new used known there.behind e there.found core pure erasable there.goes).0 scalar criterion (decided_at (decisions unit) known.next) (decided_at (clauses unit) known.next) known.next
-    of_tests (inr none) used = subst (λ list. ArePredicates new used known (map (λ (it : Objective). it.predicate) list)) (sym (none_at unit criterion known.next e none)) tt
+        (g.predicates new used known there.behind e there.found core pure erasable there.goes).0 scalar criterion (can_be_copied unit known.next e) (decided_at (decisions unit) known.next) (decided_at (clauses unit) known.next) known.next
+    of_tests (inr none) used = subst (λ list. ArePredicates new used known (map (λ (it : Objective). it.predicate) list)) (sym (none_at unit criterion (can_be_copied unit known.next e) known.next e none)) tt
 
     at_open : (b : Bool) → (is_scalar (own_type there.found) ≡ true) ⊎ IsNoTest unit known.next → (used : List ℕ)
-        → ArePredicates new used known (map (λ it. it.predicate) (if b then at_test criterion (decided_at (decisions unit) known.next) (decided_at (clauses unit) known.next) known.next e
+        → ArePredicates new used known (map (λ it. it.predicate) (if b then at_test criterion (can_be_copied unit known.next e) (decided_at (decisions unit) known.next) (decided_at (clauses unit) known.next) known.next e
         ++ differences unit program criterion known.next e else []))
     at_open true tested used =
-        let first = at_test criterion (decided_at (decisions unit) known.next) (decided_at (clauses unit) known.next) known.next e in
+        let first = at_test criterion (can_be_copied unit known.next e) (decided_at (decisions unit) known.next) (decided_at (clauses unit) known.next) known.next e in
         let second = differences unit program criterion known.next e in
         subst (ArePredicates new used known) (sym (map-append (λ (it : Objective). it.predicate) first second))
         (all_both (IsThere is_scalar new used known) (map (λ it. it.predicate) first) (map (λ it. it.predicate) second) (of_tests tested used)
-        (of_differences (can_be_copied e && is_value_position unit known.next) used))
+        (of_differences (can_be_copied unit known.next e && is_value_position unit known.next) used))
     at_open false tested used = tt
 
     -- all objectives there have predicates

@@ -21,7 +21,7 @@ use Rattle.lt_objectives.specs.declared.criteria.Criterion.TheVariants as C
 use Rattle.lt_objectives.specs.Places.{Site, sites, type_at, is_open, is_value_position}
 use Rattle.lt_objectives.specs.Decisions.{Test, clauses_of, decisions, clauses, negation, inequality, clause_list, conjunctions, active_clauses, has_few_clauses}
 use Rattle.lt_objectives.specs.Mutants.{with_others, relations, pointer_relations, absolute_mutants, arithmetic_mutants, connector_mutants, relational_mutants}
-use Rattle.lt_objectives.specs.Copies.{is_core, hides, can_be_copied}
+use Rattle.lt_objectives.specs.Copies.{is_core, hides, is_pure_without_marks, all_nodes_fit, can_be_copied}
 use Rattle.lt_objectives.specs.Objectives.{Form, at_start, in_front, around, Objective, objective, all_at, decided_at, both_truths, combinations, at_test, left_type, right_type, mutants, differences, domains, domains_of_object, parameters_at, at_body, at_expression, at_node, objectives}
 use Rattle.lt_mark_laws.proofs.Lists.{all_both}
 use Rattle.lt_mark_typing.specs.Beside.{AddsLabels, kept, added}
@@ -102,19 +102,19 @@ labelled_if : (b : Bool) (xs ys : List Objective) → (b ≡ true → AllLabelle
 labelled_if true xs ys h g = h refl
 labelled_if false xs ys h g = g
 
-copied_pure : (e : c.Expression) → can_be_copied e ≡ true → IsPure (erased e)
-copied_pure e copied = (and_parts (is_pure (erased e)) (not (hides e)) copied).0
+copied_pure : (unit : c.Unit) (k : ℕ) (e : c.Expression) → can_be_copied unit k e ≡ true → IsPure (erased e)
+copied_pure unit k e copied = (and_parts (is_pure (erased e)) (not (hides e)) (and_parts (is_pure_without_marks e) (all_nodes_fit unit k e) copied).0).0
 
-truths_labelled : (criterion : Criterion) (k decided : ℕ) (e : c.Expression) → AllLabelled (both_truths criterion k decided e)
-truths_labelled criterion k decided e =
-    labelled_if (can_be_copied e) (all_at k in_front criterion (erased e ∷ negation (erased e) ∷ [])) (objective decided around criterion (erased e) ∷ [])
-    (λ h. all_labelled k in_front criterion (erased e ∷ negation (erased e) ∷ []) (copied_pure e h, (copied_pure e h, tt))) (inl refl, tt)
+truths_labelled : (criterion : Criterion) (copied : Bool) (k decided : ℕ) (e : c.Expression) → (copied ≡ true → IsPure (erased e)) → AllLabelled (both_truths criterion copied k decided e)
+truths_labelled criterion copied k decided e pure =
+    labelled_if copied (all_at k in_front criterion (erased e ∷ negation (erased e) ∷ [])) (objective decided around criterion (erased e) ∷ [])
+    (λ h. all_labelled k in_front criterion (erased e ∷ negation (erased e) ∷ []) (pure h, (pure h, tt))) (inl refl, tt)
 
-combinations_labelled : (criterion : Criterion) (k : ℕ) (predicates : c.Expression → List c.Expression) (e : c.Expression) → (IsPure (erased e) → AllPure (predicates (erased e)))
-    → AllLabelled (combinations criterion k predicates e)
-combinations_labelled criterion k predicates e pure =
-    labelled_if (can_be_copied e && has_few_clauses (erased e)) (all_at k in_front criterion (predicates (erased e))) []
-    (λ h. all_labelled k in_front criterion (predicates (erased e)) (pure (copied_pure e (and_parts (can_be_copied e) (has_few_clauses (erased e)) h).0))) tt
+combinations_labelled : (criterion : Criterion) (copied : Bool) (k : ℕ) (predicates : c.Expression → List c.Expression) (e : c.Expression) → (copied ≡ true → AllPure (predicates (erased e)))
+    → AllLabelled (combinations criterion copied k predicates e)
+combinations_labelled criterion copied k predicates e pure =
+    labelled_if (copied && has_few_clauses (erased e)) (all_at k in_front criterion (predicates (erased e))) []
+    (λ h. all_labelled k in_front criterion (predicates (erased e)) (pure (and_parts copied (has_few_clauses (erased e)) h).0)) tt
 
 module _ (decisions_are : DecisionsGivePredicates) (mutants_are : MutantsGivePredicates) (domains_are : DomainsGivePredicates) where
   conjunctions_pure : (d : c.Expression) → IsPure d → AllPure (conjunctions (clause_list d))
@@ -123,12 +123,12 @@ module _ (decisions_are : DecisionsGivePredicates) (mutants_are : MutantsGivePre
   active_pure : (d : c.Expression) → IsPure d → AllPure (active_clauses d)
   active_pure d pure = are_pure (active_clauses d) (decisions_are any [] (nowhere 1) d pure (are_there (clause_list d) (clauses_pure d pure))).2
 
-  test_labelled : (criterion : Criterion) (decision clause : Option ℕ) (k : ℕ) (e : c.Expression) → AllLabelled (at_test criterion decision clause k e)
-  test_labelled C.Decision (Some decided) clause k e = truths_labelled C.Decision k decided e
-  test_labelled C.Condition decision (Some decided) k e = truths_labelled C.Condition k decided e
-  test_labelled C.MultipleCondition (Some decided) clause k e = combinations_labelled C.MultipleCondition k (λ d. conjunctions (clause_list d)) e (conjunctions_pure (erased e))
-  test_labelled C.GeneralActiveClause (Some decided) clause k e = combinations_labelled C.GeneralActiveClause k active_clauses e (active_pure (erased e))
-  test_labelled _ decision clause k e = tt
+  test_labelled : (criterion : Criterion) (copied : Bool) (decision clause : Option ℕ) (k : ℕ) (e : c.Expression) → (copied ≡ true → IsPure (erased e)) → AllLabelled (at_test criterion copied decision clause k e)
+  test_labelled C.Decision copied (Some decided) clause k e pure = truths_labelled C.Decision copied k decided e pure
+  test_labelled C.Condition copied decision (Some decided) k e pure = truths_labelled C.Condition copied k decided e pure
+  test_labelled C.MultipleCondition copied (Some decided) clause k e pure = combinations_labelled C.MultipleCondition copied k (λ d. conjunctions (clause_list d)) e (λ h. conjunctions_pure (erased e) (pure h))
+  test_labelled C.GeneralActiveClause copied (Some decided) clause k e pure = combinations_labelled C.GeneralActiveClause copied k active_clauses e (λ h. active_pure (erased e) (pure h))
+  test_labelled _ copied decision clause k e pure = tt
 
   -- ---- mutants
 
@@ -177,14 +177,14 @@ module _ (decisions_are : DecisionsGivePredicates) (mutants_are : MutantsGivePre
     differences_labelled : (criterion : Criterion) (k : ℕ) (e : c.Expression) → AllLabelled (differences unit program criterion k e)
     differences_labelled criterion k e =
         let list = map (inequality (erased e)) (mutants unit program criterion k e (erased e)) in
-        labelled_if (can_be_copied e && is_value_position unit k) (all_at k in_front criterion list) []
-        (λ h. all_labelled k in_front criterion list (mutants_pure criterion k e (erased e) (copied_pure e (and_parts (can_be_copied e) (is_value_position unit k) h).0))) tt
+        labelled_if (can_be_copied unit k e && is_value_position unit k) (all_at k in_front criterion list) []
+        (λ h. all_labelled k in_front criterion list (mutants_pure criterion k e (erased e) (copied_pure unit k e (and_parts (can_be_copied unit k e) (is_value_position unit k) h).0))) tt
 
     expression_labelled : (criterion : Criterion) (k : ℕ) (e : c.Expression) → AllLabelled (at_expression unit program criterion k e)
     expression_labelled criterion k e =
-        let tests = at_test criterion (decided_at (decisions unit) k) (decided_at (clauses unit) k) k e in
+        let tests = at_test criterion (can_be_copied unit k e) (decided_at (decisions unit) k) (decided_at (clauses unit) k) k e in
         labelled_if (is_core e && is_open unit program k) (tests ++ differences unit program criterion k e) []
-        (λ h. all_both IsPurelyLabelled tests (differences unit program criterion k e) (test_labelled criterion (decided_at (decisions unit) k) (decided_at (clauses unit) k) k e) (differences_labelled criterion k e)) tt
+        (λ h. all_both IsPurelyLabelled tests (differences unit program criterion k e) (test_labelled criterion (can_be_copied unit k e) (decided_at (decisions unit) k) (decided_at (clauses unit) k) k e (copied_pure unit k e)) (differences_labelled criterion k e)) tt
 
     -- ---- at the start of functions
 

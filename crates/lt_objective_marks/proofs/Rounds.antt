@@ -22,7 +22,6 @@ use Rattle.lt_mark_typing.specs.PlacedUnits.{AddsToUnit}
 use Rattle.lt_objective_typing.specs.Laws.{LabelsOfObjectivesAreNew, DecisionsGivePredicates, MutantsGivePredicates, DomainsGivePredicates}
 use Rattle.lt_objective_marks.specs.Units.{ObjectivesAreAdded}
 use Rattle.lt_objective_marks.proofs.Units.{same_functions}
-use Rattle.lt_erased_typing.specs.CopiedExpressions.{CopiesAreSimple, AllCopiesAreSimple}
 use Rattle.lt_objective_marks.specs.Rounds.{IsMadeFrom, first_unit, marked_unit, FirstProgramsKnowAsMuch, RoundsRunAsTheyDid}
 use Rattle.lt_objective_marks.proofs.OldMarks.{unit_stays_old}
 use Rattle.lt_objective_marks.proofs.PurePredicates.{objectives_labelled}
@@ -55,9 +54,9 @@ behind_from (criterion ∷ rest) unit first id =
 
 -- the marks of a criterion's objectives are added where they may stand
 marks_added : ObjectivesAreAdded → (greatest : ℕ) (model : DataModel) (unit : c.Unit) (own : Program) (criterion : Criterion) (id : ℕ) → IsProgramTo greatest model unit own → AreOld (is_from id) (nodes unit) → 1 ≤ id
-    → next_id id (objectives unit own criterion) ≤ suc greatest_label_id → CopiesAreSimple greatest model unit own criterion
+    → next_id id (objectives unit own criterion) ≤ suc greatest_label_id
     → (after : List ℕ) × AddsToUnit (is_from id) [] after (starting greatest model (filter_map defined_in unit)) unit (unit_with_marks (numbered id (objectives unit own criterion)) unit)
-marks_added added greatest model unit own criterion id is old least last simple =
+marks_added added greatest model unit own criterion id is old least last =
     added (is_from id) unit own criterion id (record {
       model = model;
       greatest = greatest;
@@ -66,7 +65,6 @@ marks_added added greatest model unit own criterion id is old least last simple 
       first = least;
       last = last;
       fresh = λ n low high. le-leb id n low;
-      copies = simple;
     })
 
 -- ---- all rounds
@@ -76,9 +74,9 @@ module _ (labels_are_new : LabelsOfObjectivesAreNew) (decisions_are : DecisionsG
     (written : ℕ) (model : DataModel) (start : c.Unit) (first : Program) (typed : IsProgramTo written model start first) (least : ℕ) where
   rounds : (criteria : List Criterion) (greatest : ℕ) (own : Program) (unit : c.Unit) (id : ℕ) (further : List Bool) → least ≤ id → 1 ≤ id → IsMadeFrom model first greatest unit own → IsProgramTo greatest model unit own
       → IsMadeBeside (is_from least) further first own
-      → AreOld (is_from id) (nodes unit) → next_behind criteria unit first id ≤ suc greatest_label_id → AllCopiesAreSimple model criteria unit first id
+      → AreOld (is_from id) (nodes unit) → next_behind criteria unit first id ≤ suc greatest_label_id
       → RunsAs (is_from least) model first (marked_by criteria unit first id)
-  rounds [] greatest own unit id further low one made is so_far old last simple = (
+  rounds [] greatest own unit id further low one made is so_far old last = (
     greatest,
     own,
     further,
@@ -86,7 +84,7 @@ module _ (labels_are_new : LabelsOfObjectivesAreNew) (decisions_are : DecisionsG
     so_far,
     beside (is_from least) further written greatest model start unit first own typed is so_far,
   )
-  rounds (criterion ∷ rest) greatest own unit id further low one made is so_far old last simple =
+  rounds (criterion ∷ rest) greatest own unit id further low one made is so_far old last =
       let them : List Objective = objectives unit first criterion in
       let next : ℕ = next_id id them in
       let marks : List NewMark = numbered id them in
@@ -96,7 +94,7 @@ module _ (labels_are_new : LabelsOfObjectivesAreNew) (decisions_are : DecisionsG
       let most : next_behind rest marked first next ≤ suc greatest_label_id = last in
       let more : next ≤ next_behind rest marked first next = behind_from rest marked first next in
       let small : next_id id (objectives unit first criterion) ≤ suc greatest_label_id = omega (arith, most, more) in
-      let it = marks_added added greatest model unit own criterion id is old one (subst (λ those. next_id id those ≤ suc greatest_label_id) same small) (simple.0 greatest own is) in
+      let it = marks_added added greatest model unit own criterion id is old one (subst (λ those. next_id id those ≤ suc greatest_label_id) same small) in
       let adds : AddsToUnit (is_from id) [] it.0 (starting greatest model (filter_map defined_in unit)) unit marked =
       subst (λ those. AddsToUnit (is_from id) [] it.0 (starting greatest model (filter_map defined_in unit)) unit (unit_with_marks (numbered id those) unit)) (sym same) it.1 in
       let here = again (is_from id) greatest model unit marked it.0 own adds (same_functions marks unit) is in
@@ -104,10 +102,10 @@ module _ (labels_are_new : LabelsOfObjectivesAreNew) (decisions_are : DecisionsG
       let old_marks = all_old labels_are_new next id them one (omega arith) small (objectives_labelled decisions_are mutants_are domains_are unit first criterion) in
       let still_old = nodes_old (is_from id) (is_from next) (λ n h. later_from id next n ids h) (nodes unit) old in
       rounds rest greatest_label_id here.0 marked next longer.0 (omega (arith, ids)) (omega (arith, ids)) (marked_unit made adds (same_functions marks unit) here.2) here.2 longer.1
-      (unit_stays_old (is_from next) marks old_marks unit still_old) most simple.1
+      (unit_stays_old (is_from next) marks old_marks unit still_old) most
 
 pub rounds_run : FirstProgramsKnowAsMuch → LabelsOfObjectivesAreNew → DecisionsGivePredicates → MutantsGivePredicates → DomainsGivePredicates → ObjectivesAreAdded → UnitsAreTypedAgain
     → ProgramsAreMadeInSteps → ProgramsRunBeside → RoundsRunAsTheyDid
-rounds_run as_much labels_are_new decisions_are mutants_are domains_are added again in_steps beside = λ greatest model criteria unit program id is one old last simple.
+rounds_run as_much labels_are_new decisions_are mutants_are domains_are added again in_steps beside = λ greatest model criteria unit program id is one old last.
     let itself = in_steps.0 (is_from id) program in
-    rounds labels_are_new decisions_are mutants_are domains_are added again in_steps beside as_much greatest model unit program is id criteria greatest program unit id itself.0 (omega arith) one (first_unit is) is itself.1 old last simple
+    rounds labels_are_new decisions_are mutants_are domains_are added again in_steps beside as_much greatest model unit program is id criteria greatest program unit id itself.0 (omega arith) one (first_unit is) is itself.1 old last

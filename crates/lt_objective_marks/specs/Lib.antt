@@ -4,4 +4,3 @@ pub mod Bodies
 pub mod Units
 pub mod Marks
 pub mod Rounds
-pub mod Untagged

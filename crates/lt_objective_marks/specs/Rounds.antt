@@ -15,7 +15,6 @@ use Rattle.lt_survey.specs.Marking.{next_behind}
 use Rattle.lt_mark_typing.specs.Placed.{AreOld}
 use Rattle.lt_mark_typing.specs.PlacedUnits.{AddsToUnit}
 use Rattle.lt_mark_typing.specs.MarkedRuns.{is_from, RunsAs}
-use Rattle.lt_erased_typing.specs.CopiedExpressions.{AllCopiesAreSimple}
 
 -- ---- what was made of a first unit
 
@@ -40,7 +39,7 @@ FirstProgramsKnowAsMuch =
 abbrev pub RoundsRunAsTheyDid : Type 0
 RoundsRunAsTheyDid =
     (greatest : ℕ) (model : DataModel) (criteria : List Criterion) (unit : c.Unit) (program : Program) (id : ℕ) → IsProgramTo greatest model unit program → 1 ≤ id → AreOld (is_from id) (nodes unit)
-    → next_behind criteria unit program id ≤ suc greatest_label_id → AllCopiesAreSimple model criteria unit program id
+    → next_behind criteria unit program id ≤ suc greatest_label_id
     → RunsAs (is_from id) model program (marked_by criteria unit program id)
 
 -- So does the unit with the marks of a set of criteria, where ids go on from the greatest of its own.
@@ -48,5 +47,4 @@ abbrev pub MarkedUnitsOfSetsRunAsTheyDid : Type 0
 MarkedUnitsOfSetsRunAsTheyDid =
     (model : DataModel) (unit : c.Unit) (program : Program) (set : ℕ) → IsProgramOf model unit program
     → next_behind (criteria_in set) unit program (suc (greatest_id (ids_of_unit unit))) ≤ suc greatest_label_id
-    → AllCopiesAreSimple model (criteria_in set) unit program (suc (greatest_id (ids_of_unit unit)))
     → RunsAs (is_from (suc (greatest_id (ids_of_unit unit)))) model program (marked unit program set (suc (greatest_id (ids_of_unit unit))))

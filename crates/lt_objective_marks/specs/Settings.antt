@@ -17,7 +17,6 @@ use Rattle.lt_objective_places.specs.Stands.{IsAmong, IsWithin, Role}
 use Rattle.lt_objective_places.specs.Stands as stands
 use Rattle.lt_mark_typing.specs.Beside.{is_used, Position, in_use, in_test}
 use Rattle.lt_mark_typing.specs.Placed.{AreOld}
-use Rattle.lt_erased_typing.specs.CopiedExpressions.{CopiesAreSimple}
 
 -- the new marks of a unit
 abbrev pub marks_of : c.Unit → Program → Criterion → (id : ℕ) → List NewMark
@@ -33,8 +32,6 @@ pub record Setting (new : ℕ → Bool) (unit : c.Unit) (program : Program) (cri
   pub first : 1 ≤ id
   pub last : next_id id (objectives unit program criterion) ≤ suc greatest_label_id
   pub fresh : (n : ℕ) → id ≤ n → n < next_id id (objectives unit program criterion) → new n ≡ true
-  -- an expression with an objective in front of it is simple where typing comes to it
-  pub copies : CopiesAreSimple greatest model unit program criterion
 
 -- ---- ids
 

@@ -7,7 +7,6 @@ ghost use Rattle.lt_objective_marks.specs.Rounds.{
   RoundsRunAsTheyDid,
 };
 ghost use Rattle.lt_objective_marks.specs.Units.{MarkedUnitsRunAsTheyDid, ObjectivesAreAdded};
-ghost use Rattle.lt_objective_marks.specs.Untagged.{UntaggedTextsAreSimple};
 
 use lt_erased_typing::{literals_are_typed_without_marks, truths_are_typed_as_values};
 use lt_kept_facts::{marked_units_know_the_same, objectives_are_found_by_either};
@@ -21,6 +20,7 @@ use lt_objective_typing::{
     decisions_give_predicates, domains_give_predicates, labels_of_objectives_are_new,
     marked_expressions_have_predicates, mutants_give_predicates,
 };
+use lt_simple_copies::copies_are_simple;
 use lt_tree_laws::nodes_are_numbered;
 use lt_typed_nodes::{constants_stay, operands_have_their_types, parts_are_come_to};
 
@@ -40,6 +40,7 @@ pub fn objectives_are_added_to_expressions()
     constants_stay();
     constants_are_closed();
     literals_are_typed_without_marks();
+    copies_are_simple();
     no_test_is_a_pointer_to_a_function();
 }
 
@@ -93,13 +94,4 @@ pub fn marked_units_of_sets_run_as_they_did()
     ensures { MarkedUnitsOfSetsRunAsTheyDid }
 {
     rounds_run_as_they_did();
-}
-
-/// What predicates copy is simple in each round, where no expression of the unit has a type name with a struct by its tag alone.
-pub fn untagged_texts_are_simple()
-    ensures { UntaggedTextsAreSimple }
-{
-    decisions_give_predicates();
-    mutants_give_predicates();
-    domains_give_predicates();
 }

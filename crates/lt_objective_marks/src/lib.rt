@@ -1,4 +1,4 @@
-// The marks of objectives stand where marks may be added: `specs/Settings.antt` says what is given, `specs/Laws.antt`, `specs/Units.antt` and `specs/Rounds.antt` what holds, `specs/Untagged.antt` where a text shows what is asked of copies.
+// The marks of objectives stand where marks may be added: `specs/Settings.antt` says what is given, `specs/Laws.antt`, `specs/Units.antt` and `specs/Rounds.antt` what holds.
 #![tactic(auto)]
 
 mod laws;
@@ -6,5 +6,5 @@ mod laws;
 pub use laws::{
     first_programs_know_as_much, marked_units_of_sets_run_as_they_did,
     marked_units_run_as_they_did, objectives_are_added, objectives_are_added_to_expressions,
-    rounds_run_as_they_did, untagged_texts_are_simple,
+    rounds_run_as_they_did,
 };

@@ -88,19 +88,19 @@ of_truths criterion k d e decision clause o false is (inl one) =
     around_test (subst (λ n. (decision ≡ Some n) ⊎ (clause ≡ Some n)) place is) (ap (λ (x : Objective). x.form) (sym one))
 of_truths criterion k d e decision clause o false is (inr h) = absurd h
 
-of_combinations : (criterion : Criterion) (k d : ℕ) (predicates : c.Expression → List c.Expression) (e : c.Expression) (decision clause : Option ℕ) (o : Objective) → (decision ≡ Some d) ⊎ (clause ≡ Some d)
-    → IsAmong o (combinations criterion k predicates e) → AtTest k decision clause o
-of_combinations criterion k d predicates e decision clause o is h =
-    let some = when (can_be_copied e && has_few_clauses (erased e)) o (all_at k in_front criterion (predicates (erased e))) h in
+of_combinations : (criterion : Criterion) (copied : Bool) (k d : ℕ) (predicates : c.Expression → List c.Expression) (e : c.Expression) (decision clause : Option ℕ) (o : Objective) → (decision ≡ Some d) ⊎ (clause ≡ Some d)
+    → IsAmong o (combinations criterion copied k predicates e) → AtTest k decision clause o
+of_combinations criterion copied k d predicates e decision clause o is h =
+    let some = when (copied && has_few_clauses (erased e)) o (all_at k in_front criterion (predicates (erased e))) h in
     let it = of_all k in_front criterion (predicates (erased e)) o some.1 in
     in_front_of_test d is it.0 it.1
 
-pub of_test : (criterion : Criterion) (decision clause : Option ℕ) (k : ℕ) (e : c.Expression) (o : Objective) → IsAmong o (at_test criterion decision clause k e) → AtTest k decision clause o
-of_test C.Decision (Some d) clause k e o h = of_truths C.Decision k d (erased e) (Some d) clause o (can_be_copied e) (inl refl) h
-of_test C.Condition decision (Some d) k e o h = of_truths C.Condition k d (erased e) decision (Some d) o (can_be_copied e) (inr refl) h
-of_test C.MultipleCondition (Some d) clause k e o h = of_combinations C.MultipleCondition k d (λ d. conjunctions (clause_list d)) e (Some d) clause o (inl refl) h
-of_test C.GeneralActiveClause (Some d) clause k e o h = of_combinations C.GeneralActiveClause k d active_clauses e (Some d) clause o (inl refl) h
-of_test _ decision clause k e o h = absurd h
+pub of_test : (criterion : Criterion) (copied : Bool) (decision clause : Option ℕ) (k : ℕ) (e : c.Expression) (o : Objective) → IsAmong o (at_test criterion copied decision clause k e) → AtTest k decision clause o
+of_test C.Decision copied (Some d) clause k e o h = of_truths C.Decision k d (erased e) (Some d) clause o copied (inl refl) h
+of_test C.Condition copied decision (Some d) k e o h = of_truths C.Condition k d (erased e) decision (Some d) o copied (inr refl) h
+of_test C.MultipleCondition copied (Some d) clause k e o h = of_combinations C.MultipleCondition copied k d (λ d. conjunctions (clause_list d)) e (Some d) clause o (inl refl) h
+of_test C.GeneralActiveClause copied (Some d) clause k e o h = of_combinations C.GeneralActiveClause copied k d active_clauses e (Some d) clause o (inl refl) h
+of_test _ copied decision clause k e o h = absurd h
 
 -- Where an objective stands: at the start of a function; in front of an expression that a label may stand in front of, which is a test or a value; or
 -- around what is decided of such an expression.
@@ -132,20 +132,20 @@ module _ (unit : c.Unit) (program : Program) (criterion : Criterion) (o : Object
 
   found_value : IsAmong o (differences unit program criterion k e) → IsFound unit program criterion o
   found_value h =
-      let some = when (can_be_copied e && is_value_position unit k) o _ h in
+      let some = when (can_be_copied unit k e && is_value_position unit k) o _ h in
       let it = of_all k in_front criterion _ o some.1 in
       let place : o.place ≡ k = it.0 in
       found_in_front e it.1 (subst (λ n. IsAmong (record { number = n; node = an_expression e }) (sites unit)) (sym place) among) is_a_core (ap (is_open unit program) place ∙ opened)
-      (inr (ap (is_value_position unit) place ∙ (both_true (can_be_copied e) (is_value_position unit k) some.0).1)) (subst (λ n. IsAmong o (at_expression unit program criterion n e)) (sym place) at_it)
+      (inr (ap (is_value_position unit) place ∙ (both_true (can_be_copied unit k e) (is_value_position unit k) some.0).1)) (subst (λ n. IsAmong o (at_expression unit program criterion n e)) (sym place) at_it)
 
 found_expression : (unit : c.Unit) (program : Program) (criterion : Criterion) (o : Objective) (k : ℕ) (e : c.Expression) → IsAmong (record { number = k; node = an_expression e }) (sites unit)
     → IsAmong o (at_expression unit program criterion k e) → IsFound unit program criterion o
 found_expression unit program criterion o k e among h =
-    let test = at_test criterion (decided_at (decisions unit) k) (decided_at (clauses unit) k) k e in
+    let test = at_test criterion (can_be_copied unit k e) (decided_at (decisions unit) k) (decided_at (clauses unit) k) k e in
     let some = when (is_core e && is_open unit program k) o (test ++ differences unit program criterion k e) h in
     let both = both_true (is_core e) (is_open unit program k) some.0 in
     elim (in_either o test (differences unit program criterion k e) some.1) [
-      | inl i ↦ found_test unit program criterion o k e among both.0 both.1 h (of_test criterion (decided_at (decisions unit) k) (decided_at (clauses unit) k) k e o i)
+      | inl i ↦ found_test unit program criterion o k e among both.0 both.1 h (of_test criterion (can_be_copied unit k e) (decided_at (decisions unit) k) (decided_at (clauses unit) k) k e o i)
       | inr i ↦ found_value unit program criterion o k e among both.0 both.1 h i
     ]
 
@@ -169,11 +169,11 @@ found unit program criterion o h =
 of_expression : (unit : c.Unit) (program : Program) (criterion : Criterion) (o : Objective) (k : ℕ) (e : c.Expression) → IsAmong o (at_expression unit program criterion k e)
     → AtTest k (decided_at (decisions unit) k) (decided_at (clauses unit) k) o ⊎ ((o.place ≡ k) × (o.form ≡ in_front))
 of_expression unit program criterion o k e h =
-    let test = at_test criterion (decided_at (decisions unit) k) (decided_at (clauses unit) k) k e in
+    let test = at_test criterion (can_be_copied unit k e) (decided_at (decisions unit) k) (decided_at (clauses unit) k) k e in
     let some = when (is_core e && is_open unit program k) o (test ++ differences unit program criterion k e) h in
     elim (in_either o test (differences unit program criterion k e) some.1) [
-      | inl i ↦ inl (of_test criterion (decided_at (decisions unit) k) (decided_at (clauses unit) k) k e o i)
-      | inr i ↦ inr (of_all k in_front criterion _ o (when (can_be_copied e && is_value_position unit k) o _ i).1)
+      | inl i ↦ inl (of_test criterion (can_be_copied unit k e) (decided_at (decisions unit) k) (decided_at (clauses unit) k) k e o i)
+      | inr i ↦ inr (of_all k in_front criterion _ o (when (can_be_copied unit k e && is_value_position unit k) o _ i).1)
     ]
 
 -- one that isn't around an expression has the number of the node

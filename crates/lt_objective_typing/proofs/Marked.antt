@@ -78,7 +78,7 @@ of_marked made quiet named new used known next e x core pure can q =
     let found = with_literals known next e x n (can n) q known.next known.labels known.facts in
     let more = further_of found.4 in
     (found.0, found.1, found.3, more.0, more.2, found.5 ∙ ap (λ (objects : List Object). Goes found.0 (record known { next = found.1; objects = objects; facts = found.3 })) more.1, found.6)) in (
-      (λ s criterion decision clause k. all.0 s criterion decision clause k e refl),
+      (λ s criterion copied decision clause k. all.0 s criterion copied decision clause k e refl),
       all.1,
       all.2,
       (λ t u h. all.3 t u (λ b n. takes known next e x core n (can n) q (h b))),

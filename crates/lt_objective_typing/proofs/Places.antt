@@ -15,7 +15,6 @@ use Rattle.lt_objectives.specs.declared.criteria.Criterion.{Criterion}
 use Rattle.lt_objectives.specs.declared.criteria.Criterion.TheVariants as C
 use Rattle.lt_objectives.specs.Decisions.{negation, clause_list, conjunctions, active_clauses, has_few_clauses}
 use Rattle.lt_objectives.specs.Mutants.{is_fitting, is_signed_integer, absolute_mutants, arithmetic_mutants, connector_mutants, relational_mutants}
-use Rattle.lt_objectives.specs.Copies.{can_be_copied}
 use Rattle.lt_objectives.specs.Objectives.{Form, in_front, around, Objective, objective, all_at, at_test}
 use Rattle.lt_mark_laws.proofs.Lists.{all_both}
 use Rattle.lt_mark_typing.specs.Placed.{IsAt, IsThere}
@@ -137,32 +136,32 @@ module _ (new : ℕ → Bool) (used' : List ℕ) (k : Known) where
   combinations_by true criterion place list h = them_at place in_front criterion list h
   combinations_by false criterion place list h = tt
 
-  at_tests : (criterion : Criterion) (decision clause : Option ℕ) (place : ℕ) (e : c.Expression) → ArePredicates new used' k (erased e ∷ negation (erased e) ∷ []) → ArePredicates new used' k (conjunctions (clause_list (erased e)))
+  at_tests : (criterion : Criterion) (copied : Bool) (decision clause : Option ℕ) (place : ℕ) (e : c.Expression) → ArePredicates new used' k (erased e ∷ negation (erased e) ∷ []) → ArePredicates new used' k (conjunctions (clause_list (erased e)))
       → ArePredicates new used' k (active_clauses (erased e))
-      → ArePredicates new used' k (map (λ it. it.predicate) (at_test criterion decision clause place e))
-  at_tests C.Decision (Some decided) clause place e h g f = truths_by (can_be_copied e) C.Decision place decided (erased e) h
-  at_tests C.Condition decision (Some decided) place e h g f = truths_by (can_be_copied e) C.Condition place decided (erased e) h
-  at_tests C.MultipleCondition (Some decided) clause place e h g f = combinations_by (can_be_copied e && has_few_clauses (erased e)) C.MultipleCondition place (conjunctions (clause_list (erased e))) g
-  at_tests C.GeneralActiveClause (Some decided) clause place e h g f = combinations_by (can_be_copied e && has_few_clauses (erased e)) C.GeneralActiveClause place (active_clauses (erased e)) f
-  at_tests C.Decision None clause place e h g f = tt
-  at_tests C.Condition decision None place e h g f = tt
-  at_tests C.MultipleCondition None clause place e h g f = tt
-  at_tests C.GeneralActiveClause None clause place e h g f = tt
-  at_tests C.Function decision clause place e h g f = tt
-  at_tests C.InputDomain decision clause place e h g f = tt
-  at_tests C.CorrelatedActiveClause decision clause place e h g f = tt
-  at_tests C.RestrictedActiveClause decision clause place e h g f = tt
-  at_tests C.AllUses decision clause place e h g f = tt
-  at_tests C.AbsoluteValue decision clause place e h g f = tt
-  at_tests C.ArithmeticOperator decision clause place e h g f = tt
-  at_tests C.LogicalConnector decision clause place e h g f = tt
-  at_tests C.RelationalOperator decision clause place e h g f = tt
+      → ArePredicates new used' k (map (λ it. it.predicate) (at_test criterion copied decision clause place e))
+  at_tests C.Decision copied (Some decided) clause place e h g f = truths_by copied C.Decision place decided (erased e) h
+  at_tests C.Condition copied decision (Some decided) place e h g f = truths_by copied C.Condition place decided (erased e) h
+  at_tests C.MultipleCondition copied (Some decided) clause place e h g f = combinations_by (copied && has_few_clauses (erased e)) C.MultipleCondition place (conjunctions (clause_list (erased e))) g
+  at_tests C.GeneralActiveClause copied (Some decided) clause place e h g f = combinations_by (copied && has_few_clauses (erased e)) C.GeneralActiveClause place (active_clauses (erased e)) f
+  at_tests C.Decision copied None clause place e h g f = tt
+  at_tests C.Condition copied decision None place e h g f = tt
+  at_tests C.MultipleCondition copied None clause place e h g f = tt
+  at_tests C.GeneralActiveClause copied None clause place e h g f = tt
+  at_tests C.Function copied decision clause place e h g f = tt
+  at_tests C.InputDomain copied decision clause place e h g f = tt
+  at_tests C.CorrelatedActiveClause copied decision clause place e h g f = tt
+  at_tests C.RestrictedActiveClause copied decision clause place e h g f = tt
+  at_tests C.AllUses copied decision clause place e h g f = tt
+  at_tests C.AbsoluteValue copied decision clause place e h g f = tt
+  at_tests C.ArithmeticOperator copied decision clause place e h g f = tt
+  at_tests C.LogicalConnector copied decision clause place e h g f = tt
+  at_tests C.RelationalOperator copied decision clause place e h g f = tt
 
 -- what the objectives at an expression have, where the marks around it are taken off
 abbrev pub HaveAll : (ℕ → Bool) → List ℕ → Known → c.Expression → CType → (CType → CType → Type 0) → Type 0
 HaveAll new used known e s Takes =
-    (is_scalar s ≡ true → (criterion : Criterion) (decision clause : Option ℕ) (k : ℕ) (marked : c.Expression) → erased marked ≡ e
-    → ArePredicates new used known (map (λ it. it.predicate) (at_test criterion decision clause k marked)))
+    (is_scalar s ≡ true → (criterion : Criterion) (copied : Bool) (decision clause : Option ℕ) (k : ℕ) (marked : c.Expression) → erased marked ≡ e
+    → ArePredicates new used known (map (λ it. it.predicate) (at_test criterion copied decision clause k marked)))
     × ((model : DataModel) (t : CType) → (is_signed_integer model t ≡ true → is_integer s ≡ true) → ArePredicates new used known (differences_from e (absolute_mutants model t e)))
     × ArePredicates new used known (differences_from e (connector_mutants e))
     × ((t u : CType) → Takes t u
@@ -172,10 +171,10 @@ HaveAll new used known e s Takes =
 pub of_typed : PredicatesAreMade → PureExpressionsAreThere → NamedObjectsAreKnown → (new : ℕ → Bool) (used : List ℕ) (known : Known) (e : c.Expression) (s : CType) → is_pure e ≡ true
     → TypedNamed known e s → HaveAll new used known e s (λ t u. is_integer t && is_integer u ≡ true → NamesObjects known → TakesIntegers known e)
 of_typed made quiet named new used known e s p h = (
-  λ q criterion decision clause place marked is.
+  λ q criterion copied decision clause place marked is.
       let clauses = clauses_there made quiet named new used known (clauses_in e p) p (λ n. typed_at known e is_scalar q (h n)) in
       let them = subst (HavePredicates new used known) (sym is) (of_decisions made new used known e p clauses) in
-      at_tests new used known criterion decision clause place marked them.0 them.1 them.2,
+      at_tests new used known criterion copied decision clause place marked them.0 them.1 them.2,
   λ model t f. absolutes made new used known (is_fitting e && is_signed_integer model t) e
       (λ b. there quiet named new used known is_integer e p (λ n. typed_at known e is_integer (f (and_second (is_fitting e) (is_signed_integer model t) b)) (h n))),
   connector_there made quiet named new used known e s p h,

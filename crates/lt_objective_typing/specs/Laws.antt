@@ -72,8 +72,8 @@ abbrev pub ObjectivesHavePredicates : Type 0
 ObjectivesHavePredicates =
     (new : ℕ → Bool) (used : List ℕ) (known : Known) (e : c.Expression) (x : Typed) (next : ℕ) (facts : List Fact) (more : List Object)
     → is_pure e ≡ true → AllByRecursion IsFurther more → expression e as_value known ≡ Goes x (record known { next = next; objects = known.objects ++ more; facts = facts })
-    → (is_scalar (own_type x) ≡ true → (criterion : Criterion) (decision clause : Option ℕ) (k : ℕ) (marked : c.Expression) → erased marked ≡ e
-    → ArePredicates new used known (map (λ it. it.predicate) (at_test criterion decision clause k marked)))
+    → (is_scalar (own_type x) ≡ true → (criterion : Criterion) (copied : Bool) (decision clause : Option ℕ) (k : ℕ) (marked : c.Expression) → erased marked ≡ e
+    → ArePredicates new used known (map (λ it. it.predicate) (at_test criterion copied decision clause k marked)))
     × ((model : DataModel) (t : CType) → (is_signed_integer model t ≡ true → is_integer (own_type x) ≡ true) → ArePredicates new used known (differences_from e (absolute_mutants model t e)))
     × ArePredicates new used known (differences_from e (connector_mutants e))
     × ((t u : CType) → (is_integer t && is_integer u ≡ true → TakesIntegers known e)
@@ -85,7 +85,7 @@ abbrev pub MarkedExpressionsHavePredicates : Type 0
 MarkedExpressionsHavePredicates =
     (new : ℕ → Bool) (used : List ℕ) (known next : Known) (e : c.Expression) (x : Typed)
     → is_core e ≡ true → is_pure (erased e) ≡ true → (NamesObjects known → CanBeErasedWith true as_value known e) → expression e as_value known ≡ Goes x next
-    → (is_scalar (own_type x) ≡ true → (criterion : Criterion) (decision clause : Option ℕ) (k : ℕ) → ArePredicates new used known (map (λ it. it.predicate) (at_test criterion decision clause k e)))
+    → (is_scalar (own_type x) ≡ true → (criterion : Criterion) (copied : Bool) (decision clause : Option ℕ) (k : ℕ) → ArePredicates new used known (map (λ it. it.predicate) (at_test criterion copied decision clause k e)))
     × ((model : DataModel) (t : CType) → (is_signed_integer model t ≡ true → is_integer (own_type x) ≡ true) → ArePredicates new used known (differences_from (erased e) (absolute_mutants model t (erased e))))
     × ArePredicates new used known (differences_from (erased e) (connector_mutants (erased e)))
     × ((t u : CType) → (is_integer t && is_integer u ≡ true → TakesIntegers known e)

@@ -1,10 +1,10 @@
 -- Statements and units with new marks are erased to what they are without.
-use Rattle.std.proofs.Common.{◌≡◌, ℕ, List, [], ◌∷◌, Option, Some, None, Bool, true, false, refl, ap, ◌∙◌}
-use Rattle.std.specs.Prelude.{◌+◌, length, map, option_map}
+use Rattle.std.proofs.Common.{◌≡◌, ℕ, List, [], ◌∷◌, refl, ap, ◌∙◌}
+use Rattle.std.specs.Prelude.{◌+◌, length, map}
 use Rattle.std.specs.List.{flat_map}
 use Rattle.lt_tree.specs.Tree as t
 use Rattle.lt_tree.specs.Nodes.{in_expression, in_specifiers, in_declarator, in_declaration, in_mark, in_start, in_optional, in_label, in_statement, in_external}
-use Rattle.lt_tree.specs.Erasure.{erased, erased_specifiers, erased_declarator, erased_declaration, erased_start, erased_label, erased_statement, erased_items, erased_cases, erased_external, erased_unit}
+use Rattle.lt_tree.specs.Erasure.{erased_specifiers, erased_declarator, erased_label, erased_statement, erased_items, erased_cases, erased_external, erased_unit}
 use Rattle.lt_tree.specs.Typing.Programs.{Program}
 use Rattle.lt_objectives.specs.declared.criteria.Criterion.{Criterion}
 use Rattle.lt_objectives.specs.Criteria.{criteria_in}

@@ -1,8 +1,11 @@
 -- Expressions that predicates copy, without their marks.
-use Rattle.std.specs.Prelude.{Bool, true, false, not, ◌&&◌, ◌||◌}
+use Rattle.std.specs.Prelude.{ℕ, Bool, true, false, not, ◌&&◌, ◌||◌, List, length, take, drop}
+use Rattle.std.specs.List.{list_all}
 use Rattle.lt_tree.specs.Tree as c
+use Rattle.lt_tree.specs.Nodes.{in_expression}
 use Rattle.lt_tree.specs.Erasure.{erased}
 use Rattle.lt_tree.specs.Purity.{is_pure}
+use Rattle.lt_objectives.specs.Tags.{fitting_nodes}
 
 -- no mark stands directly around it
 abbrev pub is_core : c.Expression → Bool
@@ -43,6 +46,18 @@ abbrev mutual
   any_hides c.no_expressions = false
   any_hides (c.an_expression first rest) = hides first || any_hides rest
 
--- A predicate may copy a pure expression, with or without marks in it, if these hide nothing.
-abbrev pub can_be_copied : c.Expression → Bool
-can_be_copied e = is_pure (erased e) && not (hides e)
+-- A pure expression, with or without marks in it, which hide nothing: without them it is the same.
+abbrev pub is_pure_without_marks : c.Expression → Bool
+is_pure_without_marks e = is_pure (erased e) && not (hides e)
+
+-- whether all these nodes may be copied, from this number on
+abbrev pub all_fit : List Bool → (first size : ℕ) → Bool
+all_fit fitting first size = list_all (λ it. it) (take size (drop first fitting))
+
+-- whether each node of an expression of this number may be copied
+abbrev pub all_nodes_fit : c.Unit → ℕ → c.Expression → Bool
+all_nodes_fit unit k e = all_fit (fitting_nodes unit) k (length (in_expression e))
+
+-- A predicate may copy such an expression of this number, if no type name in it declares a struct or an enum.
+abbrev pub can_be_copied : c.Unit → ℕ → c.Expression → Bool
+can_be_copied unit k e = is_pure_without_marks e && all_nodes_fit unit k e

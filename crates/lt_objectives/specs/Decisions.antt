@@ -1,12 +1,12 @@
 -- Decisions and their clauses.
-use Rattle.std.specs.Prelude.{ℕ, zero, suc, ◌+◌, ◌-◌, nat_le, nat_lt, Bool, ◌&&◌, if◌then◌else◌, List, [], ◌∷◌, ◌++◌, length, map, codes, Option, Some, None, unwrap_or}
+use Rattle.std.specs.Prelude.{ℕ, suc, ◌+◌, ◌-◌, nat_le, nat_lt, Bool, if◌then◌else◌, List, [], ◌∷◌, ◌++◌, length, map, codes, Option, Some, None, unwrap_or}
 use Rattle.std.specs.List.{flat_map}
 use Rattle.lt_model.specs.declared.operator.Op.TheVariants as O
 use Rattle.lt_tree.specs.declared.expression.UnaryOp.TheVariants as unary
 use Rattle.lt_tree.specs.declared.expression.LogicalOp.TheVariants as logical
 use Rattle.lt_tree.specs.Tree as c
 use Rattle.lt_tree.specs.Nodes.{Node, a_statement, an_expression, in_expression, in_marks, in_start, in_statement}
-use Rattle.lt_objectives.specs.Places.{Site, sites, Part, part}
+use Rattle.lt_objectives.specs.Places.{sites, Part, part}
 
 -- The controlling expressions of `if`, `while`, `do` and `for`, and the first operand of `?:`, C11 6.8.4, 6.8.5 and 6.5.15, with the marks around
 -- them.

@@ -3,7 +3,6 @@ use Rattle.std.specs.Prelude.{◌≡◌, ℕ, List}
 use Rattle.lt_tree.specs.Tree as c
 use Rattle.lt_tree.specs.Erasure.{erased_unit}
 use Rattle.lt_tree.specs.Typing.Programs.{Program}
-use Rattle.lt_objectives.specs.declared.criteria.Criterion.{Criterion}
 use Rattle.lt_objectives.specs.Marked.{NewMark, unit_with_marks, marked}
 
 -- Without marks, a unit with new marks is the unit; whatever their places are.

@@ -1,5 +1,6 @@
 pub mod Criteria
 pub mod Places
+pub mod Tags
 pub mod Copies
 pub mod Decisions
 pub mod Mutants

@@ -2,7 +2,7 @@
 use Rattle.std.specs.Prelude.{ℕ, suc, ◌+◌, ◌==◌, ◌&&◌, Bool, true, false, if◌then◌else◌, List, [], ◌∷◌, length, Option, Some, None}
 use Rattle.std.specs.Fmt.{decimal}
 use Rattle.lt_tree.specs.Tree as c
-use Rattle.lt_tree.specs.Nodes.{in_expression, in_expressions, in_marks, in_mark, in_specifiers, in_declarator, in_initialiser, in_init_declarator, in_declaration, in_optional, in_start, in_label, in_statement, in_external}
+use Rattle.lt_tree.specs.Nodes.{in_expression, in_marks, in_mark, in_specifiers, in_declarator, in_initialiser, in_init_declarator, in_declaration, in_optional, in_start, in_label, in_statement, in_external}
 use Rattle.std.specs.List.{flat_map}
 use Rattle.lt_tree.specs.Typing.Programs.{Program}
 use Rattle.lt_objectives.specs.declared.criteria.Criterion.{Criterion}

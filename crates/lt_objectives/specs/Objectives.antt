@@ -1,13 +1,13 @@
 -- The objectives of each criterion, in the order of a walk from parent to child: where each stands, in which form, with which predicate and tag.
-use Rattle.std.specs.Prelude.{ℕ, suc, ◌+◌, ◌==◌, nat_le, Bool, true, false, not, ◌&&◌, if◌then◌else◌, List, [], ◌∷◌, ◌++◌, length, map, slice_get, Option, Some, None}
+use Rattle.std.specs.Prelude.{ℕ, ◌+◌, ◌==◌, Bool, ◌&&◌, if◌then◌else◌, List, [], ◌∷◌, ◌++◌, length, map, slice_get, Option, Some, None}
 use Rattle.std.specs.List.{flat_map}
 use Rattle.lt_model.specs.declared.operator.Op.TheVariants as O
 use Rattle.lt_model.specs.declared.scalar.DataModel.{DataModel}
 use Rattle.lt_tree.specs.Tree as c
 use Rattle.lt_tree.specs.Erasure.{erased}
-use Rattle.lt_tree.specs.Nodes.{Node, an_external, an_expression, in_expression}
+use Rattle.lt_tree.specs.Nodes.{an_external, an_expression, in_expression}
 use Rattle.lt_tree.specs.Typing.Types.{CType, own_qualifiers, is_integer, is_pointer}
-use Rattle.lt_tree.specs.Typing.Entities.{Object, Function}
+use Rattle.lt_tree.specs.Typing.Entities.{Function}
 use Rattle.lt_tree.specs.Typing.Programs.{Program}
 use Rattle.lt_objectives.specs.declared.criteria.Criterion.{Criterion}
 use Rattle.lt_objectives.specs.declared.criteria.Criterion.TheVariants as C
@@ -74,23 +74,24 @@ abbrev pub decided_at : List Test → ℕ → Option ℕ
 decided_at [] k = None
 decided_at (it ∷ rest) k = if is_at k it.core then Some it.decided else decided_at rest k
 
--- both truths of an expression: two labels if predicates may copy it, else a `pc_decide`
-abbrev pub both_truths : Criterion → ℕ → (decided : ℕ) → c.Expression → List Objective
-both_truths criterion k decided e =
-    if can_be_copied e then all_at k in_front criterion (erased e ∷ negation (erased e) ∷ []) else objective decided around criterion (erased e) ∷ []
+-- both truths of an expression: two labels where it is copied, else a `pc_decide`
+abbrev pub both_truths : Criterion → (copied : Bool) → ℕ → (decided : ℕ) → c.Expression → List Objective
+both_truths criterion copied k decided e =
+    if copied then all_at k in_front criterion (erased e ∷ negation (erased e) ∷ []) else objective decided around criterion (erased e) ∷ []
 
--- the combinations of the clauses of a decision that predicates may copy
-abbrev pub combinations : Criterion → ℕ → (c.Expression → List c.Expression) → c.Expression → List Objective
-combinations criterion k predicates d =
-    if can_be_copied d && has_few_clauses (erased d) then all_at k in_front criterion (predicates (erased d)) else []
+-- the combinations of the clauses of a decision, where it is copied
+abbrev pub combinations : Criterion → (copied : Bool) → ℕ → (c.Expression → List c.Expression) → c.Expression → List Objective
+combinations criterion copied k predicates d =
+    if copied && has_few_clauses (erased d) then all_at k in_front criterion (predicates (erased d)) else []
 
--- The objectives of a criterion at an expression that is a decision or a clause; with the number of what a new `pc_decide` stands around.
-abbrev pub at_test : Criterion → (decision clause : Option ℕ) → ℕ → c.Expression → List Objective
-at_test C.Decision (Some decided) clause k e = both_truths C.Decision k decided e
-at_test C.Condition decision (Some decided) k e = both_truths C.Condition k decided e
-at_test C.MultipleCondition (Some decided) clause k e = combinations C.MultipleCondition k (λ d. conjunctions (clause_list d)) e
-at_test C.GeneralActiveClause (Some decided) clause k e = combinations C.GeneralActiveClause k active_clauses e
-at_test _ decision clause k e = []
+-- The objectives of a criterion at an expression that is a decision or a clause, and that predicates may copy or not; with the number of what a new
+-- `pc_decide` stands around.
+abbrev pub at_test : Criterion → (copied : Bool) → (decision clause : Option ℕ) → ℕ → c.Expression → List Objective
+at_test C.Decision copied (Some decided) clause k e = both_truths C.Decision copied k decided e
+at_test C.Condition copied decision (Some decided) k e = both_truths C.Condition copied k decided e
+at_test C.MultipleCondition copied (Some decided) clause k e = combinations C.MultipleCondition copied k (λ d. conjunctions (clause_list d)) e
+at_test C.GeneralActiveClause copied (Some decided) clause k e = combinations C.GeneralActiveClause copied k active_clauses e
+at_test _ copied decision clause k e = []
 
 -- ---- at expressions in value positions that predicates may copy
 
@@ -114,7 +115,7 @@ mutants unit program _ k e plain = []
 -- that a pure expression and its mutant have different values
 abbrev pub differences : c.Unit → Program → Criterion → ℕ → c.Expression → List Objective
 differences unit program criterion k e =
-    if can_be_copied e && is_value_position unit k then all_at k in_front criterion (map (inequality (erased e)) (mutants unit program criterion k e (erased e)))
+    if can_be_copied unit k e && is_value_position unit k then all_at k in_front criterion (map (inequality (erased e)) (mutants unit program criterion k e (erased e)))
     else []
 
 -- ---- in the order of the walk
@@ -122,7 +123,7 @@ differences unit program criterion k e =
 abbrev pub at_expression : c.Unit → Program → Criterion → ℕ → c.Expression → List Objective
 at_expression unit program criterion k e =
     if is_core e && is_open unit program k
-    then at_test criterion (decided_at (decisions unit) k) (decided_at (clauses unit) k) k e ++ differences unit program criterion k e else []
+    then at_test criterion (can_be_copied unit k e) (decided_at (decisions unit) k) (decided_at (clauses unit) k) k e ++ differences unit program criterion k e else []
 
 abbrev pub at_node : c.Unit → Program → Criterion → Site → List Objective
 at_node unit program criterion site =

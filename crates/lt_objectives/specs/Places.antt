@@ -1,6 +1,6 @@
 -- Places of objectives: the nodes of a unit by their numbers, expressions without the marks around them, where no label stands, and what the program
 -- of the unit knows of a node.
-use Rattle.std.specs.Prelude.{ℕ, suc, ◌+◌, ◌==◌, nat_le, nat_lt, Bool, true, false, not, ◌&&◌, ◌||◌, if◌then◌else◌, List, [], ◌∷◌, ◌++◌, length, map, filter, Option, Some, None, unwrap_or}
+use Rattle.std.specs.Prelude.{ℕ, ◌+◌, ◌==◌, nat_le, nat_lt, Bool, true, false, not, ◌&&◌, if◌then◌else◌, List, [], ◌∷◌, ◌++◌, length, Option, Some, None}
 use Rattle.std.specs.List.{flat_map, list_any}
 use Rattle.lt_tree.specs.declared.specifier.Storage.{Storage}
 use Rattle.lt_tree.specs.declared.specifier.Storage.TheVariants as storage
@@ -8,7 +8,7 @@ use Rattle.lt_tree.specs.declared.expression.UnaryOp.TheVariants as unary
 use Rattle.lt_tree.specs.Tree as c
 use Rattle.lt_tree.specs.Nodes.{Node, an_external, a_declared_item, a_marked_item, a_statement, an_expression, a_mark, nodes, in_expression, in_marks, in_mark, in_declaration}
 use Rattle.lt_tree.specs.Typing.Types.{CType, Void}
-use Rattle.lt_tree.specs.Typing.Constants.{Constancy, varying, is_number}
+use Rattle.lt_tree.specs.Typing.Constants.{is_number}
 use Rattle.lt_tree.specs.Typing.Entities.{Fact}
 use Rattle.lt_tree.specs.Typing.Programs.{Program}
 

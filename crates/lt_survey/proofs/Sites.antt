@@ -1,5 +1,5 @@
 -- Lists with an element for each node of a unit.
-use Rattle.std.proofs.Common.{◌≡◌, ℕ, zero, suc, ◌+◌, ◌<◌, ◌≤◌, List, [], ◌∷◌, ◌++◌, length, take, get_or, Option, Some, None, refl, sym, ap, subst, ◌∙◌, zero-add, arith}
+use Rattle.std.proofs.Common.{◌≡◌, ℕ, zero, suc, ◌+◌, ◌<◌, ◌≤◌, Bool, false, List, map, [], ◌∷◌, ◌++◌, length, take, get_or, Option, Some, None, refl, sym, ap, subst, ◌∙◌, zero-add, arith}
 use Rattle.std.specs.Prelude.{option_map, slice_get}
 use Rattle.std.specs.List.{flat_map}
 use Rattle.std.proofs.lemmas.List.{append-nil, length-map, take_all, take_more}
@@ -11,6 +11,7 @@ use Rattle.lt_objectives.specs.Places.{Site, sites, sites_from}
 use Rattle.lt_sites.specs.declared.site.Site.{Site as Held}
 use Rattle.lt_sites.specs.Sites.{Sized, AreSitesOf, node_of, entry_of, part_of}
 use Rattle.lt_places.proofs.Numbered as Numbered
+use Rattle.lt_copies.specs.Fitting.{fits_at}
 use Rattle.lt_survey.specs.Survey.{by_number}
 use Rattle.lt_survey.specs.Rounds.{site}
 
@@ -45,6 +46,13 @@ read_by_number unit of list k node default are is =
     let found : slice_get list k ≡ Some (of k)
     = ap (λ l. slice_get l k) are ∙ slice_get-map of_site (sites unit) k ∙ ap (option_map of_site) (site_at unit k node is) in
     get_or_from_slice_get list k (of k) default found
+
+-- what a list of the parts that predicates may copy has there
+pub copied_there : (unit : c.Unit) (list : List Bool) (k : ℕ) (node : Node) → list ≡ map (fits_at unit) (sites unit) → slice_get (nodes unit) k ≡ Some node
+    → get_or list k false ≡ fits_at unit (site k node)
+copied_there unit list k node are is =
+    get_or_from_slice_get list k (fits_at unit (site k node)) false
+    (ap (λ l. slice_get l k) are ∙ slice_get-map (fits_at unit) (sites unit) k ∙ ap (option_map (fits_at unit)) (site_at unit k node is))
 
 same_part : (found : Option Node) (it : Held) → option_map part_of found ≡ Some (entry_of it) → found ≡ Some (node_of it.node)
 same_part None it is = cc

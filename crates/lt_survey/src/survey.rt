@@ -3,6 +3,7 @@ ghost use Rattle.lt_tree.specs.UnitView.{unit_of};
 ghost use Rattle.lt_tree.specs.Typing.ProgramView.{program_of};
 ghost use Rattle.lt_survey.specs.Survey.{IsSurvey};
 
+use lt_copies::copied_parts;
 use lt_decisions::{clauses_by_core, decisions_by_core};
 use lt_facts::{Family, constants, fact_indices, families, function_indices, own_numbers};
 use lt_places::{open_places, value_positions};
@@ -19,6 +20,8 @@ pub struct Survey<'u> {
     pub open: Vec<bool>,
     /// Whether an expression stands for its value there.
     pub values: Vec<bool>,
+    /// Whether predicates may copy the part that begins there.
+    pub copied: Vec<bool>,
     /// Where the core of a decision is, what a new `pc_decide` stands around.
     pub decisions: Vec<Option<usize>>,
     /// The same of clauses.
@@ -44,6 +47,7 @@ pub fn survey_of<'u>(
     let constants = constants(alloc, facts.as_slice(), program)?;
     let open = open_places(alloc, sites.as_slice(), constants.as_slice())?;
     let values = value_positions(alloc, sites.as_slice())?;
+    let copied = copied_parts(alloc, unit, sites.as_slice())?;
     let decisions = decisions_by_core(alloc, sites.as_slice())?;
     let clauses = clauses_by_core(alloc, sites.as_slice())?;
     let families = families(alloc, facts.as_slice(), program)?;
@@ -52,6 +56,7 @@ pub fn survey_of<'u>(
         sites,
         open,
         values,
+        copied,
         decisions,
         clauses,
         families,

@@ -24,7 +24,6 @@ use Rattle.lt_numbering.specs.Numbering.{most_id}
 use Rattle.lt_survey.specs.Marking.{IdsPass, next_behind}
 use Rattle.lt_label_counts.specs.Laws.{IdsNeverPass}
 use Rattle.lt_mark_typing.specs.MarkedRuns.{is_from, RunsAs}
-use Rattle.lt_erased_typing.specs.CopiedExpressions.{AllCopiesAreSimple}
 use Rattle.lt_objective_marks.specs.Rounds.{MarkedUnitsOfSetsRunAsTheyDid}
 use Rattle.lt_marked_texts.specs.Laws.{AnnotatedTextsAreOfUnitsAlone}
 use Rattle.lt_answers.specs.Answers.{most_bytes}
@@ -83,14 +82,14 @@ low_so never model set text unit short has =
     let first : first_id it.unit ≤ most_id + 1 = omega arith in
     behind_low (criteria_in set) it.unit has.program (first_id it.unit) first none
 
--- Where what predicates copy is simple, the annotated unit runs as the unit of the text.
+-- The annotated unit runs as the unit of the text.
 pub runs_so : IdsNeverPass → MarkedUnitsOfSetsRunAsTheyDid → (model : DataModel) (set : ℕ) (text : List ℕ) (unit : SourceUnit) → length text ≤ most_bytes → (has : HasAnnotation model set text unit)
-    → AllCopiesAreSimple model (criteria_in set) has.is_program.unit has.program (first_id has.is_program.unit) → RunsAs (is_from (first_id has.is_program.unit)) model has.program unit
-runs_so never law model set text unit short has simple =
+    → RunsAs (is_from (first_id has.is_program.unit)) model has.program unit
+runs_so never law model set text unit short has =
     let it = has.is_program in
     let low = low_so never model set text unit short has in
     let last : next_behind (criteria_in set) it.unit has.program (first_id it.unit) ≤ suc greatest_label_id = low in
-    subst (RunsAs (is_from (first_id it.unit)) model has.program) (sym has.is) (law model it.unit has.program set it.typed last simple)
+    subst (RunsAs (is_from (first_id it.unit)) model has.program) (sym has.is) (law model it.unit has.program set it.typed last)
 
 -- The tokens of the annotated unit's text derive no other unit.
 pub alone_so : IdsNeverPass → AnnotatedTextsAreOfUnitsAlone → (model : DataModel) (set : ℕ) (text : List ℕ) (unit : SourceUnit) → length text ≤ most_bytes → All (λ b. b < 256) text
@@ -110,7 +109,7 @@ same_so law model set text unit has = ap erased_unit has.is ∙ law.1 has.is_pro
 -- What is given of the unit's text is the answer.
 pub put_so : (model : DataModel) (set : ℕ) (text : List ℕ) (unit : SourceUnit) (bytes : List ℕ) (given : Result (Vec ℕ) TextStop) (has : HasAnnotation model set text unit)
     → IsOfUnitAlone (canon unit) unit → erased_unit unit ≡ erased_unit has.is_program.unit
-    → (AllCopiesAreSimple model (criteria_in set) has.is_program.unit has.program (first_id has.is_program.unit) → RunsAs (is_from (first_id has.is_program.unit)) model has.program unit)
+    → RunsAs (is_from (first_id has.is_program.unit)) model has.program unit
     → bytes ≡ canon unit → GivesShallow bytes given → IsAnnotationAnswer model set text given
 put_so model set text unit bytes (Ok out) has alone same runs is it = record {
   annotated = unit;

@@ -1,7 +1,6 @@
 use Rattle.std.proofs.Common.{◌≡◌, ap, ◌∙◌, map, Some, None}
 use Rattle.std.proofs.lemmas.Result.{IfOk-weaker}
 use Rattle.lt_tree.specs.View.{expression_of}
-use Rattle.lt_objectives.specs.Places.{is_open, is_value_position}
 use Rattle.lt_survey.specs.Rounds.{ArePredicates}
 use Rattle.lt_mut.specs.Candidates.{predicates}
 use Rattle.lt_mut.specs.Mutations.{criterion_of}
@@ -17,7 +16,7 @@ pub returns : goal.returns
 returns c unit program node known at =
     let e = expression_of c.in-Some.e.now in
     let found = found_there unit program c.args.survey.now c.args.k node (Some e) known at c.in-Some.ensures in
-    let stands = candidate_stands node e (is_open unit program c.args.k) (is_value_position unit c.args.k) found in
+    let stands = candidate_stands unit program c.args.k node e found in
     IfOk-weaker c.pure_differences.result (λ made. map expression_of made.items ≡ predicates unit program (criterion_of c.args.mutation) c.args.k (Some e))
     (λ made. ArePredicates unit program (criterion_of c.args.mutation) c.args.k node made.items)
     (λ made is. are_predicates unit program c.args.mutation c.args.k node (Some e) made.items found is)

@@ -6,5 +6,5 @@ use Rattle.lt_objective_marks.proofs.OldIds.{behind_greatest}
 use Rattle.lt_objective_marks.proofs.laws.marked_units_of_sets_run_as_they_did.Goals as goal
 
 pub returns : goal.returns
-returns x = λ model unit program set is last simple.
-    x.rounds_run_as_they_did.ensures greatest_written_id model (criteria_in set) unit program (suc (greatest_id (ids_of_unit unit))) is (omega arith) (behind_greatest unit) last simple
+returns x = λ model unit program set is last.
+    x.rounds_run_as_they_did.ensures greatest_written_id model (criteria_in set) unit program (suc (greatest_id (ids_of_unit unit))) is (omega arith) (behind_greatest unit) last

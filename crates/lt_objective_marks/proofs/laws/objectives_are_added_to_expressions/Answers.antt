@@ -17,6 +17,7 @@ returns c = all_added (record {
   constants = c.constants_stay.ensures;
   closed = c.constants_are_closed.ensures;
   copies = c.literals_are_typed_without_marks.ensures.copies;
+  simple = c.copies_are_simple.ensures;
   tests = c.no_test_is_a_pointer_to_a_function.ensures;
   unmarked = kept_unmarked;
 })

@@ -1,0 +1,16 @@
+mod KeptScopes
+mod KeptTags
+mod KeptExpressions
+mod KeptInitialisers
+mod KeptDeclarations
+mod KeptStatements
+mod KeptUnits
+mod SimpleParts
+mod FittingLists
+mod ReachedSteps
+mod ReachedDeclarators
+mod ReachedDeclared
+mod ReachedPlaces
+mod ReachedLaws
+mod ReachedParts
+mod SimpleWhereReached
