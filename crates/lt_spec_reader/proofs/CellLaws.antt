@@ -18,7 +18,7 @@ use Rattle.lt_entry.specs.SpecificationLines.{Line}
 use Rattle.lt_entry.specs.Meaning.{any_value, zero_start, free_cell, free_cells, only_null, block_in}
 use Rattle.lt_spec_reader.specs.Said.{Key, HasSaid}
 use Rattle.lt_spec_reader.specs.Cells.{place_at, cell_in}
-use Rattle.lt_spec_reader.proofs.Loops.{one_more}
+use Rattle.lt_spec_reader.proofs.Loops.{one_more, mapped_more}
 
 map-same : {A B : Type 0} (f g : A → B) (xs : List A) → ((x : A) → f x ≡ g x) → map f xs ≡ map g xs
 map-same f g [] each = refl
@@ -37,6 +37,15 @@ flat_more f xs i x front out new h is before after =
 -- all of them
 pub flat_done : {A B : Type 0} (f : A → List B) (xs : List A) (i : ℕ) (front new : List B) → length xs ≤ i → new ≡ front ++ flat_map f (take i xs) → new ≡ front ++ flat_map f xs
 flat_done f xs i front new all so_far = so_far ∙ ap (λ l. front ++ flat_map f l) (take_all i xs all)
+
+-- the same, of what items are viewed as
+pub flat_mapped_more : {A B C : Type 0} (f : B → List C) (view : A → B) (xs : List A) (i : ℕ) (x : A) (front out new : List C) → i < length xs → x ≡ get_or xs i x → out ≡ front ++ flat_map f (map view (take i xs)) → new ≡ out ++ f (view x) → new ≡ front ++ flat_map f (map view (take (i + 1) xs))
+flat_mapped_more f view xs i x front out new h is before after =
+    after ∙ ap (λ l. l ++ f (view x)) before ∙ append_assoc front (flat_map f (map view (take i xs))) (f (view x))
+    ∙ ap (λ l. front ++ l) (ap (λ l. flat_map f (map view (take i xs)) ++ l) (sym (append-nil (f (view x)))) ∙ sym (flat_map-append f (map view (take i xs)) (view x ∷ [])) ∙ ap (flat_map f) (sym (mapped_more view xs i x h is)))
+
+pub flat_mapped_done : {A B C : Type 0} (f : B → List C) (view : A → B) (xs : List A) (i : ℕ) (front new : List C) → length xs ≤ i → new ≡ front ++ flat_map f (map view (take i xs)) → new ≡ front ++ flat_map f (map view xs)
+flat_mapped_done f view xs i front new all so_far = so_far ∙ ap (λ l. front ++ flat_map f (map view l)) (take_all i xs all)
 
 -- ---- one object
 

@@ -46,8 +46,8 @@ fn copied_targets(
     Ok(copy)
 }
 
-// The same values.
-fn copied(alloc: Global, want: &Want) -> Result<Want, AllocError>
+/// The same values.
+pub fn copied(alloc: Global, want: &Want) -> Result<Want, AllocError>
     ensures { IfOk result (λ copy. copy ≡ want.now) }
 {
     match want {

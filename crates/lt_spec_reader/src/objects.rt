@@ -10,10 +10,11 @@ ghost use Rattle.lt_input_specs.specs.Defaults.{root_of};
 ghost use Rattle.lt_spec_reader.specs.Said.{HasSaid};
 ghost use Rattle.lt_spec_reader.specs.Objects as freed;
 
+use crate::cells::copied;
 use crate::own::own_names;
 use crate::wants::Wants;
 use lt_ir::Static;
-use lt_model::{Address, Content, FreeCell, Name, Place, Sequence, ShapeCell, StartValue, Want};
+use lt_model::{Address, Content, FreeCell, Name, Place, ShapeCell, StartValue};
 use lt_tables::Tables;
 use lt_tree::typed::{Life, Object};
 use std::alloc::{AllocError, Global};
@@ -154,53 +155,6 @@ impl Lookups<'_, '_, '_, '_> {
             self.put_object(alloc, cells, object, made)?;
         }
         Ok(())
-    }
-}
-
-// A copy of a place.
-fn copied_place(alloc: Global, place: &Place) -> Result<Place, AllocError>
-    ensures { IfOk result (λ it. it ≡ place.now) }
-{
-    Ok(Place {
-        root: Name::new(alloc, place.root.as_slice())?,
-        offset: place.offset,
-    })
-}
-
-// A copy of a target.
-fn copied_target(alloc: Global, target: &Option<Place>) -> Result<Option<Place>, AllocError>
-    ensures { IfOk result (λ it. it ≡ target.now) }
-{
-    match target {
-        None => Ok(None),
-        Some(place) => Ok(Some(copied_place(alloc, place)?)),
-    }
-}
-
-// A copy of targets.
-fn copied_targets(
-    alloc: Global,
-    targets: &[Option<Place>],
-) -> Result<Vec<Option<Place>>, AllocError>
-    ensures { IfOk result (λ all. all.items ≡ targets.now) }
-{
-    let mut all = Vec::new(alloc);
-    for target in targets {
-        all.push(copied_target(alloc, target)?)?;
-    }
-    Ok(all)
-}
-
-// A copy of what a cell may hold.
-fn copied(alloc: Global, want: &Want) -> Result<Want, AllocError>
-    ensures { IfOk result (λ it. it ≡ want.now) }
-{
-    match want {
-        Want::Between(low, high) => Ok(Want::Between(*low, *high)),
-        Want::OneOf(targets) => Ok(Want::OneOf(Sequence::new(copied_targets(
-            alloc,
-            targets.as_slice(),
-        )?))),
     }
 }
 

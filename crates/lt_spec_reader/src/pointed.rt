@@ -1,7 +1,8 @@
 //! The parameters for which no row says where they point.
 
-ghost use Rattle.std.specs.Prelude.{◌≡◌, IfOk, List, ℕ, map, not, option_map};
+ghost use Rattle.std.specs.Prelude.{◌≡◌, IfOk, List, ℕ, map, not, is_some, option_map};
 ghost use Rattle.std.specs.List.{filter, list_any};
+ghost use Rattle.lt_entry.specs.Reading.{read_target};
 ghost use Rattle.lt_entry.specs.Conditions.{points_at};
 ghost use Rattle.lt_entry.specs.LineViews.{row_view};
 ghost use Rattle.lt_input_names.specs.Stubs.{has_name};
@@ -11,6 +12,13 @@ use lt_entry::{Row, target_of};
 use lt_tree::typed::Object;
 use std::alloc::{AllocError, Global};
 use std::collections::HashSet;
+
+// Whether a word has the form of a target.
+fn is_target(alloc: Global, word: &[u8]) -> Result<bool, AllocError>
+    ensures { IfOk result (λ is. is ≡ is_some (read_target word.now)) }
+{
+    Ok(target_of(alloc, word)?.is_some())
+}
 
 // The name of which a row says where it points, if it says so of one.
 fn pointed_name<'p>(alloc: Global, row: &Row<'p>) -> Result<Option<&'p [u8]>, AllocError>
@@ -28,10 +36,10 @@ fn pointed_name<'p>(alloc: Global, row: &Row<'p>) -> Result<Option<&'p [u8]>, Al
     if *keyword != b"points".as_slice() {
         return Ok(None);
     }
-    match target_of(alloc, target)? {
-        None => Ok(None),
-        Some(_) => Ok(Some(name)),
+    if is_target(alloc, target)? {
+        return Ok(Some(name));
     }
+    Ok(None)
 }
 
 // The names of which rows say where they point.

@@ -1,6 +1,6 @@
 //! The lines `points`.
 
-ghost use Rattle.std.specs.Prelude.{◌≡◌, ◌==◌, IfOk, OnOk, List, length, map, not, option_map, None, Some};
+ghost use Rattle.std.specs.Prelude.{◌≡◌, ◌++◌, ◌==◌, IfOk, OnOk, List, length, map, not, option_map, None, Some};
 ghost use Rattle.std.specs.List.{find, flat_map, list_all};
 ghost use Rattle.lt_model.specs.declared.input.Place.{Place};
 ghost use Rattle.lt_tree.specs.Typing.Types.{target_of};
@@ -20,6 +20,20 @@ use lt_input_names::{Names, Part, PartType};
 use lt_model::{Place, Sequence, Want};
 use std::alloc::{AllocError, Global};
 
+// Whether this is a target of a pointer to this type.
+fn is_target(
+    alloc: Global,
+    names: &Names<'_>,
+    pointed: PartType,
+    target: &TargetWord<'_>,
+) -> Result<bool, AllocError>
+    requires { AreNames names.now }
+    ensures { IfOk result (λ is. is ≡ not (length (targets_of (scope_of names.now) (type_at names.now pointed) (target_view target.now)) == 0)) }
+{
+    let places = names.targets(alloc, pointed, target)?;
+    Ok(!places.as_slice().is_empty())
+}
+
 // Whether each of these is a target of a pointer to this type.
 fn are_targets(
     alloc: Global,
@@ -31,12 +45,26 @@ fn are_targets(
     ensures { IfOk result (λ are. are ≡ list_all (λ target. not (length (targets_of (scope_of names.now) (type_at names.now pointed) target) == 0)) (map target_view targets.now)) }
 {
     for target in targets {
-        let places = names.targets(alloc, pointed, target)?;
-        if places.as_slice().is_empty() {
+        if !is_target(alloc, names, pointed, target)? {
             return Ok(false);
         }
     }
     Ok(true)
+}
+
+// Behind these, the addresses that a target names for a pointer to this type.
+fn put_targets(
+    alloc: Global,
+    names: &Names<'_>,
+    all: &mut Vec<Option<Place>>,
+    pointed: PartType,
+    target: &TargetWord<'_>,
+) -> Result<(), AllocError>
+    requires { AreNames names.now }
+    ensures { OnOk result (all.new.items ≡ all.old.items ++ targets_of (scope_of names.now) (type_at names.now pointed) (target_view target.now)) }
+{
+    let mut places = names.targets(alloc, pointed, target)?;
+    all.append(&mut places)
 }
 
 // The addresses that targets name for a pointer to this type.
@@ -51,8 +79,7 @@ fn all_targets(
 {
     let mut all = Vec::new(alloc);
     for target in targets {
-        let mut places = names.targets(alloc, pointed, target)?;
-        all.append(&mut places)?;
+        put_targets(alloc, names, &mut all, pointed, target)?;
     }
     Ok(all)
 }

@@ -63,6 +63,25 @@ fn shapes_of(
     blocks_in(alloc, &mut types, blocks)
 }
 
+// The free cells of parameters, of blocks of these shapes, and of the program's objects, where these are the program's tables.
+fn cells_by(
+    alloc: Global,
+    kinds: &Kinds<'_>,
+    tables: &Tables<'_>,
+    objects: &[&Object],
+    shapes: &[BlockIn],
+    wants: &Wants<'_>,
+) -> Result<Vec<FreeCell>, AllocError>
+    requires kinds { AreKinds kinds.now }
+    requires tables { tables.now.program.now ≡ kinds.now.program.now }
+    ensures { (scope : Scope) (lines : List specification.Line) (all : List naming.Block) → scope.program ≡ program_of kinds.now.program.now → scope.parameters ≡ map (λ object. root_of kinds.now.program.now object.now) objects.now → shapes.now ≡ map (block_in scope.program) all → HasSaid scope lines wants.now → IfOk result (λ cells. cells.items ≡ (flat_map (λ object. free_cells scope lines (null_or_default scope.program (root_of kinds.now.program.now object.now)) (root_of kinds.now.program.now object.now)) objects.now ++ flat_map (λ block. free_cells scope lines only_null (block_root block)) all) ++ flat_map (freed_unless_hidden scope lines) scope.program.objects) }
+{
+    let mut cells = parameter_cells(alloc, kinds, tables, objects, wants)?;
+    put_block_cells(alloc, &mut cells, kinds.program.model, shapes, wants)?;
+    put_freed_cells(alloc, &mut cells, tables, objects, wants)?;
+    Ok(cells)
+}
+
 // The free cells of parameters, of blocks of these shapes, and of the program's objects.
 fn cells_of(
     alloc: Global,
@@ -75,10 +94,7 @@ fn cells_of(
     ensures { (scope : Scope) (lines : List specification.Line) (all : List naming.Block) → scope.program ≡ program_of kinds.now.program.now → scope.parameters ≡ map (λ object. root_of kinds.now.program.now object.now) objects.now → shapes.now ≡ map (block_in scope.program) all → HasSaid scope lines wants.now → IfOk result (λ cells. cells.items ≡ (flat_map (λ object. free_cells scope lines (null_or_default scope.program (root_of kinds.now.program.now object.now)) (root_of kinds.now.program.now object.now)) objects.now ++ flat_map (λ block. free_cells scope lines only_null (block_root block)) all) ++ flat_map (freed_unless_hidden scope lines) scope.program.objects) }
 {
     let tables = Tables::new(alloc, kinds.program)?;
-    let mut cells = parameter_cells(alloc, kinds, &tables, objects, wants)?;
-    put_block_cells(alloc, &mut cells, kinds.program.model, shapes, wants)?;
-    put_freed_cells(alloc, &mut cells, &tables, objects, wants)?;
-    Ok(cells)
+    cells_by(alloc, kinds, &tables, objects, shapes, wants)
 }
 
 /// What lines say of the entry of this number, where this is the state behind them, and these are the parameters and the default blocks.

@@ -6,6 +6,8 @@ use Rattle.lt_input_blocks.specs.Elements.{AreBlockTypes}
 use Rattle.lt_spec_reader.proofs.said.blocks_in.Given as goal
 
 abbrev pub invariant-loop-block : goal.invariant-loop-block
-invariant-loop-block l =
-    AreBlockTypes l.types × (l.types.program ≡ l.initial.types.program)
-    × (l.all.items ≡ map (λ block. block_in (program_of l.initial.types.program.now) (block_of (program_types l.initial.types.program.now) block)) (take l.block-index l.blocks))
+invariant-loop-block l = record {
+  types : AreBlockTypes l.types;
+  program : l.types.program ≡ l.initial.types.program;
+  all : l.all.items ≡ map (λ block. block_in (program_of l.initial.types.program.now) (block_of (program_types l.initial.types.program.now) block)) (take l.block-index l.blocks);
+}

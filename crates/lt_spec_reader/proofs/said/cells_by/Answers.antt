@@ -5,11 +5,11 @@ use Rattle.lt_tree.specs.Typing.ProgramView.{program_of}
 use Rattle.lt_entry.specs.Naming.{block_root}
 use Rattle.lt_entry.specs.Meaning.{free_cells, freed_unless_hidden, only_null}
 use Rattle.lt_input_specs.specs.Defaults.{root_of}
-use Rattle.lt_spec_reader.proofs.said.cells_of.Goals as goal
+use Rattle.lt_spec_reader.proofs.said.cells_by.Goals as goal
 
 pub returns : goal.returns
 returns c = λ scope lines all is parameters shapes said.
-    let tables = ap (λ r. r.now) c.in_ok-tables.ensures.program in
+    let tables = c.requires.tables in
     let first = c.in_ok-cells.ensures scope lines is said in
     let second = c.in_ok-put_block_cells.ensures scope lines all (ap (λ p. p.model) is) shapes said in
     let hidden = subst (λ p. scope.parameters ≡ map (λ (object : Bor Object). root_of p object.now) c.args.objects.now) (sym tables) parameters in
