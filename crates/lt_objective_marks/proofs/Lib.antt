@@ -49,3 +49,9 @@ pub mod FunctionsStand
 pub mod KnowAsMuch
 pub mod KeptExpressions
 pub mod KeptStatements
+pub mod Apart
+pub mod NamedObjects
+pub mod NamedUnits
+pub mod Reached
+pub mod Operated
+pub mod Told

@@ -12,13 +12,13 @@ use Rattle.lt_tree.specs.Typing.Expressions.{Typed, Use, as_value, as_callee, ow
 use Rattle.lt_tree.specs.Typing.ExpressionTyping.{expression}
 use Rattle.lt_tree.specs.Typing.UnitTyping.{typing_to, answer, IsProgramTo}
 use Rattle.lt_tree.specs.Typing.Programs.{Program, typed, program_of}
-use Rattle.lt_tree_laws.specs.Typing.NodeNumbers.{GoesOver}
+use Rattle.lt_tree_laws.specs.Typing.NodeNumbers.{PartsAreNumbered, GoesOver}
 use Rattle.lt_objectives.specs.declared.criteria.Criterion.{Criterion}
 use Rattle.lt_objectives.specs.Places.{unmarked_numbers, corresponding, corresponding_node, fact_among, type_at, value_part}
 use Rattle.lt_objectives.specs.Mutants.{is_signed_integer}
 use Rattle.lt_objectives.specs.Objectives.{left_type, right_type}
 use Rattle.lt_objective_typing.specs.Laws.{TakesIntegers}
-use Rattle.lt_typed_nodes.specs.Coming.{ComesToIt, entered}
+use Rattle.lt_typed_nodes.specs.Coming.{ComesToIt, entered, OperandsAreComeTo, WhatIsComeToIsKnown}
 use Rattle.lt_objective_marks.specs.Settings.{Setting}
 use Rattle.lt_objective_marks.proofs.Given.{Given}
 use Rattle.lt_objective_marks.proofs.Ends.{and_left, and_right}
@@ -57,11 +57,14 @@ signed_is_integer m Floating is = absurd cc
 some_same : (facts : List Fact) (n : ℕ) (a b : Fact) → fact_among facts n ≡ Some a → fact_among facts n ≡ Some b → a ≡ b
 some_same facts n a b is there = cc
 
-module _ (g : Given) {new : ℕ → Bool} {unit : c.Unit} {program : Program} {criterion : Criterion} {id : ℕ} (s : Setting new unit program criterion id) where
-  -- the number behind a first operand
-  pub number_behind : (e : c.Expression) (taken : Use) (known : Known) (there : ComesToIt program.facts known taken e) → there.behind.next ≡ known.next + length (in_expression e)
-  number_behind e taken known there = subst (λ o. GoesOver (in_expression e) known o) there.goes (g.numbered.0 e taken known)
+-- the operands of an operator, which are integers by the types that are noted of them
+pub record Operands (facts : List Fact) (known : Known) (left right : c.Expression) : Type 0 where
+  pub first : ComesToIt facts (entered known) as_value left
+  pub second : ComesToIt facts first.behind as_value right
+  pub left_integer : is_integer (own_type first.found) ≡ true
+  pub right_integer : is_integer (own_type second.found) ≡ true
 
+module _ (greatest : ℕ) (model : DataModel) (unit : c.Unit) (program : Program) (typed_so : IsProgramTo greatest model unit program) where
   -- a type that passes a test is that of a fact
   noted : (test : CType → Bool) → test Void ≡ false → (k : ℕ) → test (type_at unit program k) ≡ true → (fact : Fact) × (fact_among program.facts k ≡ Some fact) × (test fact.type ≡ true)
   noted test void k is = by (corresponding_node unit program k) own is
@@ -69,7 +72,7 @@ module _ (g : Given) {new : ℕ → Bool} {unit : c.Unit} {program : Program} {c
       own : (n : ℕ) → corresponding_node unit program k ≡ Some n → n ≡ k
       own n there =
           corresponding_same k n (unmarked_numbers unit)
-          (subst (λ (u : c.Unit). corresponding k (unmarked_numbers unit) (unmarked_numbers u) ≡ Some n) (program_of_unit s.greatest s.model unit program s.typed) there)
+          (subst (λ (u : c.Unit). corresponding k (unmarked_numbers unit) (unmarked_numbers u) ≡ Some n) (program_of_unit greatest model unit program typed_so) there)
 
       by_fact : (n : ℕ) → n ≡ k → (found : Option Fact) → fact_among program.facts n ≡ found → test (elim (found) as (λ _. CType) [ None ↦ Void | Some fact ↦ fact.type ]) ≡ true
           → (fact : Fact) × (fact_among program.facts k ≡ Some fact) × (test fact.type ≡ true)
@@ -82,11 +85,40 @@ module _ (g : Given) {new : ℕ → Bool} {unit : c.Unit} {program : Program} {c
       by None own is = absurd (false≢true (sym void ∙ is))
       by (Some n) own is = by_fact n (own n refl) (fact_among program.facts n) refl is
 
+  module _ (numbered : PartsAreNumbered) (operands : OperandsAreComeTo) (known_laws : WhatIsComeToIsKnown) where
+    -- an integer, as the value of an operand
+    operand_found : (known : Known) (e : c.Expression) (there : ComesToIt program.facts known as_value e) → is_integer (type_at unit program (value_part known.next e).number) ≡ true
+        → is_integer (own_type there.found) ≡ true
+    operand_found known e there is =
+        let fact = noted is_integer refl (value_part known.next e).number is in
+        let at = known_laws.1 program.facts known e there in
+        let same = some_same program.facts (value_part known.next e).number fact.0 at.0 fact.1 at.1 in
+        at.2.integer ∙ subst (λ (it : Fact). is_integer it.type ≡ true) same fact.2
+
+    pub operands_of : (role : Use) (op : Op) (known : Known) (left right : c.Expression) → ComesToIt program.facts known role (c.Binary op left right)
+        → is_integer (left_type unit program known.next (c.Binary op left right)) && is_integer (right_type unit program known.next (c.Binary op left right)) ≡ true → Operands program.facts known left right
+    operands_of role op known left right there are =
+        let both = operands.0 program.facts known role (c.Binary op left right) there in
+        let first = both.0 in
+        let second = both.1 first.found first.behind first.goes in
+        let number : first.behind.next ≡ known.next + 1 + length (in_expression left) = subst (λ o. GoesOver (in_expression left) (entered known) o) first.goes (numbered.0 left as_value (entered known)) in
+        record {
+          first = first;
+          second = second;
+          left_integer = operand_found (entered known) left first (and_left _ _ are);
+          right_integer = operand_found first.behind right second (subst (λ n. is_integer (type_at unit program (value_part n right).number) ≡ true) (sym number) (and_right _ _ are));
+        }
+
+module _ (g : Given) {new : ℕ → Bool} {unit : c.Unit} {program : Program} {criterion : Criterion} {id : ℕ} (s : Setting new unit program criterion id) where
+  -- the number behind a first operand
+  pub number_behind : (e : c.Expression) (taken : Use) (known : Known) (there : ComesToIt program.facts known taken e) → there.behind.next ≡ known.next + length (in_expression e)
+  number_behind e taken known there = subst (λ o. GoesOver (in_expression e) known o) there.goes (g.numbered.0 e taken known)
+
   -- a signed integer, as what is read of the expression
   pub signed_found : (m : DataModel) (known : Known) (e : c.Expression) (there : ComesToIt program.facts known as_value e) → is_signed_integer m (type_at unit program known.next) ≡ true
       → is_integer (own_type there.found) ≡ true
   signed_found m known e there is =
-      let fact = noted (is_signed_integer m) refl known.next is in
+      let fact = noted s.greatest s.model unit program s.typed (is_signed_integer m) refl known.next is in
       let at = g.known.0 program.facts known as_value e there in
       let same = some_same program.facts known.next fact.0 _ fact.1 at.2 in
       let signed : is_signed_integer m (own_type at.0) ≡ true = subst (λ (it : Fact). is_signed_integer m it.type ≡ true) same fact.2 in
@@ -97,42 +129,17 @@ module _ (g : Given) {new : ℕ → Bool} {unit : c.Unit} {program : Program} {c
   pub signed_called : (m : DataModel) (known : Known) (e : c.Expression) (there : ComesToIt program.facts known as_callee e) → is_signed_integer m (type_at unit program known.next) ≡ true
       → is_integer (own_type there.found) ≡ true
   signed_called m known e there is =
-      let fact = noted (is_signed_integer m) refl known.next is in
+      let fact = noted s.greatest s.model unit program s.typed (is_signed_integer m) refl known.next is in
       let at = g.known.0 program.facts known as_callee e there in
       let same = some_same program.facts known.next fact.0 _ fact.1 at.2 in
       let signed : is_signed_integer m (own_type at.0) ≡ true = subst (λ (it : Fact). is_signed_integer m it.type ≡ true) same fact.2 in
       subst (λ (x : Typed). is_integer (own_type x) ≡ true) (sym at.1)
       ((g.values at.0).integer ∙ signed_is_integer m (own_type at.0) signed)
 
-  -- an integer, as the value of an operand
-  operand_found : (known : Known) (e : c.Expression) (there : ComesToIt program.facts known as_value e) → is_integer (type_at unit program (value_part known.next e).number) ≡ true
-      → is_integer (own_type there.found) ≡ true
-  operand_found known e there is =
-      let fact = noted is_integer refl (value_part known.next e).number is in
-      let at = g.known.1 program.facts known e there in
-      let same = some_same program.facts (value_part known.next e).number fact.0 at.0 fact.1 at.1 in
-      at.2.integer ∙ subst (λ (it : Fact). is_integer it.type ≡ true) same fact.2
-
-  -- the operands of an operator, which are integers by the types that are noted of them
-  pub record Operands (known : Known) (left right : c.Expression) : Type 0 where
-    pub first : ComesToIt program.facts (entered known) as_value left
-    pub second : ComesToIt program.facts first.behind as_value right
-    pub left_integer : is_integer (own_type first.found) ≡ true
-    pub right_integer : is_integer (own_type second.found) ≡ true
-
+  -- so they are in a unit
   pub integer_operands : (role : Use) (op : Op) (known : Known) (left right : c.Expression) → ComesToIt program.facts known role (c.Binary op left right)
-      → is_integer (left_type unit program known.next (c.Binary op left right)) && is_integer (right_type unit program known.next (c.Binary op left right)) ≡ true → Operands known left right
-  integer_operands role op known left right there are =
-      let both = g.operands.0 program.facts known role (c.Binary op left right) there in
-      let first = both.0 in
-      let second = both.1 first.found first.behind first.goes in
-      let number : first.behind.next ≡ known.next + 1 + length (in_expression left) = subst (λ o. GoesOver (in_expression left) (entered known) o) first.goes (g.numbered.0 left as_value (entered known)) in
-      record {
-        first = first;
-        second = second;
-        left_integer = operand_found (entered known) left first (and_left _ _ are);
-        right_integer = operand_found first.behind right second (subst (λ n. is_integer (type_at unit program (value_part n right).number) ≡ true) (sym number) (and_right _ _ are));
-      }
+      → is_integer (left_type unit program known.next (c.Binary op left right)) && is_integer (right_type unit program known.next (c.Binary op left right)) ≡ true → Operands program.facts known left right
+  integer_operands = operands_of s.greatest s.model unit program s.typed g.numbered g.operands g.known
 
   -- so are they as they stand
   pub takes_integers : (op : Op) (known : Known) (left right : c.Expression) → ComesToIt program.facts known as_value (c.Binary op left right)

@@ -102,7 +102,7 @@ labelled_if : (b : Bool) (xs ys : List Objective) → (b ≡ true → AllLabelle
 labelled_if true xs ys h g = h refl
 labelled_if false xs ys h g = g
 
-copied_pure : (unit : c.Unit) (k : ℕ) (e : c.Expression) → can_be_copied unit k e ≡ true → IsPure (erased e)
+pub copied_pure : (unit : c.Unit) (k : ℕ) (e : c.Expression) → can_be_copied unit k e ≡ true → IsPure (erased e)
 copied_pure unit k e copied = (and_parts (is_pure (erased e)) (not (hides e)) (and_parts (is_pure_without_marks e) (all_nodes_fit unit k e) copied).0).0
 
 truths_labelled : (criterion : Criterion) (copied : Bool) (k decided : ℕ) (e : c.Expression) → (copied ≡ true → IsPure (erased e)) → AllLabelled (both_truths criterion copied k decided e)

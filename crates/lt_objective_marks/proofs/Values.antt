@@ -125,7 +125,7 @@ result_is_integer op s = by (is_relation op || is_equality op)
 on_integers_is : (role : Use) (op : Op) (x y : Typed) (k : Known) → IsInteger (used role (on_integers k op x y))
 on_integers_is role op x y k = ap is_integer (used_value role (on_integers k op x y) _ refl) ∙ result_is_integer op (operation_type k op x y)
 
-both_are : (a b : Bool) → a ≡ true → b ≡ true → (a && b) ≡ true
+pub both_are : (a b : Bool) → a ≡ true → b ≡ true → (a && b) ≡ true
 both_are a b first second = rw (first, second) refl
 
 -- with two integers

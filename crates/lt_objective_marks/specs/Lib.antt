@@ -4,3 +4,4 @@ pub mod Bodies
 pub mod Units
 pub mod Marks
 pub mod Rounds
+pub mod Mutants

@@ -1,6 +1,7 @@
 //! Laws of the marks of objectives; the functions call those on which they rest.
 
 ghost use Rattle.lt_objective_marks.specs.Laws.{ObjectivesAreAddedToExpressions};
+ghost use Rattle.lt_objective_marks.specs.Mutants.{LabelsTellMutantsApart};
 ghost use Rattle.lt_objective_marks.specs.Rounds.{
   FirstProgramsKnowAsMuch,
   MarkedUnitsOfSetsRunAsTheyDid,
@@ -13,6 +14,7 @@ use lt_kept_facts::{marked_units_know_the_same, objectives_are_found_by_either};
 use lt_made_types::no_test_is_a_pointer_to_a_function;
 use lt_mark_typing::units_are_typed_again;
 use lt_marked_runs::{programs_are_made_in_steps, programs_run_beside};
+use lt_mutation_labels::{mutants_are_told_apart, predicates_tell_mutants_apart};
 use lt_objective_places::{
     constants_are_closed, marks_are_of_one_node, objectives_stand_where_they_may, pieces_stand,
 };
@@ -94,4 +96,16 @@ pub fn marked_units_of_sets_run_as_they_did()
     ensures { MarkedUnitsOfSetsRunAsTheyDid }
 {
     rounds_run_as_they_did();
+}
+
+/// The labels of mutants tell an expression from its mutants exactly.
+pub fn labels_tell_mutants_apart()
+    ensures { LabelsTellMutantsApart }
+{
+    nodes_are_numbered();
+    parts_are_come_to();
+    literals_are_typed_without_marks();
+    copies_are_simple();
+    predicates_tell_mutants_apart();
+    mutants_are_told_apart();
 }
