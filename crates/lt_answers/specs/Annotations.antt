@@ -7,10 +7,12 @@ use Rattle.lt_tree.specs.Tree.{Unit as SourceUnit}
 use Rattle.lt_tree.specs.Ids.{ids_of_unit, greatest_id}
 use Rattle.lt_tree.specs.CanonUnits.{canon}
 use Rattle.lt_tree.specs.Erasure.{erased_unit}
+use Rattle.lt_tree.specs.Typing.Entities.{greatest_label_id}
 use Rattle.lt_tree.specs.Typing.Programs.{Program}
 use Rattle.lt_print.specs.Laws.{IsOfUnitAlone}
 use Rattle.lt_objectives.specs.Marked.{marked}
 use Rattle.lt_mark_typing.specs.MarkedRuns.{is_from, RunsAs}
+use Rattle.lt_mark_typing.specs.MutationLabels.{MutationLabelsAreExact}
 use Rattle.lt_answers.specs.Programs.{IsProgram, HasNoProgram}
 use Rattle.lt_answers.specs.declared.status.Refusal.{Refusal}
 use Rattle.lt_answers.specs.declared.status.Refusal.TheVariants.{Grown}
@@ -39,6 +41,8 @@ pub record IsAnnotation (model : DataModel) (set : ℕ) (text out : List ℕ) : 
   pub alone : IsOfUnitAlone out annotated
   pub same : erased_unit annotated ≡ erased_unit has.is_program.unit
   pub runs : RunsAs (is_from (first_id has.is_program.unit)) model has.program annotated
+  -- Each new label of a mutant is true exactly where the expression and the mutant both have a value and the values differ.
+  pub mutants : MutationLabelsAreExact (is_from (first_id has.is_program.unit)) greatest_label_id model annotated
 
 -- ---- refusals
 

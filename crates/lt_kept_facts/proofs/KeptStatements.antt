@@ -115,7 +115,7 @@ module _ {F G : List Fact} {new : ℕ → Bool} (numbered : (it : c.Mark) (known
         (joined (old_mark numbered noting it (entered k) (entered l) h (entered_beside b)) (λ t u m n q q' r flags b. after (of_items (f t m q) n b) (λ v w m n i i' r flags b. done tt b)))
     of_items (p.an_added_label {around = around} {known = k} {m = c.mark predicate id tag c.no_bindings} {is} {js} u h d) l b =
         let found = new_mark predicate id tag u h.0 h.1 h.2 (numbered_alone (l.next + 1) l.facts b) in
-        labelled_alone around k is js (c.mark predicate id tag c.no_bindings) l found.1 (e.mark found.0 (number_of_id id) e.no_bindings) found.3 found.4 (of_items d found.1 (subst (λ ids. IsBeside new ids found.2 k found.1) (sym h.3) found.5))
+        labelled_alone around k is js (c.mark predicate id tag c.no_bindings) l found.1 (e.mark found.0 (number_of_id id) e.no_bindings) found.3 found.4 (of_items d found.1 (subst (λ ids. IsBeside new ids found.2 k found.1) (sym h.4) found.5))
     of_items (p.an_added_label {m = c.mark predicate id tag (c.a_binding name value bound)} u h d) l b = absurd h
 
     of_cases : {ids last : List ℕ} {further : List Bool} {type : Option Scalar} {seen : Seen} {around : Around} {k : Known} {them others : c.Cases} → AddsToCases new ids last type seen around k them others → (l : Known) → IsBeside new ids further k l

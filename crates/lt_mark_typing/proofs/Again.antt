@@ -48,7 +48,7 @@ module _ {new : ℕ → Bool} where
   new_added (e.a_mark (e.mark predicate id bound) rest) h = a.added h.0 (new_added rest h.1)
 
   -- old marks and new ones behind them
-  joined_marks : {used between : List ℕ} {further : List Bool} (labels : c.Marks) (ms : c.Marks) {k l : Known} → AreOld new (in_marks ms) → IsBeside new used further k l
+  pub joined_marks : {used between : List ℕ} {further : List Bool} (labels : c.Marks) (ms : c.Marks) {k l : Known} → AreOld new (in_marks ms) → IsBeside new used further k l
       → ((ts : Marks) (next : Known) → marks ms k ≡ Goes ts next → (next.is_unmarked ≡ false) × AreNewLabels new used between next labels)
       → Follows new between further (λ r (ts us : Marks). AddsMarks new (marks_with r ts) us) (marks ms k) (marks (joined ms labels) l)
   joined_marks {used} {between} {further} labels c.no_marks {k} {l} h b f =

@@ -58,7 +58,7 @@ module _ {new : ℕ → Bool} where
       (subst (λ t. IsBeside new after behind (with_start n None x.type k) (with_start m None t j)) (sym (q (renumbered behind) (agrees_so_far behind)).type)
       (start_beside n m None None x.type (later e s) (λ r a. refl) b)))
 
-  of_start_of : {used after : List ℕ} {further : List Bool} {k : Known} (n : ℕ) (it : Specified) (declared : Declares) (i other : c.Initialiser) → AddsToStartOf new used after it declared k i other → {j : Known}
+  pub of_start_of : {used after : List ℕ} {further : List Bool} {k : Known} (n : ℕ) (it : Specified) (declared : Declares) (i other : c.Initialiser) → AddsToStartOf new used after it declared k i other → {j : Known}
       → IsBeside new used further k j
       → Follows new after further (AddsLocalsWith new) (declare_if_named it declared.node declared.type (Some i) k declared.name k) (declare_if_named it n declared.type (Some other) j declared.name j)
   of_start_of {used} {after} {further} {k} n it declared i other h {j} b =

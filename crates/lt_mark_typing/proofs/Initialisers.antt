@@ -51,10 +51,10 @@ module _ (new : ℕ → Bool) where
   filled_both : (r : ℕ → ℕ) (xs ys us vs : List StartPart) → AddsFilled new r xs ys → AddsFilled new r us vs → AddsFilled new r (xs ++ us) (ys ++ vs)
   filled_both r xs ys us vs h g = subst (λ l. AddsParts new l (ys ++ vs)) (sym (parts_joined r xs us)) (all_parts (parts_with r xs) ys (parts_with r us) vs h g)
 
-  filled_behind : IsFilledBehind (AddsFilled new)
+  pub filled_behind : IsFilledBehind (AddsFilled new)
   filled_behind r xs ys us h = filled_both r xs ys us (parts_with r us) h (unmarked.parts new (parts_with r us))
 
-  nothing_filled : (r : ℕ → ℕ) (f : Filling) → f.parts ≡ [] → Fills (AddsFilled new) r f f
+  pub nothing_filled : (r : ℕ → ℕ) (f : Filling) → f.parts ≡ [] → Fills (AddsFilled new) r f f
   nothing_filled r f h = record { left = refl; parts = subst (λ l. AddsFilled new r l l) (sym h) tt; surplus = refl }
 
 -- ---- values
@@ -120,7 +120,7 @@ module _ {new : ℕ → Bool} where
       (λ h. surplus_same is js inner other f.left e (s (renumbered further) (agrees_so_far further)).surplus ∙ h)
       (goes_here (λ r a. behind_adds f g inner other f.left r (q r a) (s r a) b) there))
 
-  for_list : {used : List ℕ} {further : List Bool} (is js : c.Initialisers) (f g : Filling) {k j : Known} → only_text js ≡ only_text is → g.left ≡ f.left → IsBeside new used further k j
+  pub for_list : {used : List ℕ} {further : List Bool} (is js : c.Initialisers) (f g : Filling) {k j : Known} → only_text js ≡ only_text is → g.left ≡ f.left → IsBeside new used further k j
       → filling_for j js g.left ≡ filling_for k is f.left
   for_list is js f g {k} {j} e q b = ap (filling_for j js) q ∙ by f.left ∙ for_list_same is f.left b
     where
@@ -128,12 +128,12 @@ module _ {new : ℕ → Bool} where
       by [] = refl
       by (run ∷ runs) = rw e refl
 
-  filling_itself : (known : Known) (list : c.Initialisers) (runs : List Run) (r : ℕ → ℕ) → Fills (AddsFilled new) r (filling_for known list runs) (filling_for known list runs)
+  pub filling_itself : (known : Known) (list : c.Initialisers) (runs : List Run) (r : ℕ → ℕ) → Fills (AddsFilled new) r (filling_for known list runs) (filling_for known list runs)
   filling_itself known list [] r = nothing_filled new r (filling_for known list []) refl
   filling_itself known list (run ∷ runs) r = nothing_filled new r (filling_for known list (run ∷ runs)) refl
 
   mutual
-    of_initialiser : {used after : List ℕ} {further : List Bool} {k : Known} {f : Filling} {it other : c.Initialiser} → AddsToInitialiser new used after k f it other → (g : Filling)
+    pub of_initialiser : {used after : List ℕ} {further : List Bool} {k : Known} {f : Filling} {it other : c.Initialiser} → AddsToInitialiser new used after k f it other → (g : Filling)
         → ((r : ℕ → ℕ) → Agrees r further → Fills (AddsFilled new) r f g) → {j : Known} → IsBeside new used further k j
         → Follows new after further (Fills (AddsFilled new)) (initialiser it false f k) (initialiser other false g j)
     of_initialiser (p.as_it_is {filling = f} {it = it} h) g q b = of_old_initialiser (AddsFilled new) (filled_behind new) it false f g h q b
@@ -195,7 +195,7 @@ module _ {new : ℕ → Bool} where
       ∙ ap (λ l. list_faults t is f ++ l) (lengths_same (with_length t (listed_length k t is f)) b) ∙ h)
       (goes_here (λ r a. record { type = ap (with_length t) lengths; zeroed = refl; parts = (q r a).parts }) b)
 
-  for_object : {used : List ℕ} {further : List Bool} (t : CType) (is js : c.Initialisers) {k j : Known} → only_text js ≡ only_text is → IsBeside new used further k j → filling_of j 0 t js ≡ filling_of k 0 t is
+  pub for_object : {used : List ℕ} {further : List Bool} (t : CType) (is js : c.Initialisers) {k j : Known} → only_text js ≡ only_text is → IsBeside new used further k j → filling_of j 0 t js ≡ filling_of k 0 t is
   for_object t is js {k} {j} e b = rw e (same_of (λ (known : Known). filling_of known 0 t is) b (λ r n os fs ls facts h. refl))
 
   pub of_object : {used after : List ℕ} {further : List Bool} {k : Known} {t : CType} {it other : c.Initialiser} → AddsToObject new used after k t it other → {j : Known} → IsBeside new used further k j

@@ -16,21 +16,21 @@ pub mod Labels
 pub mod Steps
 pub mod Tags
 pub mod Declarators
-mod Knowing
+pub mod Knowing
 pub mod Unchanged
 pub mod Quiet
 pub mod NewMarks
 pub mod Predicates
-mod Placing
+pub mod Placing
 mod Fronts
-mod Again
+pub mod Again
 pub mod Linked
-mod Filled
+pub mod Filled
 pub mod Fillings
 pub mod Declared
 pub mod Declarations
-mod Initialisers
-mod DeclaredAgain
+pub mod Initialisers
+pub mod DeclaredAgain
 pub mod StatementParts
-mod Statements
+pub mod Statements
 pub mod Units

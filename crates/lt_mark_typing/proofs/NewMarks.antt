@@ -142,7 +142,7 @@ module _ {new : ℕ → Bool} where
   new_labels c.no_marks {used} {after} {further} {k} {l} u h b = (e.no_marks, l, further, extends_itself further, refl, tt, subst (λ it. IsBeside new it further k l) (sym h) b)
   new_labels (c.a_mark (c.mark predicate id tag c.no_bindings) rest) {used} {after} {further} {k} {l} u h b =
       let first = new_mark predicate id tag u h.0 h.1 h.2 b in
-      let others = new_labels rest u h.3 first.5 in (
+      let others = new_labels rest u h.4 first.5 in (
         e.a_mark (e.mark first.0 (number_of_id id) e.no_bindings) others.0,
         others.1,
         others.2,

@@ -47,7 +47,7 @@ AddsCasesWith new r x y = AddsCases new (cases_with r x) y
 
 module _ {new : ℕ → Bool} where
   -- the type of what is used as a truth whose value counts
-  operand_type : {further : List Bool} (x y : Typed) → ((r : ℕ → ℕ) → Agrees r further → AddsMade new (typed_with r x) y) → own_type y ≡ own_type x
+  pub operand_type : {further : List Bool} (x y : Typed) → ((r : ℕ → ℕ) → Agrees r further → AddsMade new (typed_with r x) y) → own_type y ≡ own_type x
   operand_type {further} x y t = type_same (t (renumbered further) (agrees_so_far further)) ∙ own_type_with (renumbered further) x
 
   mutual
@@ -129,7 +129,7 @@ module _ {new : ℕ → Bool} where
     of_items {further = further} (p.an_added_label {after = after} {around = around} {known = k} {m = c.mark predicate id tag c.no_bindings} {is = is} {js = js} u h d) {j} b =
         let found = new_mark predicate id tag u h.0 h.1 h.2 (numbered_alone (j.next + 1) j.facts b) in
         subst (λ it. Follows new after further (AddsItemsWith new) (items is around k) (goes_on it (λ typed k. goes_on (items js around k) (λ others k. Goes (e.a_label typed others) k)))) (sym found.4)
-        (from_there found.3 (then_alone (of_items d (subst (λ used. IsBeside new used found.2 k found.1) (sym h.3) found.5))
+        (from_there found.3 (then_alone (of_items d (subst (λ used. IsBeside new used found.2 k found.1) (sym h.4) found.5))
         (λ is js k l behind q i t b. (e.a_label (e.mark found.0 (number_of_id id) e.no_bindings) js, l, refl, λ r g. a.an_added_label h.0.1 (t r g), b))))
     of_items (p.an_added_label {m = c.mark predicate id tag (c.a_binding name value bound)} u h d) b = absurd h
 

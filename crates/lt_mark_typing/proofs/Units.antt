@@ -114,7 +114,7 @@ module _ {new : ℕ → Bool} where
 
   -- ---- units
 
-  of_external : {used after : List ℕ} {further : List Bool} {k : Known} {x y : c.External} → AddsToExternal new used after k x y → {j : Known} → IsBeside new used further k j
+  pub of_external : {used after : List ℕ} {further : List Bool} {k : Known} {x y : c.External} → AddsToExternal new used after k x y → {j : Known} → IsBeside new used further k j
       → Follows new after further (Same {A = Unit {0}}) (external x k) (external y j)
   of_external (p.Defines {known = k} {s} {d} {is} {js} u h f) {j} b =
       bind_same_at (of_specifiers s elsewhere u (entered_beside b)) (λ it m n behind q i b.

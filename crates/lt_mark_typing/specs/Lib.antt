@@ -8,4 +8,5 @@ pub mod PlacedItems
 pub mod PlacedUnits
 pub mod MarkedPrograms
 pub mod MarkedRuns
+pub mod MutationLabels
 pub mod Laws

@@ -20,7 +20,11 @@ use Rattle.lt_tree.specs.Typing.Specifying.{Specified, elsewhere}
 use Rattle.lt_tree.specs.Typing.Declarators.{Built, Declares, type_name_faults}
 use Rattle.lt_tree.specs.Typing.Rules.{Rule}
 use Rattle.lt_tree.specs.Typing.ExpressionTyping.{expression, marks, specifiers, declarator}
+use Rattle.lt_objectives.specs.declared.criteria.Criterion.{Criterion}
+use Rattle.lt_objectives.specs.Criteria.{tag_of}
+use Rattle.lt_objectives.specs.Decisions.{inequality}
 use Rattle.lt_mark_laws.specs.Added.{can_be_marked}
+use Rattle.lt_mark_laws.specs.Mutants.{IsOfMutants, IsMutant, AreToldApart}
 use Rattle.lt_object_laws.specs.Further.{IsFurther}
 use Rattle.lt_mark_typing.specs.Beside.{is_used, IsBeside, Position, in_use, in_test, use_of}
 
@@ -58,11 +62,18 @@ IsThere test new used known it = (is_pure it ≡ true) × ((further : List Bool)
 abbrev pub IsPredicateAt : (ℕ → Bool) → List ℕ → Known → c.Expression → Type 0
 IsPredicateAt new used known it = IsThere is_scalar new used known it
 
+-- What a label with the tag of mutants says is that an expression and a mutant of it differ; here that is told exactly in the text with marks added.
+abbrev pub IsToldThere : (ℕ → Bool) → List ℕ → Known → (tag : List ℕ) → c.Expression → Type 0
+IsToldThere new used known tag predicate =
+    (criterion : Criterion) → IsOfMutants criterion → tag ≡ tag_of criterion
+    → (it : c.Expression) × (other : c.Expression) × (predicate ≡ inequality it other) × IsMutant criterion it other
+    × ((further : List Bool) (there : Known) → IsBeside new used further known there → AreToldApart there it other)
+
 -- Labels that bind no names, with new ids, which are used behind them.
 abbrev pub AreNewLabels : (ℕ → Bool) → List ℕ → List ℕ → Known → c.Marks → Type 0
 AreNewLabels new used after known c.no_marks = after ≡ used
 AreNewLabels new used after known (c.a_mark (c.mark predicate id tag c.no_bindings) rest) =
-    IsNewId new used id × (is_tag tag ≡ true) × IsPredicateAt new used known predicate × AreNewLabels new (number_of_id id ∷ used) after known rest
+    IsNewId new used id × (is_tag tag ≡ true) × IsPredicateAt new used known predicate × IsToldThere new used known tag predicate × AreNewLabels new (number_of_id id ∷ used) after known rest
 AreNewLabels new used after known (c.a_mark (c.mark predicate id tag (c.a_binding name value others)) rest) = ⊥
 
 -- ---- places

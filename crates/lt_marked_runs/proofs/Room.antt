@@ -1,5 +1,5 @@
 -- A run has room for as many more cells where the program gets another list of types.
-use Rattle.std.proofs.Common.{◌≡◌, ◌≤◌, ℕ, zero, suc, ◌+◌, List, [], ◌∷◌, map, length, true, refl, sym, ap, ◌∙◌, subst}
+use Rattle.std.proofs.Common.{◌≡◌, ◌≤◌, ℕ, zero, suc, ◌+◌, List, [], ◌∷◌, map, length, take, true, refl, sym, ap, ◌∙◌, subst}
 use Rattle.std.proofs.lemmas.List.{length-map}
 use Rattle.lt_model.specs.declared.cell.CellType.TheVariants as cell
 use Rattle.lt_model.specs.declared.cell.ShapeCell.{ShapeCell}
@@ -14,7 +14,7 @@ use Rattle.lt_mark_laws.proofs.Itself.{themselves}
 use Rattle.lt_object_laws.specs.Further.{cells_in}
 use Rattle.lt_object_laws.specs.Laws.{bytes_from, with_spare, HasRoomFor}
 use Rattle.lt_type_laws.specs.Renumbered.{block_with, shape_cell_with, input_with, over_with}
-use Rattle.lt_marked_runs.proofs.Sizes.{shape_long, cells_same, as_large}
+use Rattle.lt_marked_runs.proofs.Sizes.{shape_long, AreAsLarge, cells_same, first_as_large, as_large}
 
 -- ---- a spare block has no pointers
 
@@ -31,10 +31,14 @@ module _ (r : ℕ → ℕ) (p q : Program) (f : Function) (ticks : ℕ) (same : 
   abbrev p' : Program
   p' = record p { types = q.types }
 
-  fits_first : (k : ℕ) → cells_in (initials p p.objects) + k ≤ most_cells → cells_in (initials p' p'.objects) + k ≤ most_cells
-  fits_first k fits =
-      subst (λ n. n + k ≤ most_cells) (cells_same (initials p p.objects) (initials p' p.objects)
-      (as_large p p' (shape_long p.model p.structs p.types q.types) p.objects p.objects ((themselves (λ n. true)).0 p).objects)) fits
+  objects_as_large : AreAsLarge (initials p p.objects) (initials p' p'.objects)
+  objects_as_large = as_large p p' (shape_long p.model p.structs p.types q.types) p.objects p.objects ((themselves (λ n. true)).0 p).objects
+
+  first_same : (n : ℕ) → cells_in (take n (initials p p.objects)) ≡ cells_in (take n (initials p' p'.objects))
+  first_same n = cells_same (take n (initials p p.objects)) (take n (initials p' p'.objects)) (first_as_large n (initials p p.objects) (initials p' p'.objects) objects_as_large)
+
+  all_same : cells_in (initials p p.objects) ≡ cells_in (initials p' p'.objects)
+  all_same = cells_same (initials p p.objects) (initials p' p'.objects) objects_as_large
 
   as_long : (it : Input) → length (run p' f (input_with r it) ticks).at.memory ≡ length (run p f it ticks).at.memory
   as_long it = ap (λ (it : Over). length it.at.memory) (same it) ∙ length-map (run p f it ticks).at.memory (block_with r)
@@ -47,4 +51,7 @@ module _ (r : ℕ → ℕ) (p q : Program) (f : Function) (ticks : ℕ) (same : 
 
   pub room_kept : (k : ℕ) → HasRoomFor k p f input ticks → HasRoomFor k p' f (input_with r input) ticks
   room_kept zero room = tt
-  room_kept (suc k) room = record { first = fits_first (suc k) room.first; throughout = one_longer (suc k) room.throughout }
+  room_kept (suc k) room = record {
+    first = λ n fits. subst (λ many. many + suc k ≤ most_cells) (first_same n) (room.first n (subst (λ many. many ≤ most_cells) (sym (first_same n)) fits));
+    throughout = λ fits. one_longer (suc k) (room.throughout (subst (λ many. many ≤ most_cells) (sym all_same) fits));
+  }

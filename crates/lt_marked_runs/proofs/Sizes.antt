@@ -1,5 +1,5 @@
 -- How many cells the objects have that are there from the start depends on their types alone.
-use Rattle.std.proofs.Common.{◌≡◌, ℕ, zero, suc, ◌+◌, List, [], ◌∷◌, ◌++◌, length, Bool, true, false, refl, sym, ap, ◌∙◌, subst}
+use Rattle.std.proofs.Common.{◌≡◌, ℕ, zero, suc, ◌+◌, List, [], ◌∷◌, ◌++◌, length, take, Bool, true, false, refl, sym, ap, ◌∙◌, subst}
 use Rattle.std.proofs.lemmas.List.{length-append}
 use Rattle.std.specs.Prelude.{if◌then◌else◌}
 use Rattle.std.specs.List.{flat_map}
@@ -67,6 +67,14 @@ cells_same [] [] h = refl
 cells_same (x ∷ xs) (y ∷ ys) h = ap (λ n. n + cells_in xs) h.0 ∙ ap (λ n. length y.block.shape.cells + n) (cells_same xs ys h.1)
 cells_same [] (y ∷ ys) h = absurd h
 cells_same (x ∷ xs) [] h = absurd h
+
+-- so have the first so many
+pub first_as_large : (n : ℕ) (xs ys : List Static) → AreAsLarge xs ys → AreAsLarge (take n xs) (take n ys)
+first_as_large zero xs ys h = tt
+first_as_large (suc n) [] [] h = tt
+first_as_large (suc n) (x ∷ xs) (y ∷ ys) h = (h.0, first_as_large n xs ys h.1)
+first_as_large (suc n) [] (y ∷ ys) h = absurd h
+first_as_large (suc n) (x ∷ xs) [] h = absurd h
 
 pub further_cells_same : (further : List Bool) (xs ys : List Static) → AreAsLarge xs ys → further_cells_in further xs ≡ further_cells_in further ys
 further_cells_same [] xs ys h = refl

@@ -1,290 +1,187 @@
 -- Absolute values, with or without a minus, are told apart from their expressions.
-use Rattle.std.proofs.Common.{◌≡◌, ℕ, ◌+◌, pos, List, [], ◌∷◌, ◌++◌, Option, Some, None, Bool, true, false, refl, sym, ap, ◌∙◌, subst}
+use Rattle.std.proofs.Common.{◌≡◌, inl, inr, [], ◌∷◌, Option, Some, None, Bool, true, false, refl, sym, ap, ◌∙◌, subst}
 use Rattle.std.proofs.lemmas.Bool.{false≢true}
 use Rattle.std.specs.Prelude.{◌&&◌, ◌||◌, if◌then◌else◌, codes, unwrap_or}
 use Rattle.std.specs.List.{AllByRecursion}
 use Rattle.lt_model.specs.declared.operator.Op.TheVariants as O
 use Rattle.lt_model.specs.declared.scalar.DataModel.{DataModel}
-use Rattle.lt_model.specs.declared.scalar.DataModel.TheVariants as model
 use Rattle.lt_model.specs.declared.scalar.Scalar.{Scalar}
 use Rattle.lt_model.specs.declared.scalar.Scalar.TheVariants as S
+use Rattle.lt_model.specs.Scalar.{is_signed}
 use Rattle.lt_model.specs.Conversions.{promoted, usual_of}
 use Rattle.lt_tree.specs.Tree as c
 use Rattle.lt_tree.specs.Purity.{is_pure}
-use Rattle.lt_tree.specs.Typing.Types.{CType, Num, scalar_of, target_of, is_integer, is_pointer, alike}
+use Rattle.lt_tree.specs.Typing.Types.{CType, Num, scalar_of, is_integer, is_pointer}
 use Rattle.lt_tree.specs.Typing.Constants.{constant_of}
-use Rattle.lt_tree.specs.Typing.Rules.{Rule, unless, bad_comparison}
 use Rattle.lt_tree.specs.Typing.TypedTree as e
 use Rattle.lt_tree.specs.Typing.TypedTree.{Value, type_of}
 use Rattle.lt_tree.specs.Typing.Entities.{Known}
 use Rattle.lt_tree.specs.Typing.Steps.{Goes, goes_on}
-use Rattle.lt_tree.specs.Typing.Operands.{holds, points_to, are_integers, point_alike, can_be_ordered}
-use Rattle.lt_tree.specs.Typing.Expressions.{a_value, Typed, Use, as_value, as_truth, Judged, own_type, value_in, scalar_in, converted_to, constant, used, faults_of_any, finish}
+use Rattle.lt_tree.specs.Typing.Operands.{are_integers}
+use Rattle.lt_tree.specs.Typing.Expressions.{a_value, Typed, as_value, as_truth, own_type, value_in, scalar_in, converted_to, used, finish}
 use Rattle.lt_tree.specs.Typing.Operations.{judge_constant, judge_minus}
-use Rattle.lt_tree.specs.Typing.BinaryOperations.{judge_binary, judge_conditional, on_integers, on_pointers, chosen_pointer}
+use Rattle.lt_tree.specs.Typing.BinaryOperations.{judge_binary, judge_conditional, chosen_type, chosen_pointer}
 use Rattle.lt_tree.specs.Typing.ExpressionTyping.{expression}
 use Rattle.lt_ir.specs.Running.{At}
-use Rattle.lt_meaning.specs.Expressions.{is_pure as is_pure_value, Around}
+use Rattle.lt_meaning.specs.Expressions.{Around}
 use Rattle.lt_mark_laws.specs.Laws.{DifferencesAreExact, LabelsNoteTheirPredicates}
+use Rattle.lt_mark_laws.specs.Mutants.{entered, AreToldApart}
 use Rattle.lt_objectives.specs.Decisions.{zero_constant}
 use Rattle.lt_objectives.specs.Mutants.{is_fitting, is_signed_integer, minus, absolute, absolute_mutants}
-use Rattle.lt_mutation_labels.specs.Laws.{entered, AreToldApart, FindsFacts, MutantsAreToldApart}
+use Rattle.lt_mutation_labels.specs.Laws.{IsLater, StaysInteger, MutantsAreToldApart}
 use Rattle.lt_mutation_labels.proofs.Steps.{part, ended}
-use Rattle.lt_mutation_labels.proofs.Pure.{value_pure, first_true, both_true}
-use Rattle.lt_mutation_labels.proofs.Again.{Near, near_itself, near_numbered, typed_once}
-use Rattle.lt_mutation_labels.proofs.Conversions.{promoted_again, promoted_usual, usual_promoted, usual_int}
-use Rattle.lt_mutation_labels.proofs.Numbers.{converted_itself}
-use Rattle.lt_mutation_labels.proofs.Inequalities.{Keeps, IsKept, own_by, value_by, told_apart}
-use Rattle.lt_mutation_labels.proofs.Others.{near_model, numbered, typed_alike, of_relations, of_connectors, of_arithmetic}
-use Rattle.lt_mutation_labels.proofs.Fitting.{IsFitted, Numbers, scalar_integer, fitting_node}
-use Rattle.lt_mutation_labels.proofs.AbsoluteNumbers.{zero_value, absolute_in, negative_in, absolute_keeps, negative_keeps}
-
--- ---- the constant 0
-
-zero_is : (m : DataModel) → constant_of m (codes "0") ≡ Some (record { type = S.Int; value = pos 0 })
-zero_is model.Ilp32 = refl
-zero_is model.Lp64 = refl
-zero_is model.Llp64 = refl
-zero_is model.Ilp32U = refl
-zero_is model.Lp64U = refl
-zero_is model.Llp64U = refl
-
-zero_typed : (m : DataModel) → (judge_constant (constant_of m (codes "0"))).typed ≡ constant S.Int (pos 0)
-unfolding judge_constant
-zero_typed m = ap (λ found. (judge_constant found).typed) (zero_is m)
-
--- ---- what is less than 0 is an integer
-
-no_target : (t : Option CType) → holds (λ a. points_to (alike a) (Num S.Int)) t ≡ false
-no_target None = refl
-no_target (Some a) = refl
-
-integer_if : (i b : Bool) → b ≡ false → (i && true) || b ≡ true → i ≡ true
-integer_if true b e h = refl
-integer_if false b e h = absurd (false≢true (sym e ∙ h))
-
-ordered_integer : (t : CType) → can_be_ordered t (Num S.Int) ≡ true → is_integer t ≡ true
-ordered_integer t h = integer_if (is_integer t) (point_alike t (Num S.Int)) (no_target (target_of t)) h
-
-no_rule : (b : Bool) (rule : Rule) (rules : List Rule) → unless b rule ++ rules ≡ [] → b ≡ true
-no_rule true rule rules h = refl
-no_rule false rule rules h = absurd cc
+use Rattle.lt_mutation_labels.proofs.Pure.{first_true, second_true, both_true}
+use Rattle.lt_mutation_labels.proofs.Later.{later_itself, later_entered, later_ended, later_model, typed_later}
+use Rattle.lt_mutation_labels.proofs.Conversions.{promoted_again, promoted_usual, usual_promoted}
+use Rattle.lt_mutation_labels.proofs.Numbers.{scalar_integer}
+use Rattle.lt_mutation_labels.proofs.Inequalities.{Keeps, IsKept, itself_keeps, promoted_keeps, own_by, value_by, told_apart}
+use Rattle.lt_mutation_labels.proofs.Others.{of_relations, of_connectors, of_arithmetic}
+use Rattle.lt_mutation_labels.proofs.Fitting.{Numbers, IsFitted, fitting_node}
 
 -- ---- what the operators make
 
-less_form : (k : Known) (x y : Typed) → are_integers (own_type x) (own_type y) ≡ true
-    → (used as_truth (judge_binary O.Lt x y k).typed).form
-    ≡ a_value (e.Arithmetic (Num S.Int) O.Lt (usual_of k.model (scalar_in x) (scalar_in y)) (converted_to (Num (usual_of k.model (scalar_in x) (scalar_in y))) (value_in x)) (converted_to (Num (usual_of k.model (scalar_in x) (scalar_in y))) (value_in y)))
-unfolding judge_binary
-less_form k x y i = ap (λ b. (used as_truth (if b then on_integers k O.Lt x y else on_pointers k O.Lt x y)).form) i
+-- a value of this type
+abbrev HasType : Scalar → Typed → Type 0
+HasType s x = (v : Value) × (x.form ≡ a_value v) × (type_of v ≡ Num s)
 
-less_faults : (k : Known) (x y : Typed) (more : List Rule) → (judge_binary O.Lt x y k).faults ++ more ≡ [] → can_be_ordered (own_type x) (own_type y) ≡ true
-unfolding judge_binary
-less_faults k x y more h = no_rule (can_be_ordered (own_type x) (own_type y)) bad_comparison more h
-
-minus_form : (k : Known) (x : Typed) → (used as_value (judge_minus x k).typed).form ≡ a_value (e.Minus (Num (promoted k.model (scalar_in x))) (converted_to (Num (promoted k.model (scalar_in x))) (value_in x)))
-unfolding judge_minus
-minus_form k x = refl
-
-conditional_form : (k : Known) (test x y : Typed) (s : Scalar) → are_integers (own_type x) (own_type y) ≡ true → usual_of k.model (scalar_in x) (scalar_in y) ≡ s
-    → (used as_value (judge_conditional test x y k).typed).form ≡ a_value (e.Conditional (Num s) (value_in test) (converted_to (Num s) (value_in x)) (converted_to (Num s) (value_in y)))
-unfolding judge_conditional
-conditional_form k test x y s i u =
-    ap (λ t. a_value (e.Conditional t (value_in test) (converted_to t (value_in x)) (converted_to t (value_in y))))
-    (ap (λ b. if b then Num (usual_of k.model (scalar_in x) (scalar_in y)) else (if is_pointer (own_type x) || is_pointer (own_type y) then chosen_pointer x y else own_type x)) i ∙ ap Num u)
+type_has : (s : Scalar) (x : Typed) → HasType s x → own_type x ≡ Num s
+type_has s x h = own_by x h.0 (Num s) h.1 h.2
 
 scalar_by : (x : Typed) (s : Scalar) → scalar_of (own_type x) ≡ Some s → scalar_in x ≡ s
 scalar_by x s h = ap (λ r. unwrap_or r S.Int) h
 
+scalar_has : (s : Scalar) (x : Typed) → HasType s x → scalar_in x ≡ s
+scalar_has s x h = scalar_by x s (ap scalar_of (type_has s x h))
+
+minus_typed : (k : Known) (x : Typed) → HasType (promoted k.model (scalar_in x)) (used as_value (judge_minus x k).typed)
+unfolding judge_minus
+minus_typed k x = (e.Minus (Num (promoted k.model (scalar_in x))) (converted_to (Num (promoted k.model (scalar_in x))) (value_in x)), refl, refl)
+
+chosen_typed : (k : Known) (test x y : Typed) → are_integers (own_type x) (own_type y) ≡ true → HasType (usual_of k.model (scalar_in x) (scalar_in y)) (used as_value (judge_conditional test x y k).typed)
+unfolding judge_conditional
+chosen_typed k test x y i = (
+  e.Conditional (chosen_type k x y) (value_in test) (converted_to (chosen_type k x y) (value_in x)) (converted_to (chosen_type k x y) (value_in y)),
+  refl,
+  ap (λ b. if b then Num (usual_of k.model (scalar_in x) (scalar_in y)) else (if is_pointer (own_type x) || is_pointer (own_type y) then chosen_pointer x y else own_type x)) i,
+)
+
 -- ---- nodes
 
-near_ended : {m : DataModel} {k0 j : Known} (n : ℕ) (role : Use) (it : Judged) {z : Typed} {end : Known} → Near m k0 j → finish n role it j ≡ Goes z end → Near m k0 end
-near_ended {m} {k0} {j} n role it b h = subst (Near m k0) (ended n role it j h).1 (near_numbered j.next _ b)
+zero_node : (known : Known) {k : Known} {z : Typed} {end : Known} → IsLater known k → expression zero_constant as_value k ≡ Goes z end → IsLater known end
+zero_node known {k} later h = later_ended known k.next as_value (judge_constant (constant_of k.model (codes "0"))) (later_entered known later) h
 
-near_entered : {m : DataModel} {k0 k : Known} → Near m k0 k → Near m k0 (entered k)
-near_entered {k = k} b = near_numbered (k.next + 1) k.facts b
-
--- the constant 0 is typed as itself
-zero_node : {m : DataModel} {k0 : Known} (k : Known) {z : Typed} {end : Known} → Near m k0 k → expression zero_constant as_value k ≡ Goes z end → (z ≡ constant S.Int (pos 0)) × Near m k0 end
-zero_node k b h =
-    let it = judge_constant (constant_of k.model (codes "0")) in
-    (sym (ended k.next as_value it (entered k) h).0 ∙ ap (used as_value) (zero_typed k.model), near_ended k.next as_value it (near_entered b) h)
-
--- An integer that fits is typed as this wherever near the same is known.
-module _ (m : DataModel) (k0 : Known) (it : c.Expression) (x : Typed)
-    (again : (k : Known) (y : Typed) (j : Known) → Near m k0 k → expression it as_value k ≡ Goes y j → (y ≡ x) × Near m k0 j) where
+-- An absolute value has the promoted type of an expression that stays an integer, and so it has with a minus.
+module _ (known : Known) (it : c.Expression) (stays : StaysInteger known it) where
   abbrev p : Scalar
-  p = promoted m (scalar_in x)
+  p = promoted known.model stays.scalar
 
   -- `it < 0`
-  less_node : (k : Known) {z : Typed} {end : Known} → Near m k0 k → expression (c.Binary O.Lt it zero_constant) as_truth k ≡ Goes z end
-      → (is_integer (own_type x) ≡ true) × (z.form ≡ a_value (e.Arithmetic (Num S.Int) O.Lt p (converted_to (Num p) (value_in x)) (converted_to (Num p) zero_value))) × Near m k0 end
-  less_node k {z} {end} b h =
-      let one = part (expression it as_value (entered k)) (λ y j. goes_on (expression zero_constant as_value j) (λ o j. finish k.next as_truth (judge_binary O.Lt y o j) j)) h in
-      let first = again (entered k) one.0 one.1 (near_entered b) one.2 in
+  less_node : {k : Known} {z : Typed} {end : Known} → IsLater known k → expression (c.Binary O.Lt it zero_constant) as_truth k ≡ Goes z end → IsLater known end
+  less_node {k} later h =
+      let one = part (expression it as_value (entered k)) (λ x j. goes_on (expression zero_constant as_value j) (λ o j. finish k.next as_truth (judge_binary O.Lt x o j) j)) h in
       let two = part (expression zero_constant as_value one.1) (λ o j. finish k.next as_truth (judge_binary O.Lt one.0 o j) j) one.3 in
-      let second = zero_node one.1 first.1 two.2 in
-      at_end two.1 second.1
-      (subst (λ o. finish k.next as_truth (judge_binary O.Lt x o two.1) two.1 ≡ Goes z end) second.0
-      (subst (λ y. finish k.next as_truth (judge_binary O.Lt y two.0 two.1) two.1 ≡ Goes z end) first.0 two.3))
-    where
-      at_end : (j : Known) → Near m k0 j → finish k.next as_truth (judge_binary O.Lt x (constant S.Int (pos 0)) j) j ≡ Goes z end
-          → (is_integer (own_type x) ≡ true) × (z.form ≡ a_value (e.Arithmetic (Num S.Int) O.Lt p (converted_to (Num p) (value_in x)) (converted_to (Num p) zero_value))) × Near m k0 end
-      at_end j near g =
-          let judged = judge_binary O.Lt x (constant S.Int (pos 0)) j in
-          let over = ended k.next as_truth judged j g in
-          let integer = ordered_integer (own_type x) (less_faults j x (constant S.Int (pos 0)) (faults_of_any j.structs as_truth judged.typed) over.2) in (
-            integer,
-            ap (λ (y : Typed). y.form) (sym over.0) ∙ less_form j x (constant S.Int (pos 0)) (both_true (is_integer (own_type x)) true integer refl)
-                ∙ ap (λ s. a_value (e.Arithmetic (Num S.Int) O.Lt s (converted_to (Num s) (value_in x)) (converted_to (Num s) zero_value)))
-                (ap (λ model. usual_of model (scalar_in x) S.Int) (near_model near) ∙ usual_int m (scalar_in x)),
-            near_ended k.next as_truth judged near g,
-          )
+      later_ended known k.next as_truth (judge_binary O.Lt one.0 two.0 two.1) (zero_node known (typed_later known stays (later_entered known later) one.2).0 two.2) two.3
+
+  -- a minus, of what has this type
+  negated : (s : Scalar) (n : Known) (x : Typed) {j end : Known} {z : Typed} → promoted known.model s ≡ p → scalar_in x ≡ s → IsLater known j → finish n.next as_value (judge_minus x j) j ≡ Goes z end → HasType p z × IsLater known end
+  negated s n x {j} {end} {z} e g later h = (
+    subst (λ r. HasType r z) (ap (λ model. promoted model (scalar_in x)) (later_model known later) ∙ ap (promoted known.model) g ∙ e)
+        (subst (HasType (promoted j.model (scalar_in x))) (ended n.next as_value (judge_minus x j) j h).0 (minus_typed j x)),
+    later_ended known n.next as_value (judge_minus x j) later h,
+  )
 
   -- `-it`
-  minus_node : (k : Known) {z : Typed} {end : Known} → is_integer (own_type x) ≡ true → Near m k0 k → expression (minus it) as_value k ≡ Goes z end
-      → (z.form ≡ a_value (e.Minus (Num p) (converted_to (Num p) (value_in x)))) × Near m k0 end
-  minus_node k {z} {end} i b h =
-      let one = part (expression it as_value (entered k)) (λ y j. finish k.next as_value (judge_minus y j) j) h in
-      let first = again (entered k) one.0 one.1 (near_entered b) one.2 in
-      at_end one.1 first.1 (subst (λ y. finish k.next as_value (judge_minus y one.1) one.1 ≡ Goes z end) first.0 one.3)
-    where
-      at_end : (j : Known) → Near m k0 j → finish k.next as_value (judge_minus x j) j ≡ Goes z end → (z.form ≡ a_value (e.Minus (Num p) (converted_to (Num p) (value_in x)))) × Near m k0 end
-      at_end j near g = (
-        ap (λ (y : Typed). y.form) (sym (ended k.next as_value (judge_minus x j) j g).0) ∙ minus_form j x
-            ∙ ap (λ s. a_value (e.Minus (Num s) (converted_to (Num s) (value_in x)))) (ap (λ model. promoted model (scalar_in x)) (near_model near)),
-        near_ended k.next as_value (judge_minus x j) near g,
-      )
+  minus_node : {k : Known} {z : Typed} {end : Known} → IsLater known k → expression (minus it) as_value k ≡ Goes z end → HasType p z × IsLater known end
+  minus_node {k} later h =
+      let one = part (expression it as_value (entered k)) (λ x j. finish k.next as_value (judge_minus x j) j) h in
+      let first = typed_later known stays (later_entered known later) one.2 in
+      negated stays.scalar k one.0 refl (scalar_by one.0 stays.scalar first.1) first.0 one.3
+
+  chosen_scalar : {j : Known} (n y : Typed) → IsLater known j → HasType p n → scalar_of (own_type y) ≡ Some stays.scalar → usual_of j.model (scalar_in n) (scalar_in y) ≡ p
+  chosen_scalar n y later h g =
+      ap (λ model. usual_of model (scalar_in n) (scalar_in y)) (later_model known later) ∙ ap (λ s. usual_of known.model s (scalar_in y)) (scalar_has p n h) ∙ ap (usual_of known.model p) (scalar_by y stays.scalar g) ∙ usual_promoted known.model stays.scalar
 
   -- `it < 0 ? -it : it`
-  pub absolute_node : (k : Known) {z : Typed} {end : Known} → Near m k0 k → expression (absolute it) as_value k ≡ Goes z end
-      → (is_integer (own_type x) ≡ true) × (z.form ≡ a_value (absolute_in p (value_in x))) × Near m k0 end
-  absolute_node k {z} {end} b h =
+  absolute_node : {k : Known} {z : Typed} {end : Known} → IsLater known k → expression (absolute it) as_value k ≡ Goes z end → HasType p z × IsLater known end
+  absolute_node {k} {z} {end} later h =
       let one = part (expression (c.Binary O.Lt it zero_constant) as_truth (entered k)) (λ o j. goes_on (expression (minus it) as_value j) (λ n j. goes_on (expression it as_value j) (λ y j. finish k.next as_value (judge_conditional o n y j) j))) h in
-      let first = less_node (entered k) (near_entered b) one.2 in
       let two = part (expression (minus it) as_value one.1) (λ n j. goes_on (expression it as_value j) (λ y j. finish k.next as_value (judge_conditional one.0 n y j) j)) one.3 in
-      let second = minus_node one.1 first.0 first.2 two.2 in
       let three = part (expression it as_value two.1) (λ y j. finish k.next as_value (judge_conditional one.0 two.0 y j) j) two.3 in
-      let third = again two.1 three.0 three.1 second.1 three.2 in
-      at_end one.0 two.0 three.1 first.0 first.1 second.0 third.1
-      (subst (λ y. finish k.next as_value (judge_conditional one.0 two.0 y three.1) three.1 ≡ Goes z end) {x = three.0} third.0 three.3)
+      let second = minus_node (less_node (later_entered known later) one.2) two.2 in
+      let third = typed_later known {j = three.1} {x = three.0} stays second.1 three.2 in
+      at_end one.0 two.0 three.0 three.1 second.0 third.1 third.0 three.3
     where
-      at_end : (o n : Typed) (j : Known) → is_integer (own_type x) ≡ true
-          → o.form ≡ a_value (e.Arithmetic (Num S.Int) O.Lt p (converted_to (Num p) (value_in x)) (converted_to (Num p) zero_value)) → n.form ≡ a_value (e.Minus (Num p) (converted_to (Num p) (value_in x)))
-          → Near m k0 j → finish k.next as_value (judge_conditional o n x j) j ≡ Goes z end → (is_integer (own_type x) ≡ true) × (z.form ≡ a_value (absolute_in p (value_in x))) × Near m k0 end
-      at_end o n j i f g near d =
-          let test = e.Arithmetic (Num S.Int) O.Lt p (converted_to (Num p) (value_in x)) (converted_to (Num p) zero_value) in
-          let negative = e.Minus (Num p) (converted_to (Num p) (value_in x)) in
-          let own = own_by n negative (Num p) g refl in (
-            i,
-            ap (λ (y : Typed). y.form) (sym (ended k.next as_value (judge_conditional o n x j) j d).0)
-                ∙ conditional_form j o n x p (both_true (is_integer (own_type n)) (is_integer (own_type x)) (ap is_integer own) i)
-                (ap (λ model. usual_of model (scalar_in n) (scalar_in x)) (near_model near) ∙ ap (λ s. usual_of m s (scalar_in x)) (scalar_by n p (ap scalar_of own)) ∙ usual_promoted m (scalar_in x))
-                ∙ ap (λ v. a_value (e.Conditional (Num p) v (converted_to (Num p) (value_in n)) (converted_to (Num p) (value_in x)))) (value_by o test f)
-                ∙ ap (λ v. a_value (e.Conditional (Num p) test v (converted_to (Num p) (value_in x)))) (ap (converted_to (Num p)) (value_by n negative g) ∙ converted_itself p negative refl),
-            near_ended k.next as_value (judge_conditional o n x j) near d,
+      at_end : (o n y : Typed) (j : Known) → HasType p n → scalar_of (own_type y) ≡ Some stays.scalar → IsLater known j → finish k.next as_value (judge_conditional o n y j) j ≡ Goes z end → HasType p z × IsLater known end
+      at_end o n y j f g later d =
+          let integers = both_true (is_integer (own_type n)) (is_integer (own_type y)) (ap is_integer (type_has p n f)) (scalar_integer (own_type y) stays.scalar g) in (
+            subst (λ r. HasType r z) (chosen_scalar n y later f g)
+                (subst (HasType (usual_of j.model (scalar_in n) (scalar_in y))) (ended k.next as_value (judge_conditional o n y j) j d).0 (chosen_typed j o n y integers)),
+            later_ended known k.next as_value (judge_conditional o n y j) later d,
           )
 
   -- and with a minus
-  pub negative_node : (k : Known) {z : Typed} {end : Known} → Near m k0 k → expression (minus (absolute it)) as_value k ≡ Goes z end → (is_integer (own_type x) ≡ true) × (z.form ≡ a_value (negative_in p (value_in x)))
-  negative_node k {z} {end} b h =
-      let one = part (expression (absolute it) as_value (entered k)) (λ y j. finish k.next as_value (judge_minus y j) j) h in
-      let first = absolute_node (entered k) (near_entered b) one.2 in
-      let y = one.0 in
-      let j = one.1 in
-      let own = own_by y (absolute_in p (value_in x)) (Num p) first.1 refl in (
-        first.0,
-        ap (λ (y : Typed). y.form) (sym (ended k.next as_value (judge_minus y j) j one.3).0) ∙ minus_form j y
-            ∙ ap (λ s. a_value (e.Minus (Num s) (converted_to (Num s) (value_in y)))) (ap (λ model. promoted model (scalar_in y)) (near_model first.2) ∙ ap (promoted m) (scalar_by y p (ap scalar_of own)) ∙ promoted_again m (scalar_in x))
-            ∙ ap (λ v. a_value (e.Minus (Num p) v)) (ap (converted_to (Num p)) (value_by y (absolute_in p (value_in x)) first.1) ∙ converted_itself p (absolute_in p (value_in x)) refl),
-      )
+  negative_node : {k : Known} {z : Typed} {end : Known} → IsLater known k → expression (minus (absolute it)) as_value k ≡ Goes z end → HasType p z × IsLater known end
+  negative_node {k} later h =
+      let one = part (expression (absolute it) as_value (entered k)) (λ x j. finish k.next as_value (judge_minus x j) j) h in
+      let first = absolute_node (later_entered known later) one.2 in
+      negated p k one.0 (promoted_again known.model stays.scalar) (scalar_has p one.0 first.0) first.1 one.3
 
 -- ---- told apart
 
--- an integer and what has the value that a lemma on its numbers asks for
-module _ (m : DataModel) (x y : Typed) (fitted : IsFitted m x) (pure : is_pure_value (value_in x) ≡ true) where
-  abbrev s : Scalar
-  s = promoted m fitted.scalar
+-- an integer that fits keeps its value in its promoted type
+fitted_keeps : (here : Around) (at : At) (t : Scalar) (v : Value) → scalar_of (type_of v) ≡ Some t → Numbers here.program.model t v → Keeps here (promoted here.program.model t) v at
+fitted_keeps here at t v h numbers = elim numbers [
+  | inl g ↦ subst (λ r. Keeps here r v at) (sym g.1) (itself_keeps here t v at g.0)
+  | inr g ↦ promoted_keeps here t v at h (g here at)
+]
 
-  kept_by : (w : Value) → y.form ≡ a_value w → type_of w ≡ Num s
-      → ((here : Around) (at : At) → promoted here.program.model fitted.scalar ≡ s → Numbers here.program.model fitted.scalar (value_in x) → Keeps here s (value_in x) w at) → IsKept m x y
-  kept_by w f g k =
-      let own = own_by y w (Num s) f g in
-      record {
-        integers = both_true (is_integer (own_type x)) (is_integer (own_type y)) (scalar_integer (own_type x) fitted.scalar fitted.is) (ap is_integer own);
-        type = s;
-        usual = ap (λ r. usual_of m r (scalar_in y)) (scalar_by x fitted.scalar fitted.is) ∙ ap (usual_of m fitted.scalar) (scalar_by y s (ap scalar_of own)) ∙ promoted_usual m fitted.scalar;
-        keeps = λ here at e. subst (λ v. Keeps here s (value_in x) v at) (sym (value_by y w f))
-            (k here at (ap (λ model. promoted model fitted.scalar) e) (subst (λ model. Numbers model fitted.scalar (value_in x)) (sym e) fitted.numbers));
-      }
-
-  typed_so : scalar_of (type_of (value_in x)) ≡ Some fitted.scalar
-  typed_so = ap scalar_of fitted.own ∙ fitted.is
-
-  same_type : promoted m (scalar_in x) ≡ s
-  same_type = ap (promoted m) (scalar_by x fitted.scalar fitted.is)
-
-  pub absolute_kept : y.form ≡ a_value (absolute_in (promoted m (scalar_in x)) (value_in x)) → IsKept m x y
-  absolute_kept f =
-      kept_by (absolute_in s (value_in x)) (f ∙ ap (λ r. a_value (absolute_in r (value_in x))) same_type) refl
-      (λ here at q numbers. absolute_keeps here at fitted.scalar s q (value_in x) pure typed_so numbers)
-
-  pub negative_kept : y.form ≡ a_value (negative_in (promoted m (scalar_in x)) (value_in x)) → IsKept m x y
-  negative_kept f =
-      kept_by (negative_in s (value_in x)) (f ∙ ap (λ r. a_value (negative_in r (value_in x))) same_type) refl
-      (λ here at q numbers. negative_keeps here at fitted.scalar s q (value_in x) pure typed_so numbers)
+-- an integer that fits, and a value of its promoted type
+fitted_kept : (m : DataModel) (t : Scalar) (x y : Typed) → scalar_of (own_type x) ≡ Some t → IsFitted m t x → HasType (promoted m t) y → IsKept m x y
+fitted_kept m t x y h fitted g =
+    record {
+      integers = both_true (is_integer (own_type x)) (is_integer (own_type y)) (scalar_integer (own_type x) t h) (ap is_integer (type_has (promoted m t) y g));
+      type = promoted m t;
+      usual = ap (λ s. usual_of m s (scalar_in y)) (scalar_by x t h) ∙ ap (usual_of m t) (scalar_has (promoted m t) y g) ∙ promoted_usual m t;
+      left = λ here at e. subst (λ model. Keeps here (promoted model t) (value_in x) at) e (fitted_keeps here at t (value_in x) (ap scalar_of fitted.own ∙ h) (subst (λ model. Numbers model t (value_in x)) (sym e) fitted.numbers));
+      right = λ here at e. subst (λ w. Keeps here (promoted m t) w at) (sym (value_by y g.0 g.1)) (itself_keeps here (promoted m t) g.0 at g.2);
+    }
 
 absolute_is_pure : (it : c.Expression) → is_pure it ≡ true → is_pure (absolute it) ≡ true
 absolute_is_pure it pure = both_true (is_pure it && true && is_pure it) (is_pure it) (both_true (is_pure it && true) (is_pure it) (both_true (is_pure it) true pure refl) pure) pure
 
-module _ (exact : DifferencesAreExact) (notes : LabelsNoteTheirPredicates) (known : Known) (it : c.Expression) (fits : is_fitting it ≡ true) (pure : is_pure it ≡ true) (n : ℕ) (finds : FindsFacts (numbered known n) it) where
-  abbrev m : DataModel
-  m = known.model
+module _ (exact : DifferencesAreExact) (notes : LabelsNoteTheirPredicates) (known : Known) (it : c.Expression) (pure : is_pure it ≡ true) where
+  module _ (fits : is_fitting it ≡ true) (stays : StaysInteger known it) where
+    typed_apart : (other : c.Expression) → is_pure other ≡ true → ((k : Known) (z : Typed) (end : Known) → IsLater known k → expression other as_value k ≡ Goes z end → HasType (promoted known.model stays.scalar) z × IsLater known end) → AreToldApart known it other
+    typed_apart other o typed z behind d =
+        told_apart exact notes known it other z behind pure o d (λ x y k j h g.
+        let first = typed_later known stays (later_entered known (later_itself known)) h in
+        fitted_kept known.model stays.scalar x y first.1 (fitting_node known.model it (entered known) fits pure refl h stays.scalar first.1) (typed k y j first.0 g).0)
 
-  -- typed once more it is the same
-  once_more : (x : Typed) (end : Known) → expression it as_value (entered known) ≡ Goes x end → (k : Known) (y : Typed) (j : Known) → Near m (entered known) k → expression it as_value k ≡ Goes y j
-      → (y ≡ x) × Near m (entered known) j
-  once_more x end h k y j b g =
-      let d = typed_alike known n it pure finds k y j b g in (d.0 ∙ sym (typed_alike known n it pure finds (entered known) x end (near_itself (entered known) refl) h).0, d.2)
+    both_apart : AllByRecursion (AreToldApart known it) (absolute it ∷ minus (absolute it) ∷ [])
+    both_apart = (
+      typed_apart (absolute it) (absolute_is_pure it pure) (λ k z end later h. absolute_node known it stays later h),
+      (typed_apart (minus (absolute it)) (absolute_is_pure it pure) (λ k z end later h. negative_node known it stays later h), tt),
+    )
 
-  near_behind : (x : Typed) (end : Known) → expression it as_value (entered known) ≡ Goes x end → Near m (entered known) end
-  near_behind x end h = (once_more x end h (entered known) x end (near_itself (entered known) refl) h).1
+  absolutes_by : (b : Bool) → (b ≡ true → (is_fitting it ≡ true) × StaysInteger known it) → AllByRecursion (AreToldApart known it) (if b then absolute it ∷ minus (absolute it) ∷ [] else [])
+  absolutes_by true f = let them = f refl in both_apart them.0 them.1
+  absolutes_by false f = tt
 
-  value_is_pure : (x : Typed) (end : Known) → expression it as_value (entered known) ≡ Goes x end → is_pure_value (value_in x) ≡ true
-  value_is_pure x end h = value_pure x (typed_once it as_value (entered known) pure refl h).0
+  signed_integer : (m : DataModel) (t : CType) → is_signed_integer m t ≡ true → is_integer t ≡ true
+  signed_integer m t h = by (scalar_of t) refl h
+    where
+      by : (found : Option Scalar) → scalar_of t ≡ found → elim (found) as (λ _. Bool) [ None ↦ false | Some s ↦ is_signed m s ] ≡ true → is_integer t ≡ true
+      by None e h = absurd (false≢true h)
+      by (Some s) e h = scalar_integer t s e
 
-  absolute_apart : AreToldApart known it (absolute it)
-  absolute_apart z behind d =
-      told_apart exact notes known it (absolute it) z behind pure (absolute_is_pure it pure) d (λ x y k j h g.
-      let typed = absolute_node known.model (entered known) it x (once_more x k h) k (near_behind x k h) g in
-      absolute_kept known.model x y (fitting_node known.model it (entered known) fits pure refl h typed.0) (value_is_pure x k h) typed.1)
-
-  negative_apart : AreToldApart known it (minus (absolute it))
-  negative_apart z behind d =
-      told_apart exact notes known it (minus (absolute it)) z behind pure (absolute_is_pure it pure) d (λ x y k j h g.
-      let typed = negative_node known.model (entered known) it x (once_more x k h) k (near_behind x k h) g in
-      negative_kept known.model x y (fitting_node known.model it (entered known) fits pure refl h typed.0) (value_is_pure x k h) typed.1)
-
-absolutes_by : (exact : DifferencesAreExact) (notes : LabelsNoteTheirPredicates) (known : Known) (it : c.Expression) (b : Bool) → (b ≡ true → is_fitting it ≡ true) → is_pure it ≡ true → (n : ℕ) → FindsFacts (numbered known n) it
-    → AllByRecursion (AreToldApart known it) (if b then absolute it ∷ minus (absolute it) ∷ [] else [])
-absolutes_by exact notes known it true f pure n finds = (absolute_apart exact notes known it (f refl) pure n finds, (negative_apart exact notes known it (f refl) pure n finds, tt))
-absolutes_by exact notes known it false f pure n finds = tt
-
-pub of_absolutes : (exact : DifferencesAreExact) (notes : LabelsNoteTheirPredicates) (known : Known) (it : c.Expression) → is_pure it ≡ true → (n : ℕ) → FindsFacts (numbered known n) it → (m : DataModel) (t : CType)
-    → AllByRecursion (AreToldApart known it) (absolute_mutants m t it)
-of_absolutes exact notes known it pure n finds m t = absolutes_by exact notes known it (is_fitting it && is_signed_integer m t) (first_true (is_fitting it) (is_signed_integer m t)) pure n finds
-
-pub absolutes_pure : (m : DataModel) (t : CType) (it : c.Expression) → is_pure it ≡ true → AllByRecursion (λ (other : c.Expression). is_pure other ≡ true) (absolute_mutants m t it)
-absolutes_pure m t it pure = by (is_fitting it && is_signed_integer m t)
-  where
-    by : (b : Bool) → AllByRecursion (λ (other : c.Expression). is_pure other ≡ true) (if b then absolute it ∷ minus (absolute it) ∷ [] else [])
-    by true = (absolute_is_pure it pure, (absolute_is_pure it pure, tt))
-    by false = tt
+  of_absolutes : (m : DataModel) (t : CType) → (is_integer t ≡ true → StaysInteger known it) → AllByRecursion (AreToldApart known it) (absolute_mutants m t it)
+  of_absolutes m t stays =
+      absolutes_by (is_fitting it && is_signed_integer m t) (λ h. (first_true (is_fitting it) (is_signed_integer m t) h, stays (signed_integer m t (second_true (is_fitting it) (is_signed_integer m t) h))))
 
 pub all_told_apart : DifferencesAreExact → LabelsNoteTheirPredicates → MutantsAreToldApart
 all_told_apart exact notes known it pure = (
   of_connectors exact notes known it pure,
   λ t u. of_relations exact notes known t u it pure,
-  λ finds t u takes. of_arithmetic exact notes known known.next t u it pure finds takes,
-  λ finds m t. of_absolutes exact notes known it pure known.next finds m t,
+  λ t u them. of_arithmetic exact notes known t u it pure them,
+  λ m t stays. of_absolutes exact notes known it pure m t stays,
 )

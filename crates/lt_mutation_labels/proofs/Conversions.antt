@@ -42,9 +42,6 @@ pub truth_value : (m : DataModel) (s : Scalar) (b : Bool) → IsValue m s (truth
 truth_value m s true = let h : Bounds m s = bounds_of m s in record { above = omega (arith, ints); below = h.one }
 truth_value m s false = let h : Bounds m s = bounds_of m s in record { above = h.not_above; below = omega (arith, ints) }
 
-pub zero_value : (m : DataModel) (s : Scalar) → IsValue m s (pos 0)
-zero_value m s = truth_value m s false
-
 -- what is converted is a value of the type
 pub converted_value : (m : DataModel) (s : Scalar) (z : ℤ) → IsValue m s (convert_of m s z)
 converted_value m S.Bool z = by (int_eq z (pos 0))
@@ -125,7 +122,7 @@ either_same true a = refl
 either_same false a = refl
 
 -- the common type of a type and itself
-pub common_self : (m : DataModel) (a : Scalar) → common m a a ≡ a
+common_self : (m : DataModel) (a : Scalar) → common m a a ≡ a
 common_self m a = by (is_signed m a) refl
   where
     by : (b : Bool) → is_signed m a ≡ b → common m a a ≡ a
@@ -141,25 +138,6 @@ promoted_usual m t = ap (common m (promoted m t)) (promoted_again m t) ∙ commo
 
 pub usual_self : (m : DataModel) (t : Scalar) → usual_of m t t ≡ promoted m t
 usual_self m t = common_self m (promoted m t)
-
-small_with_int : (m : DataModel) (b : Bool) → common m (small b) S.Int ≡ small b
-small_with_int m true = refl
-small_with_int m false = refl
-
--- and with `int`
-pub usual_int : (m : DataModel) (t : Scalar) → usual_of m t S.Int ≡ promoted m t
-usual_int m S.Bool = small_with_int m (represents m S.Int S.Bool)
-usual_int m S.Char = small_with_int m (represents m S.Int S.Char)
-usual_int m S.SChar = small_with_int m (represents m S.Int S.SChar)
-usual_int m S.UChar = small_with_int m (represents m S.Int S.UChar)
-usual_int m S.Short = small_with_int m (represents m S.Int S.Short)
-usual_int m S.UShort = small_with_int m (represents m S.Int S.UShort)
-usual_int m S.Int = refl
-usual_int m S.UInt = refl
-usual_int m S.Long = refl
-usual_int m S.ULong = refl
-usual_int m S.LLong = refl
-usual_int m S.ULLong = refl
 
 -- ---- a value of a type is one of its promoted type
 

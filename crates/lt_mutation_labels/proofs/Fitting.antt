@@ -13,7 +13,7 @@ use Rattle.lt_model.specs.Conversions.{promoted, usual_of}
 use Rattle.lt_tree.specs.declared.expression.UnaryOp.TheVariants as unary
 use Rattle.lt_tree.specs.Tree as c
 use Rattle.lt_tree.specs.Purity.{is_pure}
-use Rattle.lt_tree.specs.Typing.Types.{CType, Num, Array, Qualified, scalar_of, target_of, is_integer, is_pointer, is_struct, is_array, unqualified}
+use Rattle.lt_tree.specs.Typing.Types.{CType, Num, Array, scalar_of, target_of, is_pointer, is_struct, is_array, unqualified}
 use Rattle.lt_tree.specs.Typing.Extents.{Placed, is_complete}
 use Rattle.lt_tree.specs.Typing.TypedTree as e
 use Rattle.lt_tree.specs.Typing.TypedTree.{Value, Place, type_of, type_at}
@@ -29,11 +29,11 @@ use Rattle.lt_ir.specs.Evaluation.{valued}
 use Rattle.lt_model.specs.declared.cell.Content.TheVariants as content
 use Rattle.lt_meaning.specs.Expressions.{Around, wanted, tracking, eval, place_of}
 use Rattle.lt_ir.specs.Running.{At}
+use Rattle.lt_mark_laws.specs.Mutants.{entered}
 use Rattle.lt_objectives.specs.Mutants.{is_fitting}
-use Rattle.lt_mutation_labels.specs.Laws.{entered}
 use Rattle.lt_mutation_labels.proofs.Steps.{part, ended}
 use Rattle.lt_mutation_labels.proofs.Pure.{first_true, second_true}
-use Rattle.lt_mutation_labels.proofs.Again.{typed_once}
+use Rattle.lt_mutation_labels.proofs.PureTyping.{typed_pure}
 use Rattle.lt_mutation_labels.proofs.Numbers.{Sure, HasNumber, then_sure, any, given, read_has}
 use Rattle.lt_mutation_labels.proofs.Inequalities.{own_by, value_by, IsOfType}
 use Rattle.lt_mutation_labels.proofs.Others.{IsArithmetic, on_integers_typed, binary_typed}
@@ -43,36 +43,18 @@ abbrev pub Numbers : DataModel → Scalar → Value → Type 0
 Numbers m t v =
     ((type_of v ≡ Num t) × (promoted m t ≡ t)) ⊎ ((here : Around) (at : At) → Sure (HasNumber (IsValue here.program.model t)) (eval (tracking false here) wanted v) at)
 
-pub record IsFitted (m : DataModel) (x : Typed) : Type 0 where
+pub record IsFitted (m : DataModel) (t : Scalar) (x : Typed) : Type 0 where
   pub own : type_of (value_in x) ≡ own_type x
-  pub scalar : Scalar
-  pub is : scalar_of (own_type x) ≡ Some scalar
-  pub numbers : Numbers m scalar (value_in x)
+  pub numbers : Numbers m t (value_in x)
 
 abbrev pub Fits : DataModel → Typed → Type 0
-Fits m x = is_integer (own_type x) ≡ true → IsFitted m x
-
-integer_scalar : (t : CType) → is_integer t ≡ true → (s : Scalar) × (scalar_of t ≡ Some s)
-integer_scalar (Num s) h = (s, refl)
-integer_scalar (Qualified q t) h = integer_scalar t h
-integer_scalar _ h = absurd (false≢true h)
-
-pub scalar_integer : (t : CType) (s : Scalar) → scalar_of t ≡ Some s → is_integer t ≡ true
-scalar_integer (Num r) s h = refl
-scalar_integer (Qualified q t) s h = scalar_integer t s h
-scalar_integer _ s h = absurd cc
+Fits m x = (t : Scalar) → scalar_of (own_type x) ≡ Some t → IsFitted m t x
 
 fits_by : (m : DataModel) (x : Typed) (v : Value) → x.form ≡ a_value v → ((t : Scalar) → scalar_of (type_of v) ≡ Some t → Numbers m t v) → Fits m x
-fits_by m x v h f i =
+fits_by m x v h f t k =
     let own = own_by x v (type_of v) h refl in
     let value = value_by x v h in
-    let it = integer_scalar (own_type x) i in
-    record {
-      own = ap type_of value ∙ sym own;
-      scalar = it.0;
-      is = it.1;
-      numbers = subst (Numbers m it.0) (sym value) (f it.0 (ap scalar_of (sym own) ∙ it.1));
-    }
+    record { own = ap type_of value ∙ sym own; numbers = subst (Numbers m t) (sym value) (f t (ap scalar_of (sym own) ∙ k)) }
 
 -- a value of a promoted type
 promoted_fits : (m : DataModel) (x : Typed) (v : Value) (s : Scalar) → x.form ≡ a_value v → type_of v ≡ Num s → promoted m s ≡ s → Fits m x
@@ -219,7 +201,7 @@ fitting_node m (c.Unary unary.Dereference operand) k h p g f =
     subst (Fits m) (ended k.next as_value (judge_dereference one.0 one.1) one.1 one.3).0 (dereference_fits m one.0 one.1)
 fitting_node m (c.Binary op left right) k h p g f =
     let it = binary_typed op left right k f in
-    let first = typed_once left as_value (entered k) (first_true (is_pure left) (is_pure right) p) g it.left_typed in
-    let second = typed_once right as_value it.between (second_true (is_pure left) (is_pure right) p) first.1 it.right_typed in
+    let first = typed_pure left as_value (entered k) (first_true (is_pure left) (is_pure right) p) g it.left_typed in
+    let second = typed_pure right as_value it.between (second_true (is_pure left) (is_pure right) p) first.1 it.right_typed in
     subst (Fits m) it.value (binary_fits m op h it.behind it.x it.y second.1)
 fitting_node m _ k h p g f = absurd (false≢true h)

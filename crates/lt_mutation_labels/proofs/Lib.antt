@@ -1,14 +1,10 @@
 mod Steps
 mod Pure
-mod Again
+mod PureTyping
 mod Conversions
 mod Numbers
-mod Still
-mod Needs
+mod Later
 mod Inequalities
-mod Growing
 mod Others
 mod Fitting
-mod AbsoluteNumbers
 mod Absolutes
-mod Predicates

@@ -1,5 +1,5 @@
 -- The numbers that expressions have: that of an operator is a value of its type, and a conversion to a type that has the number keeps it.
-use Rattle.std.proofs.Common.{◌≡◌, ℤ, pos, Option, Some, None, Bool, true, false, refl, sym, ap, ◌∙◌, subst}
+use Rattle.std.proofs.Common.{◌≡◌, ℤ, Option, Some, None, Bool, true, false, refl, sym, ap, ◌∙◌, subst}
 use Rattle.std.specs.Prelude.{not, ◌&&◌, ◌||◌, if◌then◌else◌, Result, Ok, Err, IfOk}
 use Rattle.std.specs.Ordering.{int_eq}
 use Rattle.lt_model.specs.declared.cell.Content.{Content}
@@ -26,8 +26,7 @@ use Rattle.lt_ir.specs.Running.{At, Answer, Step, ◌>>=◌, gives, defined, abs
 use Rattle.lt_ir.specs.Evaluation.{valued, number_in, truth_in, of_truth, applied, is_right_operand, loaded}
 use Rattle.lt_meaning.specs.Expressions.{Around, wanted, tracking, eval, cell_type, converted_here, decides, place_of}
 use Rattle.lt_mark_laws.specs.Laws.{number_at, differ}
-use Rattle.lt_mutation_labels.specs.Laws.{differ_as_values}
-use Rattle.lt_mutation_labels.proofs.Pure.{both_true}
+use Rattle.lt_mark_laws.specs.Mutants.{of_scalar, differ_as_values}
 use Rattle.lt_mutation_labels.proofs.Conversions.{truth_value, converted_value, same_self}
 
 -- ---- what an answer gives, if it gives something
@@ -61,19 +60,12 @@ any s at = record { sure = any_by (s at) }
 pub given : {A : Type 0} {Q : A → At → Type 0} {at : At} (a : A) → Q a at → Sure Q (gives a) at
 given a h = record { sure = h }
 
-so_by : {A : Type 0} {Q R : A → At → Type 0} (m : Answer A) → Where Q m → ((a : A) (at1 : At) → Q a at1 → R a at1) → Where R m
-so_by (Gives a at1) h k = k a at1 h
-so_by (Ends end at1) h k = tt
-
-pub so : {A : Type 0} {Q R : A → At → Type 0} {s : Step A} {at : At} → Sure Q s at → ((a : A) (at1 : At) → Q a at1 → R a at1) → Sure R s at
-so {s = s} {at = at} h k = record { sure = so_by (s at) h.sure k }
-
-pub if_sure : {A : Type 0} {Q : A → At → Type 0} {at : At} (b : Bool) (s r : Step A) → (b ≡ true → Sure Q s at) → (b ≡ false → Sure Q r at) → Sure Q (if b then s else r) at
+if_sure : {A : Type 0} {Q : A → At → Type 0} {at : At} (b : Bool) (s r : Step A) → (b ≡ true → Sure Q s at) → (b ≡ false → Sure Q r at) → Sure Q (if b then s else r) at
 if_sure true s r h k = h refl
 if_sure false s r h k = k refl
 
 -- a run that is over
-pub over_here : {A : Type 0} {Q : A → At → Type 0} {at : At} → Sure Q (absurdity {A = A}) at
+over_here : {A : Type 0} {Q : A → At → Type 0} {at : At} → Sure Q (absurdity {A = A}) at
 over_here = record { sure = tt }
 
 -- ---- numbers
@@ -108,15 +100,15 @@ numbers_of P (Ends end at1) h = tt
 pub of_value : (P : ℤ → Type 0) (here : Around) (v : Value) (at : At) → Sure (HasNumber P) (eval (tracking false here) wanted v) at → AllIs P (number_at here v at)
 of_value P here v at h = numbers_of P (eval (tracking false here) wanted v at) h.sure
 
-pub value_from : (m : DataModel) (s : Scalar) (z : ℤ) → is_value m s z ≡ true → IsValue m s z
+value_from : (m : DataModel) (s : Scalar) (z : ℤ) → is_value m s z ≡ true → IsValue m s z
 value_from m s z h = let it = between_from_test _ _ _ h in record { above = it.0; below = it.1 }
 
-pub value_is : (m : DataModel) (s : Scalar) (z : ℤ) → IsValue m s z → is_value m s z ≡ true
+value_is : (m : DataModel) (s : Scalar) (z : ℤ) → IsValue m s z → is_value m s z ≡ true
 value_is m s z v = test_from_between _ _ z v.above v.below
 
 -- ---- operators
 
-pub first_of : (a b : Bool) → (a && b) ≡ true → a ≡ true
+first_of : (a b : Bool) → (a && b) ≡ true → a ≡ true
 first_of true b h = refl
 first_of false b h = h
 
@@ -125,7 +117,7 @@ defined_number P at (Ok z) h = record { sure = h }
 defined_number P at (Err kind) h = record { sure = tt }
 
 -- what an operator gives is a value of its type
-pub applied_number : (m : DataModel) (op : Op) (s : Scalar) (c d : Content) (at : At) → Sure (λ (z : ℤ) (at1 : At). IsValue m s z) (applied m op s c d) at
+applied_number : (m : DataModel) (op : Op) (s : Scalar) (c d : Content) (at : At) → Sure (λ (z : ℤ) (at1 : At). IsValue m s z) (applied m op s c d) at
 applied_number m op s c d at =
     then_sure (number_in c) _ (any (number_in c) at) (λ a at1 _. then_sure (number_in d) _ (any (number_in d) at1) (λ b at2 _.
     if_sure (is_value m s a && is_right_operand m op s b) _ _
@@ -150,6 +142,11 @@ related_number m O.Shr s r a b h = absurd cc
 related_number m O.And s r a b h = absurd cc
 related_number m O.Or s r a b h = absurd cc
 related_number m O.Xor s r a b h = absurd cc
+
+pub scalar_integer : (t : CType) (s : Scalar) → scalar_of t ≡ Some s → is_integer t ≡ true
+scalar_integer (Num r) s h = refl
+scalar_integer (Qualified q t) s h = scalar_integer t s h
+scalar_integer _ s h = absurd cc
 
 -- what is of the type already isn't converted
 pub converted_itself : (s : Scalar) (v : Value) → type_of v ≡ Num s → converted_to (Num s) v ≡ v
@@ -186,11 +183,6 @@ module _ (here : Around) where
       then_sure (eval F wanted v) _ (any (eval F wanted v) at) (λ x at1 _. then_sure (truth_in x.value) _ (any (truth_in x.value) at1) (λ b at2 _.
       if_sure (decides op b) _ _ (λ t. given (valued (of_truth b) x.footprint) (truth_value m r b))
       (λ t. then_sure (eval F wanted w) _ (any (eval F wanted w) at2) (λ y at3 _. then_sure (truth_in y.value) _ (any (truth_in y.value) at3) (λ d at4 _. given (valued (of_truth d) x.footprint) (truth_value m r d))))))
-
-  pub minus_has : (s : Scalar) (v : Value) (at : At) → Sure (HasNumber (IsValue m s)) (eval F wanted (e.Minus (Num s) v)) at
-  minus_has s v at =
-      then_sure (eval F wanted v) _ (any (eval F wanted v) at) (λ x at1 _.
-      then_sure (applied m O.Sub s (content.Number (pos 0)) x.value) _ (applied_number m O.Sub s (content.Number (pos 0)) x.value at1) (λ z at2 h. given (valued (content.Number z) x.footprint) h))
 
   -- ---- what is read
 
@@ -248,10 +240,24 @@ module _ (here : Around) where
       by false true r = cast_by s P k (eval F wanted v at) h
       by false false r = absurd cc
 
-  -- ---- two numbers that differ
+  -- ---- values
 
-  pub exact_by : (s : Scalar) (n k : Option ℤ) → ((a b : ℤ) → n ≡ Some a → k ≡ Some b → IsValue m s a × IsValue m s b) → differ m s n k ≡ differ_as_values n k
-  exact_by s (Some a) (Some b) h = let them = h a b refl refl in ap (λ t. t && not (int_eq a b)) (both_true (is_value m s a) (is_value m s b) (value_is m s a them.0) (value_is m s b them.1))
-  exact_by s (Some a) None h = refl
-  exact_by s None (Some b) h = refl
-  exact_by s None None h = refl
+  -- a number of a type that another type has too is a value of either
+  pub same_number : (s t : Scalar) (n : Option ℤ) → ((z : ℤ) → IsValue m s z → IsValue m t z) → AllIs (IsValue m s) n → of_scalar m (Some t) n ≡ of_scalar m (Some s) n
+  same_number s t None k h = refl
+  same_number s t (Some z) k h = ap (λ b. if b then Some z else None) (value_is m t z (k z h) ∙ sym (value_is m s z h))
+
+  -- two numbers differ in a type where they are values of it that do
+  pub differ_so : (s : Scalar) (n k : Option ℤ) → differ m s n k ≡ differ_as_values (of_scalar m (Some s) n) (of_scalar m (Some s) k)
+  differ_so s (Some a) (Some b) = by (is_value m s a) (is_value m s b)
+    where
+      by : (p q : Bool) → ((p && q) && not (int_eq a b)) ≡ differ_as_values (if p then Some a else None) (if q then Some b else None)
+      by true true = refl
+      by true false = refl
+      by false q = refl
+  differ_so s (Some a) None = by (is_value m s a)
+    where
+      by : (p : Bool) → false ≡ differ_as_values (if p then Some a else None) None
+      by true = refl
+      by false = refl
+  differ_so s None k = refl

@@ -1,11 +1,10 @@
 -- Mutants with other operators of the same kind are told apart from their expressions.
-use Rattle.std.proofs.Common.{◌≡◌, ℕ, ◌+◌, List, [], ◌∷◌, Bool, true, false, refl, sym, ap, ◌∙◌, subst}
+use Rattle.std.proofs.Common.{◌≡◌, List, [], ◌∷◌, Bool, true, false, refl, sym, ap, ◌∙◌, subst}
 use Rattle.std.proofs.lemmas.Bool.{false≢true}
-use Rattle.std.specs.Prelude.{◌&&◌, ◌||◌, not, if◌then◌else◌, map, filter}
+use Rattle.std.specs.Prelude.{◌&&◌, ◌||◌, not, if◌then◌else◌, map, filter, unwrap_or}
 use Rattle.std.specs.List.{AllByRecursion}
 use Rattle.lt_model.specs.declared.operator.Op.{Op}
 use Rattle.lt_model.specs.declared.operator.Op.TheVariants as O
-use Rattle.lt_model.specs.declared.scalar.DataModel.{DataModel}
 use Rattle.lt_model.specs.declared.scalar.Scalar.TheVariants as S
 use Rattle.lt_model.specs.Conversions.{usual_of}
 use Rattle.lt_tree.specs.declared.expression.LogicalOp.{LogicalOp}
@@ -20,12 +19,13 @@ use Rattle.lt_tree.specs.Typing.Expressions.{Typed, as_value, as_truth, own_type
 use Rattle.lt_tree.specs.Typing.BinaryOperations.{judge_binary, judge_logical, on_integers, on_pointers, operation_type, right_type, beside}
 use Rattle.lt_tree.specs.Typing.ExpressionTyping.{expression}
 use Rattle.lt_mark_laws.specs.Laws.{DifferencesAreExact, LabelsNoteTheirPredicates}
+use Rattle.lt_mark_laws.specs.Mutants.{entered, AreToldApart}
 use Rattle.lt_objectives.specs.Mutants.{same_op, is_one_of, arithmetic, relations, pointer_relations, with_others, other_connector, connector_mutants, arithmetic_mutants, relational_mutants}
-use Rattle.lt_mutation_labels.specs.Laws.{entered, AreToldApart, FindsFacts, TakesIntegers}
+use Rattle.lt_mutation_labels.specs.Laws.{IsLater, StaysInteger, OperandsStayIntegers}
 use Rattle.lt_mutation_labels.proofs.Steps.{part, ended}
-use Rattle.lt_mutation_labels.proofs.Pure.{IsPure, first_true, second_true}
-use Rattle.lt_mutation_labels.proofs.Again.{Near, near_itself, near_numbered, typed_again}
-use Rattle.lt_mutation_labels.proofs.Numbers.{arithmetic_has, relation_has, compared_has, connected_has}
+use Rattle.lt_mutation_labels.proofs.Pure.{both_true}
+use Rattle.lt_mutation_labels.proofs.Later.{later_itself, later_entered, later_ended, later_model, typed_later}
+use Rattle.lt_mutation_labels.proofs.Numbers.{scalar_integer, arithmetic_has, relation_has, compared_has, connected_has}
 use Rattle.lt_mutation_labels.proofs.Inequalities.{IsOfType, of_one_type, told_apart}
 
 -- ---- what operators make
@@ -105,7 +105,7 @@ on_integers_typed O.Ge h k x y = absurd (false≢true h)
 on_integers_typed O.Eq h k x y = absurd (false≢true h)
 on_integers_typed O.Ne h k x y = absurd (false≢true h)
 
-pub arithmetic_typed : (op : Op) → IsArithmetic op → (k : Known) (x y : Typed) → are_integers (own_type x) (own_type y) ≡ true → IsOfType (usual_of k.model (scalar_in x) (scalar_in y)) (used as_value (judge_binary op x y k).typed)
+arithmetic_typed : (op : Op) → IsArithmetic op → (k : Known) (x y : Typed) → are_integers (own_type x) (own_type y) ≡ true → IsOfType (usual_of k.model (scalar_in x) (scalar_in y)) (used as_value (judge_binary op x y k).typed)
 unfolding judge_binary
 arithmetic_typed op h k x y i =
     subst (λ b. IsOfType (usual_of k.model (scalar_in x) (scalar_in y)) (used as_value (if b then on_integers k op x y else on_pointers k op x y))) (sym i) (on_integers_typed op h k x y)
@@ -120,6 +120,7 @@ pub record IsTypedBinary (op : Op) (left right : c.Expression) (k : Known) (z : 
   pub behind : Known
   pub left_typed : expression left as_value (entered k) ≡ Goes x between
   pub right_typed : expression right as_value between ≡ Goes y behind
+  pub over : finish k.next as_value (judge_binary op x y behind) behind ≡ Goes z end
   pub value : used as_value (judge_binary op x y behind).typed ≡ z
 
 pub binary_typed : (op : Op) (left right : c.Expression) (k : Known) {z : Typed} {end : Known} → expression (c.Binary op left right) as_value k ≡ Goes z end → IsTypedBinary op left right k z end
@@ -133,6 +134,7 @@ binary_typed op left right k h =
       behind = two.1;
       left_typed = one.2;
       right_typed = two.2;
+      over = two.3;
       value = (ended k.next as_value (judge_binary op one.0 two.0 two.1) two.1 two.3).0;
     }
 
@@ -178,39 +180,18 @@ equality_among O.Gt h = absurd (false≢true h)
 equality_among O.Ge h = absurd (false≢true h)
 equality_among _ h = h
 
-pub near_model : {m : DataModel} {k j : Known} → Near m k j → j.model ≡ m
-near_model b = ap (λ (it : Known). it.model) b.same ∙ b.model
-
--- what is known, with another number for the next node
-abbrev pub numbered : Known → ℕ → Known
-numbered known n = record known { next = n }
-
-pub rebased : {m : DataModel} (known : Known) (n i : ℕ) {j : Known} → Near m (numbered known n) j → Near m (numbered known i) j
-rebased known n i b = record { same = b.same; objects = b.objects; model = b.model }
-
--- An expression that finds nothing but facts, by whatever number, is typed as the same wherever near the same is known, which stays so.
-pub typed_alike : (known : Known) (n : ℕ) (it : c.Expression) → is_pure it ≡ true → (found : FindsFacts (numbered known n) it) → (k : Known) (y : Typed) (j : Known) → Near known.model (entered known) k
-    → expression it as_value k ≡ Goes y j → (y ≡ found.0) × IsPure found.0 × Near known.model (entered known) j
-typed_alike known n it p found k y j b g =
-    let d = typed_again it as_value p (rebased known (known.next + 1) n b) found.3 g in (d.0, d.1, record { same = d.2.same; objects = d.2.objects; model = d.2.model })
-
--- an operator on integers, typed as these
-pub arithmetic_node : (op : Op) → IsArithmetic op → {left right : c.Expression} {k : Known} {z : Typed} {end : Known} (it : IsTypedBinary op left right k z end) (m : DataModel) (x y : Typed)
-    → it.behind.model ≡ m → it.x ≡ x → it.y ≡ y → are_integers (own_type x) (own_type y) ≡ true → IsOfType (usual_of m (scalar_in x) (scalar_in y)) z
-arithmetic_node op h {z = z} it m x y e f g i =
-    let integers : are_integers (own_type it.x) (own_type it.y) ≡ true = ap (λ a. are_integers (own_type a) (own_type it.y)) f ∙ ap (λ b. are_integers (own_type x) (own_type b)) g ∙ i in
-    subst (λ s. IsOfType s z) (ap (λ model. usual_of model (scalar_in it.x) (scalar_in it.y)) e ∙ ap (λ a. usual_of m (scalar_in a) (scalar_in it.y)) f ∙ ap (λ b. usual_of m (scalar_in x) (scalar_in b)) g)
-    (subst (IsOfType (usual_of it.behind.model (scalar_in it.x) (scalar_in it.y))) it.value (arithmetic_typed op h it.behind it.x it.y integers))
-
--- The operands of an operator that is typed where this is known are typed as the same where near the same is known, also with another operator.
-operands_again : (op other : Op) (left right : c.Expression) (known : Known) {z : Typed} {end : Known} (found : IsTypedBinary op left right known z end) (k : Known) {y : Typed} {j : Known} → is_pure left && is_pure right ≡ true
-    → Near known.model (entered known) k → expression (c.Binary other left right) as_value k ≡ Goes y j
-    → (it : IsTypedBinary other left right k y j) × (it.x ≡ found.x) × (it.y ≡ found.y) × (it.behind.model ≡ known.model)
-operands_again op other left right known found k p b h =
-    let it = binary_typed other left right k h in
-    let lefts = typed_again left as_value (first_true (is_pure left) (is_pure right) p) (near_numbered (k.next + 1) k.facts b) found.left_typed it.left_typed in
-    let rights = typed_again right as_value (second_true (is_pure left) (is_pure right) p) lefts.2 found.right_typed it.right_typed in
-    (it, lefts.0, rights.0, near_model rights.2)
+-- an operator on operands that stay integers, wherever it is typed later
+arithmetic_node : (op : Op) → IsArithmetic op → (known : Known) {left right : c.Expression} (lefts : StaysInteger known left) (rights : StaysInteger known right) {k : Known} {z : Typed} {end : Known} → IsLater known k
+    → expression (c.Binary op left right) as_value k ≡ Goes z end → IsOfType (usual_of known.model lefts.scalar rights.scalar) z × IsLater known end
+arithmetic_node op h known {left} {right} lefts rights {k} {z} later d =
+    let it = binary_typed op left right k d in
+    let first = typed_later known lefts (later_entered known later) it.left_typed in
+    let second = typed_later known rights first.0 it.right_typed in
+    let integers = both_true (is_integer (own_type it.x)) (is_integer (own_type it.y)) (scalar_integer (own_type it.x) lefts.scalar first.1) (scalar_integer (own_type it.y) rights.scalar second.1) in (
+      subst (λ s. IsOfType s z) (ap (λ model. usual_of model (scalar_in it.x) (scalar_in it.y)) (later_model known second.0) ∙ ap (λ r. usual_of known.model (unwrap_or r S.Int) (scalar_in it.y)) first.1 ∙ ap (λ r. usual_of known.model lefts.scalar (unwrap_or r S.Int)) second.1)
+          (subst (IsOfType (usual_of it.behind.model (scalar_in it.x) (scalar_in it.y))) it.value (arithmetic_typed op h it.behind it.x it.y integers)),
+      later_ended known k.next as_value (judge_binary op it.x it.y it.behind) second.0 it.over,
+    )
 
 module _ (exact : DifferencesAreExact) (notes : LabelsNoteTheirPredicates) (known : Known) where
   -- ---- relations and connectors
@@ -242,38 +223,19 @@ module _ (exact : DifferencesAreExact) (notes : LabelsNoteTheirPredicates) (know
 
   -- ---- arithmetic
 
-  module _ (n : ℕ) where
-    abbrev start : Known
-    start = numbered known n
+  arithmetic_apart : (op other : Op) (left right : c.Expression) → is_pure left && is_pure right ≡ true → StaysInteger known left × StaysInteger known right → IsArithmetic op → IsArithmetic other
+      → AreToldApart known (c.Binary op left right) (c.Binary other left right)
+  arithmetic_apart op other left right p them h g = λ z behind d.
+      told_apart exact notes known (c.Binary op left right) (c.Binary other left right) z behind p p d (λ x y k j a b.
+      let first = arithmetic_node op h known them.0 them.1 (later_entered known (later_itself known)) a in
+      of_one_type known.model (usual_of known.model them.0.scalar them.1.scalar) x y first.0 (arithmetic_node other g known them.0 them.1 first.1 b).0)
 
-    arithmetic_apart : (op other : Op) (left right : c.Expression) → is_pure left && is_pure right ≡ true → FindsFacts start (c.Binary op left right) → TakesIntegers start (c.Binary op left right) → IsArithmetic op → IsArithmetic other
-        → AreToldApart known (c.Binary op left right) (c.Binary other left right)
-    arithmetic_apart op other left right p finds takes h g = λ z behind d.
-        told_apart exact notes known (c.Binary op left right) (c.Binary other left right) z behind p p d (λ x y k j a b.
-        let found = binary_typed op left right start finds.3 in
-        let between = (typed_alike known n (c.Binary op left right) p finds (entered known) x k (near_itself (entered known) refl) a).2 in
-        let first = operands_again op op left right start found (entered known) p (near_numbered (known.next + 1) known.facts (near_itself (entered start) refl)) a in
-        let second = operands_again op other left right start found k p (rebased known (known.next + 1) (n + 1) between) b in
-        let integers = takes found.x found.y found.between found.behind found.left_typed found.right_typed in
-        of_one_type known.model (usual_of known.model (scalar_in found.x) (scalar_in found.y)) x y
-        (arithmetic_node op h first.0 known.model found.x found.y first.3 first.1 first.2 integers)
-        (arithmetic_node other g second.0 known.model found.x found.y second.3 second.1 second.2 integers))
+  arithmetic_by : (b : Bool) (op : Op) (left right : c.Expression) → is_pure left && is_pure right ≡ true → (b ≡ true → StaysInteger known left × StaysInteger known right)
+      → AllByRecursion (AreToldApart known (c.Binary op left right)) (if b then with_others arithmetic op left right else [])
+  arithmetic_by true op left right p them =
+      others IsArithmetic (AreToldApart known (c.Binary op left right)) arithmetic op left right (refl, (refl, (refl, (refl, (refl, tt))))) (λ e other h. arithmetic_apart op other left right p (them refl) e h)
+  arithmetic_by false op left right p them = tt
 
-    arithmetic_by : (b : Bool) (op : Op) (left right : c.Expression) → is_pure left && is_pure right ≡ true → FindsFacts start (c.Binary op left right) → (b ≡ true → TakesIntegers start (c.Binary op left right))
-        → AllByRecursion (AreToldApart known (c.Binary op left right)) (if b then with_others arithmetic op left right else [])
-    arithmetic_by true op left right p finds takes =
-        others IsArithmetic (AreToldApart known (c.Binary op left right)) arithmetic op left right (refl, (refl, (refl, (refl, (refl, tt))))) (λ e other h. arithmetic_apart op other left right p finds (takes refl) e h)
-    arithmetic_by false op left right p finds takes = tt
-
-    pub of_arithmetic : (t u : CType) (it : c.Expression) → is_pure it ≡ true → FindsFacts start it → (is_integer t && is_integer u ≡ true → TakesIntegers start it) → AllByRecursion (AreToldApart known it) (arithmetic_mutants t u it)
-    of_arithmetic t u (c.Binary op left right) p finds takes = arithmetic_by (is_integer t && is_integer u) op left right p finds takes
-    of_arithmetic t u _ p finds takes = tt
-
--- these mutants are pure
-pure_by : (b : Bool) (op : Op) (left right : c.Expression) → is_pure left && is_pure right ≡ true → AllByRecursion (λ (other : c.Expression). is_pure other ≡ true) (if b then with_others arithmetic op left right else [])
-pure_by true op left right p = others IsArithmetic (λ (other : c.Expression). is_pure other ≡ true) arithmetic op left right (refl, (refl, (refl, (refl, (refl, tt))))) (λ e other h. p)
-pure_by false op left right p = tt
-
-pub arithmetic_pure : (t u : CType) (it : c.Expression) → is_pure it ≡ true → AllByRecursion (λ (other : c.Expression). is_pure other ≡ true) (arithmetic_mutants t u it)
-arithmetic_pure t u (c.Binary op left right) p = pure_by (is_integer t && is_integer u) op left right p
-arithmetic_pure t u _ p = tt
+  pub of_arithmetic : (t u : CType) (it : c.Expression) → is_pure it ≡ true → (is_integer t && is_integer u ≡ true → OperandsStayIntegers known it) → AllByRecursion (AreToldApart known it) (arithmetic_mutants t u it)
+  of_arithmetic t u (c.Binary op left right) p them = arithmetic_by (is_integer t && is_integer u) op left right p them
+  of_arithmetic t u _ p them = tt

@@ -1,6 +1,6 @@
 //! Laws of the definitions; the functions do nothing.
 
-ghost use Rattle.lt_mutation_labels.specs.Laws.{MutantsAreToldApart, PredicatesTellMutantsApart};
+ghost use Rattle.lt_mutation_labels.specs.Laws.{MutantsAreToldApart};
 
 use lt_mark_laws::{differences_are_exact, labels_note_their_predicates};
 
@@ -8,14 +8,6 @@ use lt_mark_laws::{differences_are_exact, labels_note_their_predicates};
 /// the values differ.
 pub fn mutants_are_told_apart()
     ensures { MutantsAreToldApart }
-{
-    differences_are_exact();
-    labels_note_their_predicates();
-}
-
-/// So it is of all mutants where typing finds nothing but facts in the predicate that they differ.
-pub fn predicates_tell_mutants_apart()
-    ensures { PredicatesTellMutantsApart }
 {
     differences_are_exact();
     labels_note_their_predicates();

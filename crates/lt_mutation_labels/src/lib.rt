@@ -3,4 +3,4 @@
 
 mod laws;
 
-pub use laws::{mutants_are_told_apart, predicates_tell_mutants_apart};
+pub use laws::mutants_are_told_apart;

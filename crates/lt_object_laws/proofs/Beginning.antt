@@ -1,5 +1,5 @@
 -- How objects that are there from the start begin beside further ones.
-use Rattle.std.proofs.Common.{◌≡◌, ◌≤◌, ◌<◌, ℕ, suc, List, [], ◌∷◌, ◌++◌, map, length, Option, Some, None, Bool, true, false, refl, sym, ap, ◌∙◌, subst, arith, eq-eqb, le-leb, ◌⊎◌, inl, inr, eq-or-lt_of_le}
+use Rattle.std.proofs.Common.{◌≡◌, ◌≤◌, ◌<◌, ℕ, suc, List, [], ◌∷◌, ◌++◌, map, length, Option, Some, None, Bool, true, false, refl, sym, ap, ◌∙◌, subst, arith, eq-eqb, le-leb, leb-true, ◌⊎◌, inl, inr, eq-or-lt_of_le}
 use Rattle.std.proofs.lemmas.List.{length-map}
 use Rattle.std.proofs.lemmas.Bool.{false≢true}
 use Rattle.std.specs.Prelude.{◌+◌, nat_eq, nat_le, if◌then◌else◌, Result, Ok, Err}
@@ -22,13 +22,13 @@ use Rattle.lt_ir.specs.Evaluation.{written, is_content_of, one_cell}
 use Rattle.lt_ir.specs.Starting.{put, fill, start_static, start_statics}
 use Rattle.lt_object_laws.specs.Renamed.{renumbered}
 use Rattle.lt_object_laws.specs.Beside.{content_with, HasFurtherBlocks}
-use Rattle.lt_object_laws.specs.Further.{cells_in, further_cells_in}
+use Rattle.lt_object_laws.specs.Further.{further_cells_in}
 use Rattle.lt_object_laws.proofs.Numbers.{flag_at, none_of_the_others, no_further_one}
 use Rattle.lt_object_laws.proofs.Memory as mem
 use Rattle.lt_object_laws.proofs.Memory.{Changes}
 use Rattle.lt_object_laws.proofs.Alike.{Other, names_in, IsFurtherBlock, HasFurtherBounds, a_bound, a_further_bound, beside}
-use Rattle.lt_object_laws.proofs.Machine.{content_type_in, room_without, no_more}
-use Rattle.lt_object_laws.proofs.Room.{Fits, static_fits}
+use Rattle.lt_object_laws.proofs.Machine.{content_type_in, room_without}
+use Rattle.lt_object_laws.proofs.Room.{Leaves, static_leaves, HasRoomBeside, room_behind, room_now, room_for_one}
 use Rattle.lt_object_laws.proofs.Filling.{kind, AllMet, all_met, AreSuited, living_block, fill_last, new_kinds}
 
 -- Objects that are there from the start, with further ones among the others: what those hold is suited to their cells.
@@ -39,7 +39,27 @@ pub data StaticsWith (r : ℕ → ℕ) (model : DataModel) : List Bool → List 
   a_further_static : {further : List Bool} {its others : List Static} (it : Static) → it.block.name ≡ [] → AreSuited model it.block.shape.cells it.cells
       → StaticsWith r model further its others → StaticsWith r model (true ∷ further) its (it ∷ others)
 
-module _ (o : Other) (model : DataModel) where
+-- ---- room
+
+-- where what fits does so beside further cells, it fits beside these just where it fits
+same_room : (alive cells n most : ℕ) → (alive + n ≤ most → (alive + n) + cells ≤ most) → nat_le ((alive + cells) + n) most ≡ nat_le (alive + n) most
+same_room alive cells n most h = by (nat_le (alive + n) most) refl (nat_le ((alive + cells) + n) most) refl
+  where
+    by : (b : Bool) → nat_le (alive + n) most ≡ b → (c : Bool) → nat_le ((alive + cells) + n) most ≡ c → c ≡ b
+    by true e true d = refl
+    by false e false d = refl
+    by true e false d =
+        let g = h (leb-true (alive + n) most e) in
+        absurd (false≢true (sym d ∙ le-leb ((alive + cells) + n) most (omega (arith, g))))
+    by false e true d = absurd (false≢true (sym e ∙ room_without alive cells n most d))
+
+room_for_fewer : (alive cells more most : ℕ) → alive + (cells + more) ≤ most → alive + cells ≤ most
+room_for_fewer alive cells more most h = omega (arith, h)
+
+room_for_further : (alive cells n more most : ℕ) → alive + (cells + (n + more)) ≤ most → (alive + cells) + n ≤ most
+room_for_further alive cells n more most h = omega (arith, h)
+
+module _ (o : Other) (model : DataModel) (Room : Type 0) where
   -- the first so many of the further objects are in scope
   abbrev pub AreSoFar : ℕ → List Bound → Type 0
   AreSoFar j scope = (k : ℕ) → k < j → flag_at o.statics k ≡ true → IsFurtherBlock o (block_among scope (StaticObject k))
@@ -50,20 +70,21 @@ module _ (o : Other) (model : DataModel) where
     pub so_far : AreSoFar j scope
     pub blocks : HasFurtherBlocks (names_in o) o.blocks rest cells at.memory memory
 
+  -- both go on, or end in the same way; or there isn't the room that is spoken of
   pub data BeginAlike (rest : List Bool) (cells j : ℕ) : Answer (Unit {0}) → Answer (Unit {0}) → Type 0 where
     both_give : {at : At} {scope : List Bound} {memory : Memory} → StandsSoFar rest cells j at scope memory → BeginAlike rest cells j (Gives tt at) (Gives tt (beside at scope memory))
     both_end : {end : End} {at : At} {scope : List Bound} {memory : Memory} (left : List Bool) (held : ℕ) → HasFurtherBlocks (names_in o) o.blocks left held at.memory memory
         → BeginAlike rest cells j (Ends end at) (Ends end (beside at scope memory))
-    no_room : {m : Answer (Unit {0})} {at : At} → (cells ≡ 0 → ⊥) → BeginAlike rest cells j m (Ends Cells at)
+    no_room : {m : Answer (Unit {0})} {at : At} → (Room → ⊥) → BeginAlike rest cells j m (Ends Cells at)
 
   abbrev then_go : Answer (Unit {0}) → Step (Unit {0}) → Answer (Unit {0})
   then_go m go = elim (m) as (λ _. Answer (Unit {0})) [ Gives x at ↦ go at | Ends end at ↦ Ends end at ]
 
-  then_begin : {rest left : List Bool} {cells held j k : ℕ} (m n : Answer (Unit {0})) (f g : Step (Unit {0})) → BeginAlike rest cells j m n → (held ≡ 0 → cells ≡ 0)
-      → ((at : At) (scope : List Bound) (memory : Memory) → n ≡ Gives tt (beside at scope memory) → StandsSoFar rest cells j at scope memory → BeginAlike left held k (f at) (g (beside at scope memory))) → BeginAlike left held k (then_go m f) (then_go n g)
-  then_begin m n f g (both_give {at} {scope} {memory} h) e go = go at scope memory refl h
-  then_begin m n f g (both_end left held h) e go = both_end left held h
-  then_begin m n f g (no_room some) e go = no_room (λ none. some (e none))
+  then_begin : {rest left : List Bool} {cells held j k : ℕ} (m n : Answer (Unit {0})) (f g : Step (Unit {0})) → BeginAlike rest cells j m n
+      → ((at : At) (scope : List Bound) (memory : Memory) → m ≡ Gives tt at → StandsSoFar rest cells j at scope memory → BeginAlike left held k (f at) (g (beside at scope memory))) → BeginAlike left held k (then_go m f) (then_go n g)
+  then_begin m n f g (both_give {at} {scope} {memory} h) go = go at scope memory refl h
+  then_begin m n f g (both_end left held h) go = both_end left held h
+  then_begin m n f g (no_room lacks) go = no_room lacks
 
   -- ---- one of the others
 
@@ -107,7 +128,7 @@ module _ (o : Other) (model : DataModel) where
   fill_same block [] cs at scope memory h = both_give h
   fill_same block (c ∷ shape) [] at scope memory h = both_give h
   fill_same block (c ∷ shape) (x ∷ cs) at scope memory h =
-      then_begin (put model block c.offset c.ty x at) (put model (names_in o block) c.offset c.ty (content_with (names_in o) x) (beside at scope memory)) _ _ (put_same block c.offset c.ty x at scope memory h) (λ none. none)
+      then_begin (put model block c.offset c.ty x at) (put model (names_in o block) c.offset c.ty (content_with (names_in o) x) (beside at scope memory)) _ _ (put_same block c.offset c.ty x at scope memory h)
       (λ at1 scope1 memory1 given h1. fill_same block shape cs at1 scope1 memory1 h1)
 
   -- one of the others comes into scope
@@ -130,7 +151,7 @@ module _ (o : Other) (model : DataModel) where
   abbrev filled_as : ℕ → Shape → List Content → ℕ → Step (Unit {0})
   filled_as i shape cs n = fill model n shape.cells cs >> bound_to (StaticObject i) n
 
-  made_same : {rest : List Bool} {cells : ℕ} (i j : ℕ) (shape : Shape) (cs : List Content) → renumbered o.statics i ≡ j → (b c : Bool) → (c ≡ true → b ≡ true) → (cells ≡ 0 → c ≡ b)
+  made_same : {rest : List Bool} {cells : ℕ} (i j : ℕ) (shape : Shape) (cs : List Content) → renumbered o.statics i ≡ j → (b c : Bool) → (c ≡ true → b ≡ true) → (Room → c ≡ b)
       → (at : At) (scope : List Bound) (memory : Memory) → StandsSoFar (false ∷ rest) cells j at scope memory
       → BeginAlike rest cells (suc j) (made_by b shape at (filled_as i shape cs)) (made_by c shape (beside at scope memory) (filled_as j shape (map (content_with (names_in o)) cs)))
   made_same {rest} {cells} i j shape cs e true true f g at scope memory h =
@@ -143,32 +164,28 @@ module _ (o : Other) (model : DataModel) where
         bounds = h.bounds;
         so_far = h.so_far;
         blocks = subst (λ block. HasFurtherBlocks (names_in o) o.blocks rest cells (at.memory ++ new_block shape true true ∷ []) (memory ++ block ∷ [])) (mem.new_with (names_in o) o.blocks rest cells shape true true) (mem.kept_next (names_in o) h.blocks (new_block shape true true));
-      })) (λ none. none)
+      }))
       (λ at1 scope1 memory1 given h1. both_give (record {
         bounds = subst (λ k. HasFurtherBounds o (record { variable = StaticObject i; block = length at.memory } ∷ at1.scope) (record { variable = StaticObject k; block = names_in o (length at.memory) } ∷ scope1)) e (a_bound (record { variable = StaticObject i; block = length at.memory }) h1.bounds);
         so_far = more_so_far i j (names_in o (length at.memory)) scope1 e h1.so_far;
         blocks = h1.blocks;
       })))
-  made_same i j shape cs e true false f g at scope memory h = no_room (λ none. false≢true (g none))
+  made_same i j shape cs e true false f g at scope memory h = no_room (λ room. false≢true (g room))
   made_same {rest} {cells} i j shape cs e false false f g at scope memory h = both_end (false ∷ rest) cells h.blocks
   made_same i j shape cs e false true f g at scope memory h = absurd (false≢true (f refl))
 
-  static_same : {rest : List Bool} {cells : ℕ} (i j : ℕ) (it : Static) → renumbered o.statics i ≡ j → (at : At) (scope : List Bound) (memory : Memory) → StandsSoFar (false ∷ rest) cells j at scope memory
+  static_same : {rest : List Bool} {cells : ℕ} (i j alive : ℕ) (it : Static) → renumbered o.statics i ≡ j → (Room → alive + length it.block.shape.cells ≤ most_cells → (alive + length it.block.shape.cells) + cells ≤ most_cells)
+      → (at : At) (scope : List Bound) (memory : Memory) → cells_alive at.memory ≡ alive → StandsSoFar (false ∷ rest) cells j at scope memory
       → BeginAlike rest cells (suc j) (start_static model i it at) (start_static model j (record it { cells = map (content_with (names_in o)) it.cells }) (beside at scope memory))
   unfolding create_shaped
-  static_same {rest} {cells} i j it e at scope memory h =
-      let alive = mem.alive_with (names_in o) h.blocks in
+  static_same {rest} {cells} i j alive it e room at scope memory many h =
+      let others_many : cells_alive memory ≡ alive + cells = mem.alive_with (names_in o) h.blocks ∙ ap (λ n. n + cells) many in
+      let n = length it.block.shape.cells in
       made_same i j it.block.shape it.cells e (nat_le (cells_alive at.memory + length it.block.shape.cells) most_cells) (nat_le (cells_alive memory + length it.block.shape.cells) most_cells)
-      (λ g. room_without (cells_alive at.memory) cells (length it.block.shape.cells) most_cells (ap (λ n. nat_le (n + length it.block.shape.cells) most_cells) (sym alive) ∙ g))
-      (λ none. ap (λ n. nat_le (n + length it.block.shape.cells) most_cells) (alive ∙ no_more (cells_alive at.memory) cells none)) at scope memory h
+      (λ g. ap (λ a. nat_le (a + n) most_cells) many ∙ room_without alive cells n most_cells (ap (λ a. nat_le (a + n) most_cells) (sym others_many) ∙ g))
+      (λ is_room. ap (λ a. nat_le (a + n) most_cells) others_many ∙ same_room alive cells n most_cells (room is_room) ∙ ap (λ a. nat_le (a + n) most_cells) (sym many)) at scope memory h
 
   -- ---- a further one
-
-  room_for_none : (alive cells n most : ℕ) → alive ≤ most → cells + n ≡ 0 → nat_le (alive + n) most ≡ true
-  room_for_none alive cells n most h e = le-leb (alive + n) most (omega (arith, h, e))
-
-  fits_after : {m : Answer (Unit {0})} {at : At} → m ≡ Gives tt at → Fits m → cells_alive at.memory ≤ most_cells
-  fits_after e h = subst Fits e h
 
   one_more_so_far : (j n : ℕ) (scope : List Bound) → flag_at o.blocks n ≡ true → AreSoFar j scope → AreSoFar (suc j) (record { variable = StaticObject j; block = n } ∷ scope)
   one_more_so_far j n scope e h k lt flag = by (nat_eq j k) refl (eq-or-lt_of_le (omega (arith, lt)))
@@ -178,10 +195,10 @@ module _ (o : Other) (model : DataModel) where
       by false q (inl same) = absurd (false≢true (sym q ∙ eq-eqb j k (sym same)))
       by false q (inr less) = h k less flag
 
-  further_made : {rest : List Bool} {cells : ℕ} (j : ℕ) (shape : Shape) (cs : List Content) → AreSuited model shape.cells cs → flag_at o.statics j ≡ true → (b : Bool) → (cells + length shape.cells ≡ 0 → b ≡ true)
+  further_made : {rest : List Bool} {cells : ℕ} (j : ℕ) (shape : Shape) (cs : List Content) → AreSuited model shape.cells cs → flag_at o.statics j ≡ true → (b : Bool) → (Room → b ≡ true)
       → (at : At) (scope : List Bound) (memory : Memory) → StandsSoFar (true ∷ rest) cells j at scope memory
       → BeginAlike rest (cells + length shape.cells) (suc j) (Gives tt at) (made_by b shape (beside at scope memory) (filled_as j shape cs))
-  further_made j shape cs g flag false room at scope memory h = no_room (λ none. false≢true (room none))
+  further_made j shape cs g flag false room at scope memory h = no_room (λ is_room. false≢true (room is_room))
   further_made {rest} {cells} j shape cs g flag true room at scope memory h =
       let filled = fill_last model memory shape.size shape.cells cs (map (new_cell true) shape.cells) (beside at scope memory) (subst (λ all. AllMet all shape.cells) (sym (new_kinds true shape.cells)) (all_met shape.cells)) g in
       let after : List StoredCell = filled.0 in
@@ -193,19 +210,19 @@ module _ (o : Other) (model : DataModel) where
         blocks = subst (λ n. HasFurtherBlocks (names_in o) o.blocks rest (cells + n) at.memory (memory ++ living_block shape.size after ∷ [])) long (mem.further_next (names_in o) h.blocks (living_block shape.size after) refl);
       }))
 
-  further_same : {rest : List Bool} {cells : ℕ} (j : ℕ) (it : Static) → AreSuited model it.block.shape.cells it.cells → flag_at o.statics j ≡ true → (at : At) (scope : List Bound) (memory : Memory) → cells_alive memory ≤ most_cells → StandsSoFar (true ∷ rest) cells j at scope memory
+  further_same : {rest : List Bool} {cells : ℕ} (j alive : ℕ) (it : Static) → AreSuited model it.block.shape.cells it.cells → flag_at o.statics j ≡ true → (Room → (alive + cells) + length it.block.shape.cells ≤ most_cells)
+      → (at : At) (scope : List Bound) (memory : Memory) → cells_alive at.memory ≡ alive → StandsSoFar (true ∷ rest) cells j at scope memory
       → BeginAlike rest (cells + length it.block.shape.cells) (suc j) (Gives tt at) (start_static model j it (beside at scope memory))
   unfolding create_shaped
-  further_same {cells = cells} j it g flag at scope memory fits h =
-      further_made j it.block.shape it.cells g flag (nat_le (cells_alive memory + length it.block.shape.cells) most_cells) (room_for_none (cells_alive memory) cells (length it.block.shape.cells) most_cells fits) at scope memory h
+  further_same {cells = cells} j alive it g flag room at scope memory many h =
+      let n = length it.block.shape.cells in
+      further_made j it.block.shape it.cells g flag (nat_le (cells_alive memory + n) most_cells)
+      (λ is_room. ap (λ a. nat_le (a + n) most_cells) (mem.alive_with (names_in o) h.blocks ∙ ap (λ a. a + cells) many) ∙ le-leb ((alive + cells) + n) most_cells (room is_room)) at scope memory h
 
   -- ---- all of them
 
-  none_before : (a b : ℕ) → a + b ≡ 0 → a ≡ 0
-  none_before a b h = omega (arith, h)
-
-  none_further : (a b c : ℕ) → (a + b) + c ≡ 0 → a + b ≡ 0
-  none_further a b c h = omega (arith, h)
+  left_by : {n : ℕ} {m : Answer (Unit {0})} {at : At} → m ≡ Gives tt at → Leaves n m → Leaves n (Gives tt at)
+  left_by {n} e h = subst (Leaves n) e h
 
   later : (i n : ℕ) → suc i + n ≡ i + suc n
   later i n = omega arith
@@ -216,32 +233,25 @@ module _ (o : Other) (model : DataModel) where
   regrouped : (a b c : ℕ) → (a + b) + c ≡ a + (b + c)
   regrouped a b c = omega arith
 
-  pub statics_same : {further : List Bool} {its others : List Static} → StaticsWith (names_in o) model further its others → (tail : List Bool) (i j cells : ℕ)
+  pub statics_same : {further : List Bool} {its others : List Static} → StaticsWith (names_in o) model further its others → (tail : List Bool) (i j cells alive : ℕ)
       → ((n : ℕ) → renumbered o.statics (i + n) ≡ j + renumbered further n) → ((n : ℕ) → flag_at o.statics (j + n) ≡ flag_at further n)
-      → (at : At) (scope : List Bound) (memory : Memory) → cells_alive memory ≤ most_cells → StandsSoFar (further ++ tail) cells j at scope memory
+      → (Room → HasRoomBeside alive its (cells + further_cells_in further others))
+      → (at : At) (scope : List Bound) (memory : Memory) → cells_alive at.memory ≡ alive → alive ≤ most_cells → StandsSoFar (further ++ tail) cells j at scope memory
       → BeginAlike tail (cells + further_cells_in further others) (j + length further) (start_statics model i its at) (start_statics model j others (beside at scope memory))
-  statics_same no_statics tail i j cells s f at scope memory fits h =
+  statics_same no_statics tail i j cells alive s f room at scope memory many fits h =
       subst (λ n. BeginAlike tail n (j + 0) (Gives tt at) (Gives tt (beside at scope memory))) (none_left cells) (subst (λ n. BeginAlike tail cells n (Gives tt at) (Gives tt (beside at scope memory))) (none_left j) (both_give h))
-  statics_same (a_static {further} {its} {others} it d) tail i j cells s f at scope memory fits h =
+  statics_same (a_static {further} {its} {others} it d) tail i j cells alive s f room at scope memory many fits h =
       let e : renumbered o.statics i ≡ j = ap (renumbered o.statics) (none_left i) ∙ s 0 ∙ sym (none_left j) in
       subst (λ n. BeginAlike tail (cells + further_cells_in further others) n (start_statics model i (it ∷ its) at) (start_statics model j (record it { cells = map (content_with (names_in o)) it.cells } ∷ others) (beside at scope memory))) (later j (length further))
-      (then_begin (start_static model i it at) (start_static model j (record it { cells = map (content_with (names_in o)) it.cells }) (beside at scope memory)) (start_statics model (suc i) its) (start_statics model (suc j) others) (static_same i j it e at scope memory h) (none_before cells (further_cells_in further others))
-      (λ at1 scope1 memory1 given h1. statics_same d tail (suc i) (suc j) cells (λ n. ap (renumbered o.statics) (later i n) ∙ s (suc n) ∙ sym (later j (renumbered further n))) (λ n. ap (flag_at o.statics) (later j n) ∙ f (suc n)) at1 scope1 memory1 (fits_after given (static_fits model j (record it { cells = map (content_with (names_in o)) it.cells }) (beside at scope memory))) h1))
-  statics_same (a_further_static {further} {its} {others} it name g d) tail i j cells s f at scope memory fits h =
+      (then_begin (start_static model i it at) (start_static model j (record it { cells = map (content_with (names_in o)) it.cells }) (beside at scope memory)) (start_statics model (suc i) its) (start_statics model (suc j) others)
+      (static_same i j alive it e (λ is_room fit. room_for_fewer (alive + length it.block.shape.cells) cells (further_cells_in further others) most_cells (room_for_one alive (cells + further_cells_in further others) it its (room is_room) fit)) at scope memory many h)
+      (λ at1 scope1 memory1 given h1. statics_same d tail (suc i) (suc j) cells (alive + length it.block.shape.cells) (λ n. ap (renumbered o.statics) (later i n) ∙ s (suc n) ∙ sym (later j (renumbered further n))) (λ n. ap (flag_at o.statics) (later j n) ∙ f (suc n))
+      (λ is_room. room_behind alive (cells + further_cells_in further others) it its (room is_room)) at1 scope1 memory1 (left_by given (static_leaves model i alive it at many)).0 (left_by given (static_leaves model i alive it at many)).1 h1))
+  statics_same (a_further_static {further} {its} {others} it name g d) tail i j cells alive s f room at scope memory many fits h =
       subst (λ n. BeginAlike tail n (j + suc (length further)) (start_statics model i its at) (start_statics model j (it ∷ others) (beside at scope memory))) (regrouped cells (length it.block.shape.cells) (further_cells_in further others))
       (subst (λ n. BeginAlike tail ((cells + length it.block.shape.cells) + further_cells_in further others) n (start_statics model i its at) (start_statics model j (it ∷ others) (beside at scope memory))) (later j (length further))
-      (then_begin (Gives tt at) (start_static model j it (beside at scope memory)) (start_statics model i its) (start_statics model (suc j) others) (further_same j it g (ap (flag_at o.statics) (none_left j) ∙ f 0) at scope memory fits h) (none_further cells (length it.block.shape.cells) (further_cells_in further others))
-      (λ at1 scope1 memory1 given h1. statics_same d tail i (suc j) (cells + length it.block.shape.cells) (λ n. s n ∙ sym (later j (renumbered further n))) (λ n. ap (flag_at o.statics) (later j n) ∙ f (suc n)) at1 scope1 memory1 (fits_after given (static_fits model j it (beside at scope memory))) h1)))
-
--- ---- all cells together
-
-a_static_in : (n its all fc : ℕ) → all ≡ its + fc → n + all ≡ (n + its) + fc
-a_static_in n its all fc h = omega (arith, h)
-
-a_further_in : (n its all fc : ℕ) → all ≡ its + fc → n + all ≡ its + (n + fc)
-a_further_in n its all fc h = omega (arith, h)
-
-pub cells_together : {r : ℕ → ℕ} {model : DataModel} {further : List Bool} {its others : List Static} → StaticsWith r model further its others → cells_in others ≡ cells_in its + further_cells_in further others
-cells_together no_statics = refl
-cells_together (a_static {further} {its} {others} it d) = a_static_in (length it.block.shape.cells) (cells_in its) (cells_in others) (further_cells_in further others) (cells_together d)
-cells_together (a_further_static {further} {its} {others} it name g d) = a_further_in (length it.block.shape.cells) (cells_in its) (cells_in others) (further_cells_in further others) (cells_together d)
+      (then_begin (Gives tt at) (start_static model j it (beside at scope memory)) (start_statics model i its) (start_statics model (suc j) others)
+      (further_same j alive it g (ap (flag_at o.statics) (none_left j) ∙ f 0)
+      (λ is_room. room_for_further alive cells (length it.block.shape.cells) (further_cells_in further others) most_cells (room_now alive (cells + (length it.block.shape.cells + further_cells_in further others)) its fits (room is_room))) at scope memory many h)
+      (λ at1 scope1 memory1 given h1. statics_same d tail i (suc j) (cells + length it.block.shape.cells) alive (λ n. s n ∙ sym (later j (renumbered further n))) (λ n. ap (flag_at o.statics) (later j n) ∙ f (suc n))
+      (λ is_room. subst (HasRoomBeside alive its) (sym (regrouped cells (length it.block.shape.cells) (further_cells_in further others))) (room is_room)) at1 scope1 memory1 (left_by given (many, fits)).0 (left_by given (many, fits)).1 h1)))

@@ -1,5 +1,5 @@
--- There is room for the objects that are there from the start, where all their cells together fit; and so many alone are made as there is room for.
-use Rattle.std.proofs.Common.{◌≡◌, ◌≤◌, ℕ, zero, suc, List, [], ◌∷◌, ◌++◌, length, Option, Some, None, Bool, true, false, refl, sym, ap, ◌∙◌, subst, arith, le-leb, leb-true}
+-- Objects that are there from the start leave as many cells alive as they have, and so many alone are made as there is room for.
+use Rattle.std.proofs.Common.{◌≡◌, ◌≤◌, ℕ, zero, suc, List, [], ◌∷◌, ◌++◌, length, take, Option, Some, None, Bool, true, false, refl, sym, ap, ◌∙◌, subst, arith, leb-true}
 use Rattle.std.proofs.lemmas.List.{length-map}
 use Rattle.std.proofs.lemmas.List.Sums.{sum_by-cons, sum_by-append}
 use Rattle.std.specs.Prelude.{◌==◌, ◌+◌, ◌&&◌, nat_le, if◌then◌else◌, Result, Ok, Err, slice_get, slice_set}
@@ -21,7 +21,6 @@ use Rattle.lt_ir.specs.Running.{At, Answer, Step, ◌>>◌, gives, absurdity, bo
 use Rattle.lt_ir.specs.Evaluation.{written, is_content_of, one_cell}
 use Rattle.lt_ir.specs.Starting.{put, fill, start_static, start_statics}
 use Rattle.lt_object_laws.specs.Further.{cells_in}
-use Rattle.lt_object_laws.proofs.Pure.{is_no_room}
 use Rattle.lt_object_laws.proofs.Blocks.{ok, ok_is, no_ok, then_ok}
 
 some_is : {A : Type 0} {x y : A} → Some x ≡ Some y → x ≡ y
@@ -74,33 +73,34 @@ store_alive model memory after a ty x e =
     by true made e h = ap cells_alive (sym (ok_is e)) ∙ h
     by false made e h = absurd (no_ok e)
 
--- ---- answers that leave so many cells alive, and don't end for want of room
+-- ---- answers that leave so many cells alive, which are no more than may be, where they go on
 
 abbrev pub Leaves : ℕ → Answer (Unit {0}) → Type 0
-Leaves n (Gives a at) = cells_alive at.memory ≡ n
-Leaves n (Ends end at) = is_no_room end ≡ false
+Leaves n (Gives a at) = (cells_alive at.memory ≡ n) × (n ≤ most_cells)
+Leaves n (Ends end at) = Unit {0}
 
-then_leaves : (n k : ℕ) (m : Answer (Unit {0})) (f : Step (Unit {0})) → Leaves n m → ((at : At) → cells_alive at.memory ≡ n → Leaves k (f at)) → Leaves k (elim (m) as (λ _. Answer (Unit {0})) [ Gives a at ↦ f at | Ends end at ↦ Ends end at ])
-then_leaves n k (Gives a at) f h g = g at h
-then_leaves n k (Ends end at) f h g = h
+then_leaves : (n k : ℕ) (m : Answer (Unit {0})) (f : Step (Unit {0})) → Leaves n m → ((at : At) → cells_alive at.memory ≡ n → n ≤ most_cells → Leaves k (f at)) → Leaves k (elim (m) as (λ _. Answer (Unit {0})) [ Gives a at ↦ f at | Ends end at ↦ Ends end at ])
+then_leaves n k (Gives a at) f h g = g at h.0 h.1
+then_leaves n k (Ends end at) f h g = tt
 
-put_leaves : (model : DataModel) (block offset : ℕ) (ty : CellType) (c : Content) (at : At) → Leaves (cells_alive at.memory) (put model block offset ty c at)
-put_leaves model block offset ty c at = by (is_content_of model ty c)
+put_leaves : (model : DataModel) (block offset : ℕ) (ty : CellType) (c : Content) (at : At) → cells_alive at.memory ≤ most_cells → Leaves (cells_alive at.memory) (put model block offset ty c at)
+put_leaves model block offset ty c at fit = by (is_content_of model ty c)
   where
     given : (x : Result Memory Ub) → ((after : Memory) → x ≡ ok after → cells_alive after ≡ cells_alive at.memory)
         → Leaves (cells_alive at.memory) (((λ (at : At). elim (x) as (λ _. Answer (Unit {0})) [ Ok memory ↦ Gives tt (record at { memory = memory }) | Err kind ↦ Ends (Undefined kind) at ]) >> gives untouched >> gives (tt {0})) at)
-    given (Ok after) h = h after refl
-    given (Err kind) h = refl
+    given (Ok after) h = (h after refl, fit)
+    given (Err kind) h = tt
 
     by : (b : Bool) → Leaves (cells_alive at.memory) (((if b then written false (λ memory. store model memory (Some (record { block = block; offset = offset })) ty c) (one_cell ty) (Some (record { block = block; offset = offset })) untouched else absurdity) >> gives (tt {0})) at)
     by true = given (store model at.memory (Some (record { block = block; offset = offset })) ty c) (λ after e. store_alive model at.memory after (Some (record { block = block; offset = offset })) ty c e)
-    by false = refl
+    by false = tt
 
-fill_leaves : (model : DataModel) (block n : ℕ) (shape : List ShapeCell) (cs : List Content) (at : At) → cells_alive at.memory ≡ n → Leaves n (fill model block shape cs at)
-fill_leaves model block n [] cs at h = h
-fill_leaves model block n (c ∷ shape) [] at h = h
-fill_leaves model block n (c ∷ shape) (x ∷ cs) at h =
-    then_leaves n n (put model block c.offset c.ty x at) (fill model block shape cs) (subst (λ k. Leaves k (put model block c.offset c.ty x at)) h (put_leaves model block c.offset c.ty x at)) (λ at1 g. fill_leaves model block n shape cs at1 g)
+fill_leaves : (model : DataModel) (block n : ℕ) (shape : List ShapeCell) (cs : List Content) (at : At) → cells_alive at.memory ≡ n → n ≤ most_cells → Leaves n (fill model block shape cs at)
+fill_leaves model block n [] cs at h fit = (h, fit)
+fill_leaves model block n (c ∷ shape) [] at h fit = (h, fit)
+fill_leaves model block n (c ∷ shape) (x ∷ cs) at h fit =
+    then_leaves n n (put model block c.offset c.ty x at) (fill model block shape cs) (subst (λ k. Leaves k (put model block c.offset c.ty x at)) h (put_leaves model block c.offset c.ty x at (subst (λ k. k ≤ most_cells) (sym h) fit)))
+    (λ at1 g fit1. fill_leaves model block n shape cs at1 g fit1)
 
 one_more_alive : (memory : Memory) (block : Block) → cells_alive (memory ++ block ∷ []) ≡ cells_alive memory + living_cells block
 one_more_alive memory block =
@@ -110,49 +110,23 @@ one_more_alive memory block =
 new_alive : (shape : Shape) → living_cells (new_block shape true true) ≡ length shape.cells
 new_alive shape = length-map shape.cells (new_cell true)
 
-static_leaves : (model : DataModel) (k n : ℕ) (it : Static) (at : At) → cells_alive at.memory ≡ n → n + length it.block.shape.cells ≤ most_cells → Leaves (n + length it.block.shape.cells) (start_static model k it at)
+pub static_leaves : (model : DataModel) (k n : ℕ) (it : Static) (at : At) → cells_alive at.memory ≡ n → Leaves (n + length it.block.shape.cells) (start_static model k it at)
 unfolding create_shaped
-static_leaves model k n it at h g =
-    subst (λ b. Leaves (n + length it.block.shape.cells) (made b)) (sym (ap (λ alive. nat_le (alive + length it.block.shape.cells) most_cells) h ∙ le-leb (n + length it.block.shape.cells) most_cells g))
-    (then_leaves (n + length it.block.shape.cells) (n + length it.block.shape.cells) (fill model (length at.memory) it.block.shape.cells it.cells (record at { memory = at.memory ++ new_block it.block.shape true true ∷ [] })) (bound_to (StaticObject k) (length at.memory))
-    (fill_leaves model (length at.memory) (n + length it.block.shape.cells) it.block.shape.cells it.cells (record at { memory = at.memory ++ new_block it.block.shape true true ∷ [] })
-    (one_more_alive at.memory (new_block it.block.shape true true) ∙ ap (λ a. a + living_cells (new_block it.block.shape true true)) h ∙ ap (λ a. n + a) (new_alive it.block.shape)))
-    (λ at1 e. e))
+static_leaves model k n it at h = by (nat_le (n + length it.block.shape.cells) most_cells) refl
   where
     made : Bool → Answer (Unit {0})
     made b =
         elim (elim (if b then Some (create at.memory (new_block it.block.shape true true)) else None) as (λ _. Answer ℕ) [ None ↦ Ends Cells at | Some memory ↦ Gives (length at.memory) (record at { memory = memory }) ]) as (λ _. Answer (Unit {0}))
         [ Gives m at1 ↦ (fill model m it.block.shape.cells it.cells >> bound_to (StaticObject k) m) at1 | Ends end at1 ↦ Ends end at1 ]
 
--- an object that is made leaves no more alive than may be
-abbrev pub Fits : Answer (Unit {0}) → Type 0
-Fits (Gives a at) = cells_alive at.memory ≤ most_cells
-Fits (Ends end at) = Unit {0}
-
-fits_as : (n : ℕ) (m : Answer (Unit {0})) → n ≤ most_cells → Leaves n m → Fits m
-fits_as n (Gives a at) h e = subst (λ k. k ≤ most_cells) (sym e) h
-fits_as n (Ends end at) h e = tt
-
-pub static_fits : (model : DataModel) (k : ℕ) (it : Static) (at : At) → Fits (start_static model k it at)
-unfolding create_shaped
-static_fits model k it at = by (nat_le (cells_alive at.memory + length it.block.shape.cells) most_cells) refl
-  where
-    made : Bool → Answer (Unit {0})
-    made b =
-        elim (elim (if b then Some (create at.memory (new_block it.block.shape true true)) else None) as (λ _. Answer ℕ) [ None ↦ Ends Cells at | Some memory ↦ Gives (length at.memory) (record at { memory = memory }) ]) as (λ _. Answer (Unit {0}))
-        [ Gives m at1 ↦ (fill model m it.block.shape.cells it.cells >> bound_to (StaticObject k) m) at1 | Ends end at1 ↦ Ends end at1 ]
-
-    by : (b : Bool) → nat_le (cells_alive at.memory + length it.block.shape.cells) most_cells ≡ b → Fits (made (nat_le (cells_alive at.memory + length it.block.shape.cells) most_cells))
-    by false e = subst (λ b. Fits (made b)) (sym e) tt
+    by : (b : Bool) → nat_le (n + length it.block.shape.cells) most_cells ≡ b → Leaves (n + length it.block.shape.cells) (made (nat_le (cells_alive at.memory + length it.block.shape.cells) most_cells))
+    by false e = subst (λ b. Leaves (n + length it.block.shape.cells) (made b)) (sym (ap (λ alive. nat_le (alive + length it.block.shape.cells) most_cells) h ∙ e)) tt
     by true e =
-        let fit : cells_alive at.memory + length it.block.shape.cells ≤ most_cells = leb-true (cells_alive at.memory + length it.block.shape.cells) most_cells e in
-        fits_as (cells_alive at.memory + length it.block.shape.cells) (start_static model k it at) fit (static_leaves model k (cells_alive at.memory) it at refl fit)
-
-first_fits : (n a b most : ℕ) → n + (a + b) ≤ most → n + a ≤ most
-first_fits n a b most h = omega (arith, h)
-
-rest_fits : (n a b most : ℕ) → n + (a + b) ≤ most → (n + a) + b ≤ most
-rest_fits n a b most h = omega (arith, h)
+        subst (λ b. Leaves (n + length it.block.shape.cells) (made b)) (sym (ap (λ alive. nat_le (alive + length it.block.shape.cells) most_cells) h ∙ e))
+        (then_leaves (n + length it.block.shape.cells) (n + length it.block.shape.cells) (fill model (length at.memory) it.block.shape.cells it.cells (record at { memory = at.memory ++ new_block it.block.shape true true ∷ [] })) (bound_to (StaticObject k) (length at.memory))
+        (fill_leaves model (length at.memory) (n + length it.block.shape.cells) it.block.shape.cells it.cells (record at { memory = at.memory ++ new_block it.block.shape true true ∷ [] })
+        (one_more_alive at.memory (new_block it.block.shape true true) ∙ ap (λ a. a + living_cells (new_block it.block.shape true true)) h ∙ ap (λ a. n + a) (new_alive it.block.shape)) (leb-true (n + length it.block.shape.cells) most_cells e))
+        (λ at1 g fit. (g, fit)))
 
 grouped : (n a b : ℕ) → (n + a) + b ≡ n + (a + b)
 grouped n a b = omega arith
@@ -160,10 +134,26 @@ grouped n a b = omega arith
 none_left : (n : ℕ) → n ≡ n + 0
 none_left n = omega arith
 
-pub statics_leave : (model : DataModel) (k n : ℕ) (its : List Static) (at : At) → cells_alive at.memory ≡ n → n + cells_in its ≤ most_cells → Leaves (n + cells_in its) (start_statics model k its at)
-statics_leave model k n [] at h g = h ∙ none_left n
-statics_leave model k n (it ∷ its) at h g =
+pub statics_leave : (model : DataModel) (k n : ℕ) (its : List Static) (at : At) → cells_alive at.memory ≡ n → n ≤ most_cells → Leaves (n + cells_in its) (start_statics model k its at)
+statics_leave model k n [] at h fit = (h ∙ none_left n, subst (λ m. m ≤ most_cells) (none_left n) fit)
+statics_leave model k n (it ∷ its) at h fit =
     subst (λ m. Leaves m (start_statics model k (it ∷ its) at)) (grouped n (length it.block.shape.cells) (cells_in its))
     (then_leaves (n + length it.block.shape.cells) ((n + length it.block.shape.cells) + cells_in its) (start_static model k it at) (start_statics model (suc k) its)
-    (static_leaves model k n it at h (first_fits n (length it.block.shape.cells) (cells_in its) most_cells g))
-    (λ at1 e. statics_leave model (suc k) (n + length it.block.shape.cells) its at1 e (rest_fits n (length it.block.shape.cells) (cells_in its) most_cells g)))
+    (static_leaves model k n it at h)
+    (λ at1 e fit1. statics_leave model (suc k) (n + length it.block.shape.cells) its at1 e fit1))
+
+-- ---- room for so many cells more beside as many of the objects as fit
+
+abbrev pub HasRoomBeside : ℕ → List Static → ℕ → Type 0
+HasRoomBeside alive its k = (n : ℕ) → alive + cells_in (take n its) ≤ most_cells → (alive + cells_in (take n its)) + k ≤ most_cells
+
+pub room_behind : (alive k : ℕ) (it : Static) (its : List Static) → HasRoomBeside alive (it ∷ its) k → HasRoomBeside (alive + length it.block.shape.cells) its k
+room_behind alive k it its room n fit =
+    let same = grouped alive (length it.block.shape.cells) (cells_in (take n its)) in
+    subst (λ m. m + k ≤ most_cells) (sym same) (room (suc n) (subst (λ m. m ≤ most_cells) same fit))
+
+pub room_now : (alive k : ℕ) (its : List Static) → alive ≤ most_cells → HasRoomBeside alive its k → alive + k ≤ most_cells
+room_now alive k its fit room = subst (λ m. m + k ≤ most_cells) (sym (none_left alive)) (room 0 (subst (λ m. m ≤ most_cells) (none_left alive) fit))
+
+pub room_for_one : (alive k : ℕ) (it : Static) (its : List Static) → HasRoomBeside alive (it ∷ its) k → alive + length it.block.shape.cells ≤ most_cells → (alive + length it.block.shape.cells) + k ≤ most_cells
+room_for_one alive k it its room fit = room_now (alive + length it.block.shape.cells) k its fit (room_behind alive k it its room)

@@ -1,5 +1,5 @@
 -- Runs of a program with further objects.
-use Rattle.std.proofs.Common.{◌≡◌, ◌≤◌, ◌<◌, ◌⊎◌, inl, inr, ⊎_elim, ℕ, zero, suc, List, [], ◌∷◌, ◌++◌, map, length, Some, None, Bool, true, false, refl, sym, ap, ◌∙◌, subst, arith, append-nil}
+use Rattle.std.proofs.Common.{◌≡◌, ◌≤◌, ◌<◌, ◌⊎◌, inl, inr, ⊎_elim, ℕ, zero, suc, List, [], ◌∷◌, ◌++◌, map, length, take, Some, None, Bool, true, false, refl, sym, ap, ◌∙◌, subst, arith, append-nil}
 use Rattle.std.proofs.lemmas.Bool.{false≢true}
 use Rattle.std.proofs.lemmas.List.{length-map}
 use Rattle.std.specs.Prelude.{◌+◌, nat_le, if◌then◌else◌}
@@ -30,11 +30,10 @@ use Rattle.lt_object_laws.proofs.Alike.{Other, Comparison, names_in, as_it_is, n
 use Rattle.lt_object_laws.proofs.Statements.{flow_in}
 use Rattle.lt_object_laws.proofs.Objects.{names_same, shapes_same, initials_with, statics_low}
 use Rattle.lt_object_laws.proofs.Beginning as begin
-use Rattle.lt_object_laws.proofs.Beginning.{StaticsWith, StandsSoFar, BeginAlike, both_give, both_end, statics_same, cells_together}
+use Rattle.lt_object_laws.proofs.Beginning.{StaticsWith, StandsSoFar, BeginAlike, both_give, both_end, statics_same}
 use Rattle.lt_object_laws.proofs.Starting as start
 use Rattle.lt_object_laws.proofs.Starting.{RootsWith, a_nameless_root, roots_in, all_roots, blocks_same, parameters_same, sets_same, seal_all_same}
-use Rattle.lt_object_laws.proofs.Pure.{is_no_room}
-use Rattle.lt_object_laws.proofs.Room.{Leaves, statics_leave}
+use Rattle.lt_object_laws.proofs.Room.{Leaves, statics_leave, HasRoomBeside}
 use Rattle.lt_object_laws.proofs.Calls.{body_same, invoke_same}
 
 -- ---- numbers
@@ -84,21 +83,12 @@ goes_on (Gives a at) = true
 goes_on (Ends end at) = false
 
 -- a run beside itself stands where it stands
-itself : (o : Other) (model : DataModel) (rest : List Bool) (cells j : ℕ) (m n : Answer (Unit {0})) (at : At) → BeginAlike o model rest cells j m n → m ≡ Gives tt at → n ≡ Gives tt at → StandsSoFar o model rest cells j at at.scope at.memory
-itself o model rest cells j m n at (both_give {at = at1} {scope} {memory} h) e f =
-    subst (λ x. StandsSoFar o model rest cells j at x at.memory) (ap (λ a. a.scope) (ap state_of f))
-    (subst (λ x. StandsSoFar o model rest cells j at scope x) (ap (λ a. a.memory) (ap state_of f)) (subst (λ x. StandsSoFar o model rest cells j x scope memory) (ap state_of e) h))
-itself o model rest cells j m n at (both_end left held h) e f = absurd (false≢true (ap goes_on e))
-itself o model rest cells j m n at (begin.no_room some) e f = absurd (false≢true (ap goes_on f))
-
--- whether an answer ends for want of room
-abbrev is_no_room_of : Answer (Unit {0}) → Bool
-is_no_room_of (Gives a at) = false
-is_no_room_of (Ends end at) = is_no_room end
-
-fits_first : (n : ℕ) (m : Answer (Unit {0})) → Leaves n m → is_no_room_of m ≡ false
-fits_first n (Gives a at) h = refl
-fits_first n (Ends end at) h = h
+itself : (o : Other) (model : DataModel) (Room : Type 0) (rest : List Bool) (cells j : ℕ) (m n : Answer (Unit {0})) (at : At) → BeginAlike o model Room rest cells j m n → m ≡ Gives tt at → n ≡ Gives tt at → StandsSoFar o model Room rest cells j at at.scope at.memory
+itself o model Room rest cells j m n at (both_give {at = at1} {scope} {memory} h) e f =
+    subst (λ x. StandsSoFar o model Room rest cells j at x at.memory) (ap (λ a. a.scope) (ap state_of f))
+    (subst (λ x. StandsSoFar o model Room rest cells j at scope x) (ap (λ a. a.memory) (ap state_of f)) (subst (λ x. StandsSoFar o model Room rest cells j x scope memory) (ap state_of e) h))
+itself o model Room rest cells j m n at (both_end left held h) e f = absurd (false≢true (ap goes_on e))
+itself o model Room rest cells j m n at (begin.no_room lacks) e f = absurd (false≢true (ap goes_on f))
 
 -- ---- how a run goes on behind the objects that are there from the start
 
@@ -200,17 +190,31 @@ module _ (P : Program) (u : SourceUnit) (ds : List Declared) (fs : List Function
   abbrev there : Answer (Unit {0})
   there = start_statics P.model 0 others nothing
 
-  none_alive : cells_alive [] ≤ most_cells
+  none_alive : 0 ≤ most_cells
   none_alive = omega arith
 
-  begins_one : BeginAlike seen.one P.model [] (0 + cells) (0 + length flags) here there
+  -- room for the further ones' cells beside as many as fit
+  abbrev IsRoomFirst : Type 0
+  IsRoomFirst = (n : ℕ) → cells_in (take n statics) ≤ most_cells → cells_in (take n statics) + cells ≤ most_cells
+
+  beside_none : (n k most : ℕ) → n + k ≤ most → (0 + n) + (0 + k) ≤ most
+  beside_none n k most h = omega (arith, h)
+
+  room_from_none : IsRoomFirst → HasRoomBeside 0 statics (0 + cells)
+  room_from_none room n fit = beside_none (cells_in (take n statics)) cells most_cells (room n (subst (λ m. m ≤ most_cells) (sym (from_zero (cells_in (take n statics)))) fit))
+
+  room_for_no_cells : (n k most : ℕ) → k ≡ 0 → n ≤ most → n + k ≤ most
+  room_for_no_cells n k most e h = omega (arith, e, h)
+
+  begins_one : BeginAlike seen.one P.model IsRoomFirst [] (0 + cells) (0 + length flags) here there
   begins_one =
-      statics_same seen.one P.model with_one [] 0 0 0 (λ n. ap (renumbered flags) (sym (from_zero n)) ∙ from_zero (renumbered flags n)) (λ n. ap (flag_at flags) (sym (from_zero n))) nothing [] [] none_alive
+      statics_same seen.one P.model IsRoomFirst with_one [] 0 0 0 0 (λ n. ap (renumbered flags) (sym (from_zero n)) ∙ from_zero (renumbered flags n)) (λ n. ap (flag_at flags) (sym (from_zero n))) room_from_none nothing [] [] refl none_alive
       (record { bounds = no_bounds; so_far = λ k lt flag. absurd (omega (arith, lt)); blocks = subst (λ them. HasFurtherBlocks (names_in seen.one) flags them 0 [] []) (sym (append-nil flags)) not_yet })
 
-  begins_two : BeginAlike seen.two P.model (true ∷ []) (0 + further_cells_in (map (λ _. false) statics) statics) (0 + length (map (λ _. false) statics)) here here
+  -- beside itself a run lacks no room
+  begins_two : BeginAlike seen.two P.model ⊥ (true ∷ []) (0 + further_cells_in (map (λ _. false) statics) statics) (0 + length (map (λ _. false) statics)) here here
   begins_two =
-      statics_same seen.two P.model with_two (true ∷ []) 0 0 0 (λ n. sym (from_zero n) ∙ sym (no_renumbering statics n) ∙ from_zero (renumbered (map (λ _. false) statics) n)) (λ n. sym (no_flags statics n)) nothing [] [] none_alive
+      statics_same seen.two P.model ⊥ with_two (true ∷ []) 0 0 0 0 (λ n. sym (from_zero n) ∙ sym (no_renumbering statics n) ∙ from_zero (renumbered (map (λ _. false) statics) n)) (λ n. sym (no_flags statics n)) (λ none. absurd none) nothing [] [] refl none_alive
       (record { bounds = no_bounds; so_far = λ k lt flag. absurd (omega (arith, lt)); blocks = not_yet })
 
   abbrev spare : Block
@@ -224,7 +228,7 @@ module _ (P : Program) (u : SourceUnit) (ds : List Declared) (fs : List Function
 
   stands_two : (at : At) → here ≡ Gives tt at → Stands seen.two cells at at.scope (at.memory ++ spare ∷ [])
   stands_two at e =
-      let h = itself seen.two P.model (true ∷ []) (0 + further_cells_in (map (λ _. false) statics) statics) (0 + length (map (λ _. false) statics)) here here at begins_two e e in
+      let h = itself seen.two P.model ⊥ (true ∷ []) (0 + further_cells_in (map (λ _. false) statics) statics) (0 + length (map (λ _. false) statics)) here here at begins_two e e in
       record {
         bounds = h.bounds;
         there = λ k flag. absurd (false≢true flag);
@@ -232,7 +236,7 @@ module _ (P : Program) (u : SourceUnit) (ds : List Declared) (fs : List Function
             (mem.further_next (names_in seen.two) h.blocks spare refl);
       }
 
-  stands_one : (at : At) (scope : List Bound) (memory : Memory) → StandsSoFar seen.one P.model [] (0 + cells) (0 + length flags) at scope memory → Stands seen.one cells at scope memory
+  stands_one : (at : At) (scope : List Bound) (memory : Memory) → StandsSoFar seen.one P.model IsRoomFirst [] (0 + cells) (0 + length flags) at scope memory → Stands seen.one cells at scope memory
   stands_one at scope memory h = record {
     bounds = h.bounds;
     there = λ k flag. h.so_far k (flag_within flags k flag) flag;
@@ -247,12 +251,12 @@ module _ (P : Program) (u : SourceUnit) (ds : List Declared) (fs : List Function
   abbrev Outcome : Answer Flow → Answer Flow → Type 0
   Outcome m n = IsBeside flags (over_by m) (over_by n) ⊎ ((cells ≡ 0 → ⊥) × ((over_by n).end ≡ Cells))
 
-  run_by : (X Y : Answer (Unit {0})) → here ≡ X → BeginAlike seen.one P.model [] (0 + cells) (0 + length flags) X Y
+  run_by : (X Y : Answer (Unit {0})) → here ≡ X → BeginAlike seen.one P.model IsRoomFirst [] (0 + cells) (0 + length flags) X Y
       → Outcome (goes P f (after statics (λ roots. roots)) X) (goes Q (function_with r f) (after others (λ roots. roots)) Y)
   run_by X Y e (both_give {at} {scope} {memory} h) =
       ⊎_elim (λ x. inl x) (λ x. inr (x.0, x.1)) (ended {further = flags} seen refl _ _ _ ((whole_same (spare_root cells 0) refl).alike at scope at.scope memory (at.memory ++ spare ∷ []) (stands_one at scope memory h) (stands_two at e)))
   run_by X Y e (both_end left held h) = inl (record { end = refl; ticks = refl; stubs = refl; marks = refl; not_made = left; cells = held; memory = h })
-  run_by X Y e (begin.no_room some) = inr ((λ none. some (sym (from_zero cells) ∙ none)), refl)
+  run_by X Y e (begin.no_room lacks) = inr ((λ none. lacks (λ n fit. room_for_no_cells (cells_in (take n statics)) cells most_cells none fit)), refl)
 
   begun_q : begun Q (function_with r f) input ≡ started P.model others parameter_names shapes input
   begun_q =
@@ -316,21 +320,25 @@ module _ (P : Program) (u : SourceUnit) (ds : List Declared) (fs : List Function
   abbrev IsSame : Answer Flow → Answer Flow → Type 0
   IsSame m n = IsBeside flags (over_by m) (over_by n)
 
-  room_by : length (over_by (goes P f after_spare here)).at.memory ≡ suc (length (over_by (goes P f (after statics (λ roots. roots)) here)).at.memory) → is_no_room_of there ≡ false → (X Y : Answer (Unit {0})) → here ≡ X → there ≡ Y → BeginAlike seen.one P.model [] (0 + cells) (0 + length flags) X Y
+  all_fit : (at : At) → here ≡ Gives tt at → cells_in statics ≤ most_cells
+  all_fit at e = subst (λ n. n ≤ most_cells) (sym (from_zero (cells_in statics))) (subst (Leaves (0 + cells_in statics)) e (statics_leave P.model 0 0 statics nothing refl none_alive)).1
+
+  room_by : IsRoomFirst → (cells_in statics ≤ most_cells → length (over_by (goes P f after_spare here)).at.memory ≡ suc (length (over_by (goes P f (after statics (λ roots. roots)) here)).at.memory))
+      → (X Y : Answer (Unit {0})) → here ≡ X → BeginAlike seen.one P.model IsRoomFirst [] (0 + cells) (0 + length flags) X Y
       → IsSame (goes P f (after statics (λ roots. roots)) X) (goes Q (function_with r f) (after others (λ roots. roots)) Y)
-  room_by room fits X Y e1 e2 (both_give {at} {scope} {memory} h) =
+  room_by first room X Y e (both_give {at} {scope} {memory} h) =
       let whole = whole_same (spare_root cells (length at.memory)) refl in
       let m = goes P f (after statics (λ roots. roots)) (Gives tt at) in
       ⊎_elim (λ x. x)
-      (λ x. absurd (spared at m x.2 (whole.grows at) (ap (λ m. length (over_by (goes P f after_spare m)).at.memory) (sym e1) ∙ room ∙ ap (λ m. suc (length (over_by (goes P f (after statics (λ roots. roots)) m)).at.memory)) e1 ∙ ap suc (over_long m))))
-      (ended {further = flags} seen refl _ _ _ (whole.alike at scope at.scope memory (at.memory ++ spare ∷ []) (stands_one at scope memory h) (stands_two at e1)))
-  room_by room fits X Y e1 e2 (both_end left held h) = record { end = refl; ticks = refl; stubs = refl; marks = refl; not_made = left; cells = held; memory = h }
-  room_by room fits X Y e1 e2 (begin.no_room some) = absurd (false≢true (sym fits ∙ ap is_no_room_of e2))
+      (λ x. absurd (spared at m x.2 (whole.grows at) (ap (λ m. length (over_by (goes P f after_spare m)).at.memory) (sym e) ∙ room (all_fit at e) ∙ ap (λ m. suc (length (over_by (goes P f (after statics (λ roots. roots)) m)).at.memory)) e ∙ ap suc (over_long m))))
+      (ended {further = flags} seen refl _ _ _ (whole.alike at scope at.scope memory (at.memory ++ spare ∷ []) (stands_one at scope memory h) (stands_two at e)))
+  room_by first room X Y e (both_end left held h) = record { end = refl; ticks = refl; stubs = refl; marks = refl; not_made = left; cells = held; memory = h }
+  room_by first room X Y e (begin.no_room lacks) = absurd (lacks first)
 
   pub run_with_room : HasRoom cells P f input ticks → IsBeside flags (run P f input ticks) (run Q (function_with r f) input ticks)
   run_with_room room =
       subst (λ (first : Step (Unit {0})). IsSame ((begun P f input >> body_of P (invoke P (suc ticks)) f) nothing) ((first >> body_of Q (invoke Q (suc ticks)) (function_with r f)) nothing)) (sym begun_q)
-      (room_by room.throughout (fits_first (0 + cells_in others) there (statics_leave P.model 0 0 others nothing refl (subst (λ n. n ≤ most_cells) (sym (cells_together with_one) ∙ from_zero (cells_in others)) room.first))) here there refl refl begins_one)
+      (room_by room.first room.throughout here there refl begins_one)
 
   run_as_roomy : (k : ℕ) → cells ≡ k → HasRoomFor k P f input ticks → IsBeside flags (run P f input ticks) (run Q (function_with r f) input ticks)
   run_as_roomy zero e room = ⊎_elim (λ x. x) (λ x. absurd (x.0 e)) run_same

@@ -1,5 +1,5 @@
 -- That further objects change nothing.
-use Rattle.std.specs.Prelude.{◌≡◌, ◌≤◌, ◌⊎◌, ℕ, zero, suc, ◌+◌, Bool, List, [], ◌∷◌, length, Some, None}
+use Rattle.std.specs.Prelude.{◌≡◌, ◌≤◌, ◌⊎◌, ℕ, zero, suc, ◌+◌, Bool, List, [], ◌∷◌, length, take, Some, None}
 use Rattle.std.specs.List.{AllByRecursion}
 use Rattle.lt_model.specs.declared.cell.CellType.TheVariants as cell
 use Rattle.lt_model.specs.declared.cell.ShapeCell.{ShapeCell}
@@ -57,12 +57,13 @@ spare_block k = record { name = []; shape = record { cells = bytes_from k 0; siz
 abbrev pub with_spare : ℕ → Input → Input
 with_spare k input = record input { blocks = spare_block k ∷ input.blocks }
 
--- A run has room for so many more cells: the objects that are there from the start fit beside them, and with a spare block of as many cells behind
--- these, memory has one block more in the end. Memory's list of blocks only grows: where the spare block ends the run earlier, it has fewer. So the run
--- never has more alive than the most that may be, less so many; it may end for want of cells at an object that has no room without them either.
+-- A run has room for so many more cells: it never has more alive than the most that may be, less so many. It may end for want of cells at an object
+-- that has no room without them either. Memory's list of blocks only grows: where a spare block ends the run earlier, it has fewer in the end.
 pub record HasRoom (k : ℕ) (p : Program) (f : Function) (input : Input) (ticks : ℕ) : Type 0 where
-  pub first : cells_in (initials p p.objects) + k ≤ most_cells
-  pub throughout : length (run p f (with_spare k input) ticks).at.memory ≡ suc (length (run p f input ticks).at.memory)
+  -- as many of the objects that are there from the start as fit do so beside so many cells more
+  pub first : (n : ℕ) → cells_in (take n (initials p p.objects)) ≤ most_cells → cells_in (take n (initials p p.objects)) + k ≤ most_cells
+  -- where all do, with a spare block of as many cells behind these memory has one block more in the end
+  pub throughout : cells_in (initials p p.objects) ≤ most_cells → length (run p f (with_spare k input) ticks).at.memory ≡ suc (length (run p f input ticks).at.memory)
 
 -- So it has for what has no cells, whatever it does.
 abbrev pub HasRoomFor : ℕ → Program → Function → Input → ℕ → Type 0

@@ -36,7 +36,7 @@ use Rattle.lt_mark_typing.specs.PlacedUnits as units
 use Rattle.lt_mark_typing.specs.PlacedUnits.{in_body, AddsToExternal}
 use Rattle.lt_mark_typing.proofs.Predicates.{integer_there, constant_there}
 use Rattle.lt_mark_typing.proofs.Nodes.{old_first, old_second}
-use Rattle.lt_objective_typing.specs.Laws.{ArePredicates, LabelsOfObjectivesAreNew}
+use Rattle.lt_objective_typing.specs.Laws.{ArePredicates, AreToldThere, LabelsOfObjectivesAreNew}
 use Rattle.lt_typed_nodes.specs.Coming.{ComesTo}
 use Rattle.lt_typed_nodes.specs.Reaching as place
 use Rattle.lt_typed_nodes.specs.Reaching.{IsReached, a_part, behind_label, a_body}
@@ -45,6 +45,7 @@ use Rattle.lt_objective_marks.specs.Settings.{marks_of, Setting, IsIdAt, AreUnus
 use Rattle.lt_objective_marks.specs.Laws.{ObjectivesAreAddedToExpressions}
 use Rattle.lt_objective_marks.specs.Bodies.{begins_with_mark, IsBehindMarks, no_mark, a_mark, DomainsAreThere}
 use Rattle.lt_objective_marks.proofs.Ids.{next_from, next_both, numbered_both, fewer_unused, more_added, then_added, behind, next_of_all, id_of_all}
+use Rattle.lt_objective_marks.proofs.Tags.{nothing_told}
 use Rattle.lt_objective_marks.proofs.Keeping as kept
 use Rattle.lt_objective_marks.proofs.Keeping.{Lies}
 use Rattle.lt_objective_marks.proofs.KeepingUnits.{body_lies}
@@ -59,7 +60,7 @@ before_items : (new : ℕ → Bool) (ls : c.Marks) (used between after : List �
     → AddsToItems new between after around known list js → AddsToItems new used after around known list (labels_before ls js)
 before_items new c.no_marks used between after around known list js unmarked same it = subst (λ used. AddsToItems new used after around known list js) same it
 before_items new (c.a_mark (c.mark predicate id tag c.no_bindings) rest) used between after around known list js unmarked h it =
-    adds.an_added_label unmarked (h.0, h.1, h.2, refl) (before_items new rest (number_of_id id ∷ used) between after around known list js unmarked h.3 it)
+    adds.an_added_label unmarked (h.0, h.1, h.2, h.3, refl) (before_items new rest (number_of_id id ∷ used) between after around known list js unmarked h.4 it)
 before_items new (c.a_mark (c.mark predicate id tag (c.a_binding name value others)) rest) used between after around known list js unmarked h it = absurd h
 
 -- the constant 1 is a predicate
@@ -78,15 +79,23 @@ not_used false h = refl
 body_inside : (k : ℕ) (xs ys zs : List Node) → k + 1 + length xs + length ys + length zs ≤ k + suc (length (xs ++ ys ++ zs))
 body_inside k xs ys zs = omega (arith, length-append (xs ++ ys) zs, length-append xs ys)
 
+-- at the start of a body are no mutants
+told_at_body : (new : ℕ → Bool) (used : List ℕ) (known : Known) (unit : c.Unit) (program : Program) (criterion : Criterion) (k : ℕ) → AreToldThere new used known criterion (at_body unit program criterion k)
+told_at_body new used known unit program C.AbsoluteValue k = tt
+told_at_body new used known unit program C.ArithmeticOperator k = tt
+told_at_body new used known unit program C.LogicalConnector k = tt
+told_at_body new used known unit program C.RelationalOperator k = tt
+told_at_body new used known unit program criterion k = nothing_told new used known criterion (λ is. is) (at_body unit program criterion k)
+
 module _ {new : ℕ → Bool} {unit : c.Unit} {program : Program} {criterion : Criterion} {id : ℕ} (setting : Setting new unit program criterion id) (new_labels : LabelsOfObjectivesAreNew) where
   abbrev marks : List NewMark
   marks = marks_of unit program criterion id
 
   -- labels at the start of a body, numbered among all
   start_labels : (k : ℕ) (ps : List c.Expression) (t : AreTogether unit program criterion (all_at k at_start criterion ps)) (known : Known) (used : List ℕ)
-      → ((used : List ℕ) → ArePredicates new used known ps) → AreUnused marks used k 1
+      → ((used : List ℕ) → ArePredicates new used known ps) → ((used : List ℕ) → AreToldThere new used known criterion ps) → AreUnused marks used k 1
       → (between : List ℕ) × AreNewLabels new used between known (labels at_start (numbered (next_id id t.before) (all_at k at_start criterion ps)) k) × AddsIdsOf marks used between k 1
-  start_labels k ps t known used are unused =
+  start_labels k ps t known used are told unused =
       let these : List Objective = all_at k at_start criterion ps in
       let j : ℕ = next_id id t.before in
       let low : id ≤ j = next_from id t.before in
@@ -102,7 +111,7 @@ module _ {new : ℕ → Bool} {unit : c.Unit} {program : Program} {criterion : C
       λ n from to. let it = id_of_all k at_start criterion refl j n ps from to in
       (it.0, subst (IsAmong it.0) (sym among) (in_second it.0 (numbered id t.before) _ (in_first it.0 (numbered j these) (numbered (next_id j these) t.behind) it.1)), it.2, it.3, it.4) in
       let here : IsWithin k 1 k = (omega arith, omega arith) in
-      let it = new_labels new used known at_start criterion k j ps refl are (omega (arith, low, first)) (omega (arith, end, last))
+      let it = new_labels new used known at_start criterion k j ps refl are told (omega (arith, low, first)) (omega (arith, end, last))
       (λ n from to. (setting.fresh n (omega (arith, low, from)) (omega (arith, end, to)), not_used (is_used n used) (λ is. unused n k is (at n from to) here))) in
       (it.0, it.1, λ n is. elim (it.2 n is) [ inl old ↦ inl old | inr r ↦ inr (k, at n r.0 r.1, here) ])
 
@@ -182,7 +191,8 @@ module _ {new : ℕ → Bool} {unit : c.Unit} {program : Program} {criterion : C
           (externals_are_come_to.1 program.facts known (c.Defines s d body) comes first.0 first.1 first.2 declared second.1 second.2) (a_part reached (a_body first.2 second.2))
           (omega arith) (body_inside k (in_specifiers s) (in_declarator d) (in_items body)) unused
           (λ behind there used unused.
-          let found = start_labels k (at_body unit program criterion k) labelled.together behind used (predicates first.0 first.1 declared second.1 first.2 second.2 behind there) unused in
+          let found = start_labels k (at_body unit program criterion k) labelled.together behind used (predicates first.0 first.1 declared second.1 first.2 second.2 behind there)
+          (λ used. told_at_body new used behind unit program criterion k) unused in
           (found.0, subst (AreNewLabels new used found.0 behind) (sym labelled.labels_are) found.1, found.2)) in
           record {
             after = it.after;

@@ -13,6 +13,7 @@ use Rattle.lt_tree.specs.Typing.Constants.{constant_of}
 use Rattle.lt_tree.specs.Typing.Entities.{Known, greatest_label_id}
 use Rattle.lt_tree.specs.Typing.Programs.{Program}
 use Rattle.lt_objectives.specs.declared.criteria.Criterion.{Criterion}
+use Rattle.lt_objectives.specs.declared.criteria.Criterion.TheVariants as C
 use Rattle.lt_objectives.specs.Criteria.{tag_of}
 use Rattle.lt_objectives.specs.Decisions.{one, decisions, clauses}
 use Rattle.lt_objectives.specs.Places.{core, is_open}
@@ -26,8 +27,10 @@ use Rattle.lt_mark_typing.specs.Beside.{is_used}
 use Rattle.lt_mark_typing.specs.Placed.{IsNewId}
 use Rattle.lt_mark_typing.proofs.Predicates.{constant_there, integer_there}
 use Rattle.lt_objective_typing.specs.Laws.{AddsIds}
+use Rattle.lt_objective_typing.proofs.Ids.{tag_is}
 use Rattle.lt_objective_marks.specs.Settings.{marks_of, Setting, IsIdAt}
 use Rattle.lt_objective_marks.proofs.Given.{Given}
+use Rattle.lt_objective_marks.proofs.Tags.{nothing_told}
 use Rattle.lt_objective_marks.proofs.Shapes as shapes
 use Rattle.lt_objective_marks.proofs.Shapes.{Shape, shape}
 use Rattle.lt_objective_marks.proofs.Labels.{core_is, none_decided, among_all, id_among, least_id, last_id}
@@ -49,12 +52,12 @@ pub two_ids : Given → (new : ℕ → Bool) (criterion : Criterion) (known : Kn
     × AddsIds used (number_of_id (decimal (suc j)) ∷ number_of_id (decimal j) ∷ used) j 2
 two_ids g new criterion known used j first last fresh =
     let there = λ (used : List ℕ). integer_there {new = new} {used' = used} {known = known} one (constant_there (codes "1") (record { type = S.Int; value = pos 1 }) (one_is known.model)) in
-    let it = g.labels new used known in_front criterion 0 j (one ∷ one ∷ []) refl (λ used. (there used, (there used, tt))) first last fresh in
+    let it = g.labels new used known in_front C.Function 0 j (one ∷ one ∷ []) refl (λ used. (there used, (there used, tt))) (λ used. nothing_told new used known C.Function (λ is. is) (one ∷ one ∷ [])) first last fresh in
     let next : j + 1 ≡ suc j = omega arith in (
       it.1.0,
-      subst (λ n. IsNewId new (number_of_id (decimal j) ∷ used) (decimal n)) next it.1.3.0,
-      it.1.1,
-      subst (λ n. AddsIds used (number_of_id (decimal n) ∷ number_of_id (decimal j) ∷ used) j 2) next (subst (λ after. AddsIds used after j 2) it.1.3.3 it.2),
+      subst (λ n. IsNewId new (number_of_id (decimal j) ∷ used) (decimal n)) next it.1.4.0,
+      tag_is criterion,
+      subst (λ n. AddsIds used (number_of_id (decimal n) ∷ number_of_id (decimal j) ∷ used) j 2) next (subst (λ after. AddsIds used after j 2) it.1.4.4 it.2),
     )
 
 -- ---- what is decided

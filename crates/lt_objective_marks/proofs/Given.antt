@@ -10,7 +10,8 @@ use Rattle.lt_tree.specs.Typing.Declarators.{Built}
 use Rattle.lt_tree.specs.Typing.ExpressionTyping as typing
 use Rattle.lt_tree_laws.specs.Typing.NodeNumbers.{PartsAreNumbered}
 use Rattle.lt_objective_places.specs.Laws.{ConstantsAreClosed, PiecesStand, ObjectivesStandWhereTheyMay, MarksAreOfOneNode}
-use Rattle.lt_objective_typing.specs.Laws.{MarkedExpressionsHavePredicates, LabelsOfObjectivesAreNew}
+use Rattle.lt_objective_typing.specs.Laws.{MarkedExpressionsHavePredicates, MarkedExpressionsKeepTheirTypes, LabelsOfObjectivesAreNew}
+use Rattle.lt_mutation_labels.specs.Laws.{MutantsAreToldApart}
 use Rattle.lt_erased_typing.specs.Laws.{CopiesWithLiteralsCanBeErased, TruthsAreTypedAsValues}
 use Rattle.lt_simple_copies.specs.Laws.{CopiesAreSimple}
 use Rattle.lt_typed_nodes.specs.Laws.{ConstantsStay, ValuesHaveTheirTypes}
@@ -35,7 +36,9 @@ pub record Given : Type 0 where
   pub may_stand : ObjectivesStandWhereTheyMay
   pub one_node : MarksAreOfOneNode
   pub predicates : MarkedExpressionsHavePredicates
+  pub types : MarkedExpressionsKeepTheirTypes
   pub labels : LabelsOfObjectivesAreNew
+  pub told : MutantsAreToldApart
   pub truths : TruthsAreTypedAsValues
   pub values : ValuesHaveTheirTypes
   pub operands : OperandsAreComeTo

@@ -19,7 +19,7 @@ use Rattle.lt_objective_places.specs.Laws.{AreTogether, LabelsAreOf}
 use Rattle.lt_objective_places.proofs.Among.{in_first, in_second}
 use Rattle.lt_mark_typing.specs.Beside.{is_used}
 use Rattle.lt_mark_typing.specs.Placed.{AreNewLabels}
-use Rattle.lt_objective_typing.specs.Laws.{ArePredicates}
+use Rattle.lt_objective_typing.specs.Laws.{ArePredicates, AreToldThere}
 use Rattle.lt_erased_typing.specs.Literals.{NamesObjects}
 use Rattle.lt_erased_typing.specs.Simple.{IsSimpleWith}
 use Rattle.lt_erased_typing.specs.Erasable.{CanBeErasedWith}
@@ -33,6 +33,7 @@ use Rattle.lt_objective_marks.proofs.Ends.{and_left}
 use Rattle.lt_objective_marks.proofs.Shapes as shapes
 use Rattle.lt_objective_marks.proofs.Shapes.{Shape, shape}
 use Rattle.lt_objective_marks.proofs.Predicates.{are_predicates}
+use Rattle.lt_objective_marks.proofs.Told.{are_told}
 
 pub not_used : (b : Bool) → (b ≡ true → ⊥) → b ≡ false
 not_used true h = absurd (h refl)
@@ -85,9 +86,9 @@ module _ (g : Given) {new : ℕ → Bool} {unit : c.Unit} {program : Program} {c
   -- ---- labels
 
   new_labels : (k : ℕ) (ps : List c.Expression) (t : AreTogether unit program criterion (all_at k in_front criterion ps)) (known : Known) (used : List ℕ)
-      → ((used : List ℕ) → ArePredicates new used known ps) → AreUnused marks used k 1
+      → ((used : List ℕ) → ArePredicates new used known ps) → ((used : List ℕ) → AreToldThere new used known criterion ps) → AreUnused marks used k 1
       → (between : List ℕ) × AreNewLabels new used between known (labels in_front (numbered (next_id id t.before) (all_at k in_front criterion ps)) k) × AddsIdsOf marks used between k 1
-  new_labels k ps t known used are unused =
+  new_labels k ps t known used are told unused =
       let j = next_id id t.before in
       let low = least_id (all_at k in_front criterion ps) t in
       let high = last_id (all_at k in_front criterion ps) t in
@@ -97,7 +98,7 @@ module _ (g : Given) {new : ℕ → Bool} {unit : c.Unit} {program : Program} {c
       let last = s.last in
       let at : (n : ℕ) → j ≤ n → n < j + length ps → IsIdAt marks k n = λ n from to. id_among (all_at k in_front criterion ps) t k n (id_of_all k in_front criterion refl j n ps from to) in
       let here : IsWithin k 1 k = (omega arith, omega arith) in
-      let it = g.labels new used known in_front criterion k j ps refl are (omega (arith, low, first)) (omega (arith, end, last))
+      let it = g.labels new used known in_front criterion k j ps refl are told (omega (arith, low, first)) (omega (arith, end, last))
       (λ n from to. (s.fresh n (omega (arith, low, from)) (omega (arith, end, to)), not_used (is_used n used) (λ is. unused n k is (at n from to) here))) in
       (it.0, it.1, λ n is. elim (it.2 n is) [ inl old ↦ inl old | inr r ↦ inr (k, at n r.0 r.1, here) ])
 
@@ -131,5 +132,7 @@ module _ (g : Given) {new : ℕ → Bool} {unit : c.Unit} {program : Program} {c
             let simple = g.simple s.greatest s.model unit taken e known reached alone.1 in
             let erasable : (NamesObjects known → CanBeErasedWith true as_value known e) = λ named. g.copies known there.0.behind e there.0.found named alone.0 simple there.0.goes in
             let them = subst (LabelsAreOf unit program criterion in_front known.next id) are labels_of in
-            let found = new_labels known.next (p ∷ ps) them.together known used (are_predicates g s known e may.0 (and_left (is_pure (erased e)) (not (hides e)) alone.0) there.0 erasable there.1 (p ∷ ps) are) unused in
+            let pure = and_left (is_pure (erased e)) (not (hides e)) alone.0 in
+            let found = new_labels known.next (p ∷ ps) them.together known used (are_predicates g s known e may.0 pure there.0 erasable there.1 (p ∷ ps) are)
+            (λ used. are_told g s known e may.0 pure simple there.0 erasable used (p ∷ ps) are) unused in
             labelled found.0 (subst (AreNewLabels new used found.0 known) (sym them.labels_are) found.1) found.2 o may simple

@@ -6,6 +6,9 @@ pub mod Made
 pub mod Values
 pub mod Noted
 pub mod Predicates
+pub mod Tags
+pub mod Staying
+pub mod Told
 pub mod Labels
 pub mod Decided
 pub mod Mutated
@@ -44,14 +47,11 @@ pub mod Pure
 pub mod PurePredicates
 pub mod Numbers
 pub mod OldIds
+pub mod InRounds
 pub mod Rounds
+pub mod OldParts
+pub mod Exact
 pub mod FunctionsStand
 pub mod KnowAsMuch
 pub mod KeptExpressions
 pub mod KeptStatements
-pub mod Apart
-pub mod NamedObjects
-pub mod NamedUnits
-pub mod Reached
-pub mod Operated
-pub mod Told

@@ -114,16 +114,18 @@ module _ (g : Given) {new : ℕ → Bool} {unit : c.Unit} {program : Program} {c
   pub number_behind : (e : c.Expression) (taken : Use) (known : Known) (there : ComesToIt program.facts known taken e) → there.behind.next ≡ known.next + length (in_expression e)
   number_behind e taken known there = subst (λ o. GoesOver (in_expression e) known o) there.goes (g.numbered.0 e taken known)
 
-  -- a signed integer, as what is read of the expression
-  pub signed_found : (m : DataModel) (known : Known) (e : c.Expression) (there : ComesToIt program.facts known as_value e) → is_signed_integer m (type_at unit program known.next) ≡ true
-      → is_integer (own_type there.found) ≡ true
-  signed_found m known e there is =
-      let fact = noted s.greatest s.model unit program s.typed (is_signed_integer m) refl known.next is in
+  -- an integer, as what is read of the expression
+  pub integer_found : (known : Known) (e : c.Expression) (there : ComesToIt program.facts known as_value e) → is_integer (type_at unit program known.next) ≡ true → is_integer (own_type there.found) ≡ true
+  integer_found known e there is =
+      let fact = noted s.greatest s.model unit program s.typed is_integer refl known.next is in
       let at = g.known.0 program.facts known as_value e there in
       let same = some_same program.facts known.next fact.0 _ fact.1 at.2 in
-      let signed : is_signed_integer m (own_type at.0) ≡ true = subst (λ (it : Fact). is_signed_integer m it.type ≡ true) same fact.2 in
-      subst (λ (x : Typed). is_integer (own_type x) ≡ true) (sym at.1)
-      ((g.values at.0).integer ∙ signed_is_integer m (own_type at.0) signed)
+      let integer : is_integer (own_type at.0) ≡ true = subst (λ (it : Fact). is_integer it.type ≡ true) same fact.2 in
+      subst (λ (x : Typed). is_integer (own_type x) ≡ true) (sym at.1) ((g.values at.0).integer ∙ integer)
+
+  pub signed_found : (m : DataModel) (known : Known) (e : c.Expression) (there : ComesToIt program.facts known as_value e) → is_signed_integer m (type_at unit program known.next) ≡ true
+      → is_integer (own_type there.found) ≡ true
+  signed_found m known e there is = integer_found known e there (signed_is_integer m (type_at unit program known.next) is)
 
   -- so it is where it is called
   pub signed_called : (m : DataModel) (known : Known) (e : c.Expression) (there : ComesToIt program.facts known as_callee e) → is_signed_integer m (type_at unit program known.next) ≡ true

@@ -16,6 +16,7 @@ use Rattle.lt_mark_typing.specs.MarkedRuns.{is_from}
 use Rattle.lt_objective_typing.specs.Laws.{LabelsOfObjectivesAreNew}
 use Rattle.lt_objective_marks.specs.Marks.{IsOldAs, IsOldMark, IsPurelyLabelled}
 use Rattle.lt_objective_marks.proofs.Pure.{no_marks_in}
+use Rattle.lt_objective_marks.proofs.Tags.{nothing_told}
 use Rattle.lt_objective_marks.proofs.PurePredicates.{nowhere, pure_there}
 
 pub next_from : (id : ℕ) (them : List Objective) → id ≤ next_id id them
@@ -37,7 +38,8 @@ module _ (labels_are_new : LabelsOfObjectivesAreNew) where
   -- an id is written as the number that it is
   number_is_id : (n : ℕ) → 1 ≤ n → n ≤ greatest_label_id → number_of_id (decimal n) ≡ n
   number_is_id n least most =
-      let it = labels_are_new (λ k. k == n) [] (nowhere n) at_start C.Function 0 n (one ∷ []) refl (λ used. (pure_there (λ k. k == n) used n (eq-eqb n n refl) is_scalar one refl, tt)) least (omega arith)
+      let it = labels_are_new (λ k. k == n) [] (nowhere n) at_start C.Function 0 n (one ∷ []) refl (λ used. (pure_there (λ k. k == n) used n (eq-eqb n n refl) is_scalar one refl, tt))
+      (λ used. nothing_told (λ k. k == n) used (nowhere n) C.Function (λ is. is) (one ∷ [])) least (omega arith)
       (λ k low high. let above : n ≤ k = low in let below : k < n + 1 = high in (eq-eqb k n (omega arith), refl)) in
       eqb-true (number_of_id (decimal n)) n it.1.0.1
 

@@ -1,7 +1,10 @@
 //! Laws of the marks of objectives; the functions call those on which they rest.
 
 ghost use Rattle.lt_objective_marks.specs.Laws.{ObjectivesAreAddedToExpressions};
-ghost use Rattle.lt_objective_marks.specs.Mutants.{LabelsTellMutantsApart};
+ghost use Rattle.lt_objective_marks.specs.Mutants.{
+  MarkedUnitsTellMutantsApart,
+  RoundsTellMutantsApart,
+};
 ghost use Rattle.lt_objective_marks.specs.Rounds.{
   FirstProgramsKnowAsMuch,
   MarkedUnitsOfSetsRunAsTheyDid,
@@ -13,14 +16,16 @@ use lt_erased_typing::{literals_are_typed_without_marks, truths_are_typed_as_val
 use lt_kept_facts::{marked_units_know_the_same, objectives_are_found_by_either};
 use lt_made_types::no_test_is_a_pointer_to_a_function;
 use lt_mark_typing::units_are_typed_again;
+use lt_marked_places::{differences_stay, labels_come_from_units};
 use lt_marked_runs::{programs_are_made_in_steps, programs_run_beside};
-use lt_mutation_labels::{mutants_are_told_apart, predicates_tell_mutants_apart};
+use lt_mutation_labels::mutants_are_told_apart;
 use lt_objective_places::{
     constants_are_closed, marks_are_of_one_node, objectives_stand_where_they_may, pieces_stand,
 };
 use lt_objective_typing::{
     decisions_give_predicates, domains_give_predicates, labels_of_objectives_are_new,
-    marked_expressions_have_predicates, mutants_give_predicates,
+    marked_expressions_have_predicates, marked_expressions_keep_their_types,
+    mutants_give_predicates,
 };
 use lt_simple_copies::copies_are_simple;
 use lt_tree_laws::nodes_are_numbered;
@@ -35,6 +40,8 @@ pub fn objectives_are_added_to_expressions()
     objectives_stand_where_they_may();
     marks_are_of_one_node();
     marked_expressions_have_predicates();
+    marked_expressions_keep_their_types();
+    mutants_are_told_apart();
     labels_of_objectives_are_new();
     truths_are_typed_as_values();
     operands_have_their_types();
@@ -98,14 +105,24 @@ pub fn marked_units_of_sets_run_as_they_did()
     rounds_run_as_they_did();
 }
 
-/// The labels of mutants tell an expression from its mutants exactly.
-pub fn labels_tell_mutants_apart()
-    ensures { LabelsTellMutantsApart }
+/// The labels of mutants that criteria add, one after the other, are exact in the unit with all of them.
+pub fn rounds_tell_mutants_apart()
+    ensures { RoundsTellMutantsApart }
 {
-    nodes_are_numbered();
-    parts_are_come_to();
-    literals_are_typed_without_marks();
-    copies_are_simple();
-    predicates_tell_mutants_apart();
-    mutants_are_told_apart();
+    first_programs_know_as_much();
+    labels_of_objectives_are_new();
+    decisions_give_predicates();
+    mutants_give_predicates();
+    domains_give_predicates();
+    objectives_are_added();
+    units_are_typed_again();
+    labels_come_from_units();
+    differences_stay();
+}
+
+/// So are those that a set of criteria adds, whose ids go on from the greatest of the unit.
+pub fn marked_units_tell_mutants_apart()
+    ensures { MarkedUnitsTellMutantsApart }
+{
+    rounds_tell_mutants_apart();
 }

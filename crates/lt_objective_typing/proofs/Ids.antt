@@ -20,7 +20,7 @@ use Rattle.lt_objectives.specs.Marked.{NewMark, ids_of, numbered, label, labels,
 use Rattle.lt_mark_typing.specs.Beside.{is_used}
 use Rattle.lt_mark_typing.specs.Placed.{AreNewLabels}
 use Rattle.lt_objective_typing.proofs.Both.{both_true}
-use Rattle.lt_objective_typing.specs.Laws.{ArePredicates, AddsIds, LabelsOfObjectivesAreNew}
+use Rattle.lt_objective_typing.specs.Laws.{ArePredicates, AreToldThere, AddsIds, LabelsOfObjectivesAreNew}
 
 own : IsNumeralModel (AllDigits 10) (digits_value 10)
 own = numerals_by_value (AllDigits 10) tells_digits
@@ -69,7 +69,7 @@ id_is n least most =
 number_is_id : (n : ℕ) → 1 ≤ n → n ≤ greatest_label_id → number_of_id (decimal n) ≡ n
 number_is_id n least most = ap (λ found. unwrap_or found 0) (id_is n least most)
 
-tag_is : (criterion : Criterion) → is_tag (tag_of criterion) ≡ true
+pub tag_is : (criterion : Criterion) → is_tag (tag_of criterion) ≡ true
 tag_is C.Function = refl
 tag_is C.InputDomain = refl
 tag_is C.Decision = refl
@@ -114,21 +114,22 @@ module _ (new : ℕ → Bool) (known : Known) (form : Form) (criterion : Criteri
       (both_true (same_form form form) (place == place) (form_itself form) (eq-eqb place place refl))
       ∙ ap (λ n. c.a_mark (label it) (labels form (numbered (id + n) (all_at place form criterion ps)) place)) one
 
-  are_new : (predicates : List c.Expression) (id : ℕ) (used : List ℕ) → ((used : List ℕ) → ArePredicates new used known predicates) → 1 ≤ id → id + length predicates ≤ suc greatest_label_id
+  are_new : (predicates : List c.Expression) (id : ℕ) (used : List ℕ) → ((used : List ℕ) → ArePredicates new used known predicates) → ((used : List ℕ) → AreToldThere new used known criterion predicates) → 1 ≤ id → id + length predicates ≤ suc greatest_label_id
       → ((n : ℕ) → id ≤ n → n < id + length predicates → (new n ≡ true) × (is_used n used ≡ false))
       → (after : List ℕ) × AreNewLabels new used after known (labels form (numbered id (all_at place form criterion predicates)) place) × AddsIds used after id (length predicates)
-  are_new [] id used h least most f = (used, refl, λ n g. inl g)
-  are_new (p ∷ ps) id used h least most f =
+  are_new [] id used h told least most f = (used, refl, λ n g. inl g)
+  are_new (p ∷ ps) id used h told least most f =
       let here = f id (omega arith) (omega arith) in
       let within : id ≤ greatest_label_id = omega arith in
       let number : number_of_id (decimal id) ≡ id = number_is_id id least within in
-      let rest = are_new ps (id + 1) (id ∷ used) (λ used. (h used).1) (omega arith) (omega arith)
+      let rest = are_new ps (id + 1) (id ∷ used) (λ used. (h used).1) (λ used. (told used).1) (omega arith) (omega arith)
       (λ n low high. let there = f n (omega arith) (omega arith) in (there.0, used_not n id used (omega arith) there.1)) in (
         rest.0,
         subst (AreNewLabels new used rest.0 known) (sym (labels_are p ps id)) (
           (ap is_some (id_is id least within), ap new number ∙ here.0, ap (λ n. is_used n used) number ∙ here.1),
           tag_is criterion,
           (h used).0,
+          (told used).0,
           subst (λ n. AreNewLabels new (n ∷ used) rest.0 known (labels form (numbered (id + 1) (all_at place form criterion ps)) place)) (sym number) rest.1,
         ),
         λ n g. elim (rest.2 n g) [
@@ -138,4 +139,4 @@ module _ (new : ℕ → Bool) (known : Known) (form : Form) (criterion : Criteri
       )
 
 pub of_labels : LabelsOfObjectivesAreNew
-of_labels new used known form criterion place id predicates one h least most f = are_new new known form criterion place one predicates id used h least most f
+of_labels new used known form criterion place id predicates one h told least most f = are_new new known form criterion place one predicates id used h told least most f

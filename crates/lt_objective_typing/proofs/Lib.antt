@@ -10,4 +10,4 @@ mod Growing
 mod Parts
 mod Places
 mod Marked
-mod Ids
+pub mod Ids

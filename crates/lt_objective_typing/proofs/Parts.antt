@@ -158,7 +158,7 @@ module _ (known : Known) (named : NamesObjects known) where
       let behind = none_between grows (grown (finish known.next as_value (judge_not one.0) one.1) (finished known.next as_value (judge_not one.0) one.1) one.3) refl in
       typed_at known e is_scalar (negated_is_scalar one.1 known.next one.0 it.0 _ one.3) (part_at known (inside known) one.1 e one.0 named p start first behind)
 
-  binary_parts : (op : Op) (left right : c.Expression) (t : CType) → is_pure (c.Binary op left right) ≡ true → (it : IsTyped known (c.Binary op left right) t)
+  pub binary_parts : (op : Op) (left right : c.Expression) (t : CType) → is_pure (c.Binary op left right) ≡ true → (it : IsTyped known (c.Binary op left right) t)
       → (x : Typed) × (y : Typed) × (k : Known) × (j : Known) × (expression left as_value (inside known) ≡ Goes x k) × (expression right as_value k ≡ Goes y j)
       × (finish known.next as_value (judge_binary op x y j) j ≡ Goes it.0 (record known { next = it.1; objects = known.objects ++ it.3; facts = it.2 }))
       × IsTyped known left (own_type x) × IsTyped known right (own_type y)

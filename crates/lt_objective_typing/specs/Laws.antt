@@ -22,7 +22,8 @@ use Rattle.lt_mark_typing.specs.Beside.{is_used}
 use Rattle.lt_object_laws.specs.Further.{IsFurther}
 use Rattle.lt_erased_typing.specs.Literals.{NamesObjects}
 use Rattle.lt_erased_typing.specs.Erasable.{CanBeErasedWith}
-use Rattle.lt_mark_typing.specs.Placed.{AreNewLabels, IsThere}
+use Rattle.lt_objectives.specs.Criteria.{tag_of}
+use Rattle.lt_mark_typing.specs.Placed.{AreNewLabels, IsThere, IsToldThere}
 
 -- all of these are predicates where this is known
 abbrev pub ArePredicates : (ℕ → Bool) → List ℕ → Known → List c.Expression → Type 0
@@ -91,15 +92,37 @@ MarkedExpressionsHavePredicates =
     × ((t u : CType) → (is_integer t && is_integer u ≡ true → TakesIntegers known e)
     → ArePredicates new used known (differences_from (erased e) (arithmetic_mutants t u (erased e))) × ArePredicates new used known (differences_from (erased e) (relational_mutants t u (erased e))))
 
+-- Going over an expression is quiet there, and its type is this one: it passes each test that the type does.
+abbrev pub IsThereAs : (ℕ → Bool) → List ℕ → Known → CType → c.Expression → Type 0
+IsThereAs new used known type it = (test : CType → Bool) → test type ≡ true → IsThere test new used known it
+
+-- Without its marks each operand of an operator has the type there that it has in the operator.
+abbrev pub OperandsAreThere : (ℕ → Bool) → List ℕ → Known → c.Expression → Type 0
+OperandsAreThere new used known (c.Binary op left right) =
+    (x y : Typed) (k j : Known) → expression left as_value (record known { next = known.next + 1 }) ≡ Goes x k → expression right as_value k ≡ Goes y j
+    → IsThereAs new used known (own_type x) (erased left) × IsThereAs new used known (own_type y) (erased right)
+OperandsAreThere new used known e = Unit {0}
+
+-- Such an expression without its marks has the type there that it has with them, and so have its operands.
+abbrev pub MarkedExpressionsKeepTheirTypes : Type 0
+MarkedExpressionsKeepTheirTypes =
+    (new : ℕ → Bool) (used : List ℕ) (known next : Known) (e : c.Expression) (x : Typed)
+    → is_core e ≡ true → is_pure (erased e) ≡ true → (NamesObjects known → CanBeErasedWith true as_value known e) → expression e as_value known ≡ Goes x next
+    → IsThereAs new used known (own_type x) (erased e) × OperandsAreThere new used known e
+
 -- ids that are used behind labels with so many ids from this one on: those before, and these
 abbrev pub AddsIds : (used after : List ℕ) → (id count : ℕ) → Type 0
 AddsIds used after id count = (n : ℕ) → is_used n after ≡ true → (is_used n used ≡ true) ⊎ ((id ≤ n) × (n < id + count))
 
+-- each of these, as the predicate of a label of this criterion, tells an expression from its mutant exactly there, if the criterion is one of mutants
+abbrev pub AreToldThere : (ℕ → Bool) → List ℕ → Known → Criterion → List c.Expression → Type 0
+AreToldThere new used known criterion list = AllByRecursion (IsToldThere new used known (tag_of criterion)) list
+
 -- The labels of objectives at one place, numbered from an id that is new as the next ones are, are new labels there, if their predicates are predicates there
--- whatever ids are used.
+-- and tell mutants apart, whatever ids are used.
 abbrev pub LabelsOfObjectivesAreNew : Type 0
 LabelsOfObjectivesAreNew =
     (new : ℕ → Bool) (used : List ℕ) (known : Known) (form : Form) (criterion : Criterion) (place id : ℕ) (predicates : List c.Expression)
-    → ids_of form ≡ 1 → ((used : List ℕ) → ArePredicates new used known predicates) → 1 ≤ id → id + length predicates ≤ suc greatest_label_id
+    → ids_of form ≡ 1 → ((used : List ℕ) → ArePredicates new used known predicates) → ((used : List ℕ) → AreToldThere new used known criterion predicates) → 1 ≤ id → id + length predicates ≤ suc greatest_label_id
     → ((n : ℕ) → id ≤ n → n < id + length predicates → (new n ≡ true) × (is_used n used ≡ false))
     → (after : List ℕ) × AreNewLabels new used after known (labels form (numbered id (all_at place form criterion predicates)) place) × AddsIds used after id (length predicates)

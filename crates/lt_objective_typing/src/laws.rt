@@ -1,6 +1,6 @@
 //! Laws of the definitions; the functions call those on which they rest.
 
-ghost use Rattle.lt_objective_typing.specs.Laws.{DecisionsGivePredicates, DomainsGivePredicates, LabelsOfObjectivesAreNew, MarkedExpressionsHavePredicates, MutantsGivePredicates, ObjectivesHavePredicates};
+ghost use Rattle.lt_objective_typing.specs.Laws.{DecisionsGivePredicates, DomainsGivePredicates, LabelsOfObjectivesAreNew, MarkedExpressionsHavePredicates, MarkedExpressionsKeepTheirTypes, MutantsGivePredicates, ObjectivesHavePredicates};
 
 use lt_mark_typing::{named_objects_are_known, predicates_are_made, pure_expressions_are_there};
 
@@ -39,6 +39,14 @@ pub fn marked_expressions_have_predicates()
     ensures { MarkedExpressionsHavePredicates }
 {
     predicates_are_made();
+    pure_expressions_are_there();
+    named_objects_are_known();
+}
+
+/// An expression whose marks can be taken off has the same type without them where it is typed, and so have its operands.
+pub fn marked_expressions_keep_their_types()
+    ensures { MarkedExpressionsKeepTheirTypes }
+{
     pure_expressions_are_there();
     named_objects_are_known();
 }

@@ -170,3 +170,20 @@ pub data IsPart : Piece → Known → Piece → Known → Type 0 where
 pub data IsReached (greatest : ℕ) (model : DataModel) (unit : c.Unit) : Piece → Known → Type 0 where
   the_unit : IsReached greatest model unit (externals unit) (starting greatest model (filter_map defined_in unit))
   a_part : {whole part : Piece} {known k : Known} → IsReached greatest model unit whole known → IsPart whole known part k → IsReached greatest model unit part k
+
+-- ---- labels in front of expressions
+
+-- Typing comes from the first of these marks, where this is known, to one of them, where that is, and goes on over it.
+pub data ComesToMark : c.Marks → Known → c.Mark → Known → Type 0 where
+  first_mark : {m : c.Mark} {rest : c.Marks} {typed : Mark} {known behind : Known} → mark m known ≡ Goes typed behind → ComesToMark (c.a_mark m rest) known m known
+  later_mark : {first m : c.Mark} {rest : c.Marks} {typed : Mark} {known next there : Known}
+      → mark first known ≡ Goes typed next → ComesToMark rest next m there → ComesToMark (c.a_mark first rest) known m there
+
+-- A label stands in front of an expression of the unit, and the typing of the unit comes to it where this is known.
+pub record IsLabelAt (greatest : ℕ) (model : DataModel) (unit : c.Unit) (label : c.Mark) (there : Known) : Type 0 where
+  pub role : Use
+  pub marks_there : c.Marks
+  pub it : c.Expression
+  pub known : Known
+  pub reached : IsReached greatest model unit (an_expression role (c.Marked marks_there it)) known
+  pub comes : ComesToMark marks_there (entered known) label there

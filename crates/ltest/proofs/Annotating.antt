@@ -24,6 +24,8 @@ use Rattle.lt_numbering.specs.Numbering.{most_id}
 use Rattle.lt_survey.specs.Marking.{IdsPass, next_behind}
 use Rattle.lt_label_counts.specs.Laws.{IdsNeverPass}
 use Rattle.lt_mark_typing.specs.MarkedRuns.{is_from, RunsAs}
+use Rattle.lt_mark_typing.specs.MutationLabels.{MutationLabelsAreExact}
+use Rattle.lt_objective_marks.specs.Mutants.{MarkedUnitsTellMutantsApart}
 use Rattle.lt_objective_marks.specs.Rounds.{MarkedUnitsOfSetsRunAsTheyDid}
 use Rattle.lt_marked_texts.specs.Laws.{AnnotatedTextsAreOfUnitsAlone}
 use Rattle.lt_answers.specs.Answers.{most_bytes}
@@ -91,6 +93,15 @@ runs_so never law model set text unit short has =
     let last : next_behind (criteria_in set) it.unit has.program (first_id it.unit) ≤ suc greatest_label_id = low in
     subst (RunsAs (is_from (first_id it.unit)) model has.program) (sym has.is) (law model it.unit has.program set it.typed last)
 
+-- Its labels of mutants are exact.
+pub exact_so : IdsNeverPass → MarkedUnitsTellMutantsApart → (model : DataModel) (set : ℕ) (text : List ℕ) (unit : SourceUnit) → length text ≤ most_bytes → (has : HasAnnotation model set text unit)
+    → MutationLabelsAreExact (is_from (first_id has.is_program.unit)) greatest_label_id model unit
+exact_so never law model set text unit short has =
+    let it = has.is_program in
+    let low = low_so never model set text unit short has in
+    let last : next_behind (criteria_in set) it.unit has.program (first_id it.unit) ≤ suc greatest_label_id = low in
+    subst (MutationLabelsAreExact (is_from (first_id it.unit)) greatest_label_id model) (sym has.is) (law model it.unit has.program set it.typed last)
+
 -- The tokens of the annotated unit's text derive no other unit.
 pub alone_so : IdsNeverPass → AnnotatedTextsAreOfUnitsAlone → (model : DataModel) (set : ℕ) (text : List ℕ) (unit : SourceUnit) → length text ≤ most_bytes → All (λ b. b < 256) text
     → HasAnnotation model set text unit → IsOfUnitAlone (canon unit) unit
@@ -109,9 +120,9 @@ same_so law model set text unit has = ap erased_unit has.is ∙ law.1 has.is_pro
 -- What is given of the unit's text is the answer.
 pub put_so : (model : DataModel) (set : ℕ) (text : List ℕ) (unit : SourceUnit) (bytes : List ℕ) (given : Result (Vec ℕ) TextStop) (has : HasAnnotation model set text unit)
     → IsOfUnitAlone (canon unit) unit → erased_unit unit ≡ erased_unit has.is_program.unit
-    → RunsAs (is_from (first_id has.is_program.unit)) model has.program unit
+    → RunsAs (is_from (first_id has.is_program.unit)) model has.program unit → MutationLabelsAreExact (is_from (first_id has.is_program.unit)) greatest_label_id model unit
     → bytes ≡ canon unit → GivesShallow bytes given → IsAnnotationAnswer model set text given
-put_so model set text unit bytes (Ok out) has alone same runs is it = record {
+put_so model set text unit bytes (Ok out) has alone same runs exact is it = record {
   annotated = unit;
   has = has;
   is = it.is ∙ is;
@@ -119,6 +130,7 @@ put_so model set text unit bytes (Ok out) has alone same runs is it = record {
   alone = subst (λ t. IsOfUnitAlone t unit) (sym (it.is ∙ is)) alone;
   same = same;
   runs = runs;
+  mutants = exact;
 }
-put_so model set text unit bytes (Err (Refused why)) has alone same runs is it = too_deep model set text unit bytes why has is it
-put_so model set text unit bytes (Err NoMemory) has alone same runs is it = tt
+put_so model set text unit bytes (Err (Refused why)) has alone same runs exact is it = too_deep model set text unit bytes why has is it
+put_so model set text unit bytes (Err NoMemory) has alone same runs exact is it = tt

@@ -15,7 +15,7 @@ use lt_label_counts::ids_never_pass;
 use lt_marked_texts::annotated_texts_are_of_units_alone;
 use lt_model::DataModel;
 use lt_nest::greatest_nest;
-use lt_objective_marks::marked_units_of_sets_run_as_they_did;
+use lt_objective_marks::{marked_units_of_sets_run_as_they_did, marked_units_tell_mutants_apart};
 use lt_objectives::{Criteria, marks_are_erased};
 use lt_print::print_unit;
 use lt_token::at_most_one_reading;
@@ -42,6 +42,7 @@ pub fn annotation_text(
     annotated_texts_are_of_units_alone();
     marks_are_erased();
     marked_units_of_sets_run_as_they_did();
+    marked_units_tell_mutants_apart();
     shallow(alloc, bytes)
 }
 

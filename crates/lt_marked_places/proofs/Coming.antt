@@ -1,107 +1,18 @@
--- What holds wherever typing comes to: each object that has a name in scope is known, and the program knows what is found there.
-use Rattle.std.proofs.Common.{ℕ, zero, true, false, List, [], ◌∷◌, Some, arith}
-use Rattle.std.specs.Prelude.{if◌then◌else◌, unwrap_or}
+-- Wherever typing comes to in a unit that has a program it goes on, and the program knows what is found there.
+use Rattle.std.proofs.Common.{ℕ, List, ◌∷◌, Some}
 use Rattle.lt_model.specs.declared.scalar.DataModel.{DataModel}
 use Rattle.lt_tree.specs.Tree as c
 use Rattle.lt_tree.specs.Typing.Entities.{Known, Fact}
-use Rattle.lt_tree.specs.Typing.Steps.{in_block}
-use Rattle.lt_tree.specs.Typing.Expressions.{as_value, as_truth, as_place, as_callee}
-use Rattle.lt_tree.specs.Typing.Specifying.{alone, elsewhere}
-use Rattle.lt_tree.specs.Typing.Declarators.{type_name_faults}
 use Rattle.lt_tree.specs.Typing.Programs.{Program}
 use Rattle.lt_tree.specs.Typing.InitialiserTyping.{initialiser, initialisers, object_initialiser}
-use Rattle.lt_tree.specs.Typing.Declaring.{length_faults, declaration_faults, definition_faults}
-use Rattle.lt_tree.specs.Typing.DeclarationTyping.{has_no_declarator, init_declarators, declaration_by}
-use Rattle.lt_tree.specs.Typing.StatementTyping.{Around, in_a_loop, statement, items, cases}
+use Rattle.lt_tree.specs.Typing.Declaring.{length_faults}
+use Rattle.lt_tree.specs.Typing.DeclarationTyping.{init_declarators, declaration_by}
+use Rattle.lt_tree.specs.Typing.StatementTyping.{statement, items, cases}
 use Rattle.lt_tree.specs.Typing.UnitTyping.{external, externals, IsProgramTo}
 use Rattle.lt_typed_nodes.specs.Coming.{entered, ComesTo, ComesToIt, ComesToAll, in_new_block, OperandsAreComeTo}
 use Rattle.lt_typed_nodes.specs.ComingItems.{UnitsAreComeTo, ExternalsAreComeTo, DeclarationsAreComeTo, InitialisersAreComeTo, StatementsAreComeTo}
 use Rattle.lt_typed_nodes.specs.Reaching as place
 use Rattle.lt_typed_nodes.specs.Reaching.{Piece, IsPart, IsReached, the_unit, a_part, an_array, a_callee, a_left, a_first, a_test, a_target, a_whole, a_pointer, incremented_after, decremented_after, incremented, decremented, an_operand, in_comma, a_decision, in_after, an_index, a_right, if_true, a_second, an_assigned, arguments, a_cast, if_false, behind_marks, one_expression, more_expressions, start_value, start_braces, a_value, braces, one_initialiser, more_initialisers, its_declarators, its_start, more_declarators, in_compound, evaluated, if_test, if_body, if_else_test, if_else_body, else_body, while_test, while_body, do_body, do_test, for_first, for_declares, for_test, for_step, for_body, switch_operand, switch_cases, returned, an_item_declares, behind_declaration, an_item, behind_statement, behind_label, one_case, more_cases, a_body, declared, one_external, more_externals}
-use Rattle.lt_objective_marks.proofs.NamedObjects.{Knows, Stays, behind, inside, scoped, of_expression, of_marks, of_mark, of_specifiers, of_declarator}
-use Rattle.lt_objective_marks.proofs.NamedUnits.{of_initialiser, of_declare_object, of_init_declarator, of_declaration_by, of_optional, of_optional_test, of_start, of_labels, of_statement, body_knows, of_external}
-
--- ---- names
-
--- in a block
-within_block : (known : Known) → Knows zero known → Knows zero (in_new_block known)
-within_block known h = ((omega arith), (tt, h.1))
-
-of_block : (it : c.Statement) (around : Around) (known : Known) → Knows zero known → Stays zero (in_block (statement it around) known)
-of_block it around known h = scoped _ h.1 h.0 (of_statement it around (in_new_block known) (inside known h))
-
-named_part : {whole part : Piece} {known k : Known} → IsPart whole known part k → Knows zero known → Knows zero k
-named_part an_array h = h
-named_part (an_index {base = base} {known = known} is) h = (behind (of_expression base as_value (entered known) h) is).1
-named_part a_callee h = h
-named_part (arguments {callee = callee} {known = known} is) h = (behind (of_expression callee as_callee (entered known) h) is).1
-named_part a_whole h = h
-named_part a_pointer h = h
-named_part incremented_after h = h
-named_part decremented_after h = h
-named_part incremented h = h
-named_part decremented h = h
-named_part an_operand h = h
-named_part (a_cast {s = s} {d = d} {known = known} {k = k} {it = it} is type) h = (behind (of_declarator d it false (λ name known b. type_name_faults b) k (behind (of_specifiers s elsewhere (entered known) h) is).1) type).1
-named_part a_left h = h
-named_part (a_right {left = left} {known = known} is) h = (behind (of_expression left as_value (entered known) h) is).1
-named_part a_first h = h
-named_part (a_second {left = left} {known = known} is) h = (behind (of_expression left as_truth (entered known) h) is).1
-named_part a_test h = h
-named_part (if_true {test = test} {known = known} is) h = (behind (of_expression test as_truth (entered known) h) is).1
-named_part (if_false {test = test} {left = left} {known = known} {k = k} tested is) h = (behind (of_expression left as_value k (behind (of_expression test as_truth (entered known) h) tested).1) is).1
-named_part a_target h = h
-named_part (an_assigned {target = target} {known = known} is) h = (behind (of_expression target as_place (entered known) h) is).1
-named_part in_comma h = h
-named_part (behind_marks {ms = ms} {known = known} is) h = (behind (of_marks ms (entered known) h) is).1
-named_part a_decision h = h
-named_part in_after h = h
-named_part one_expression h = h
-named_part (more_expressions {first = first} {known = known} is) h = (behind (of_expression first as_value known h) is).1
-named_part (start_value none) h = h
-named_part start_braces h = h
-named_part (a_value none) h = h
-named_part braces h = h
-named_part one_initialiser h = h
-named_part (more_initialisers {is_there = is_there} {filling = filling} {first = first} {known = known} is) h = (behind (of_initialiser first is_there filling known h) is).1
-named_part (its_declarators {d = d} {known = known} is) h = (behind (of_specifiers d.specifiers (if has_no_declarator d.declarators then alone else elsewhere) known h) is).1
-named_part (its_start {it = it} {d = d} {declared = what} {name = name} {life = life} {is_register = is_register} {known = known} {k = k} is name_is kind made) h = (behind (of_declare_object life is_register what.node name what.type k (behind (of_declarator d it false (declaration_faults it.storage true) known h) is).1) made).1
-named_part (more_declarators {it = it} {d = d} {known = known} is) h = (behind (of_init_declarator it d known h) is).1
-named_part (in_compound {known = known}) h = within_block (entered known) h
-named_part evaluated h = h
-named_part (if_test {known = known}) h = within_block (entered known) h
-named_part (if_body {test = test} {known = known} {k = k} is) h = within_block k (behind (of_expression test as_truth (in_new_block (entered known)) (within_block (entered known) h)) is).1
-named_part (if_else_test {known = known}) h = within_block (entered known) h
-named_part (if_else_body {test = test} {known = known} {k = k} is) h = within_block k (behind (of_expression test as_truth (in_new_block (entered known)) (within_block (entered known) h)) is).1
-named_part (else_body {around = around} {test = test} {body = body} {known = known} {k = k} {j = j} is first) h = within_block j (behind (of_block body around k (behind (of_expression test as_truth (in_new_block (entered known)) (within_block (entered known) h)) is).1) first).1
-named_part (while_test {known = known}) h = within_block (entered known) h
-named_part (while_body {test = test} {known = known} {k = k} is) h = within_block k (behind (of_expression test as_truth (in_new_block (entered known)) (within_block (entered known) h)) is).1
-named_part (do_body {known = known}) h = within_block (in_new_block (entered known)) (within_block (entered known) h)
-named_part (do_test {around = around} {body = body} {known = known} first) h = (behind (of_block body (in_a_loop around) (in_new_block (entered known)) (within_block (entered known) h)) first).1
-named_part (for_first {known = known}) h = within_block (entered known) h
-named_part (for_declares {known = known}) h = within_block (entered known) h
-named_part (for_test {begin = begin} {known = known} first) h = (behind (of_start begin (in_new_block (entered known)) (within_block (entered known) h)) first).1
-named_part (for_step {begin = begin} {test = test} {known = known} {k = k} first tested) h = (behind (of_optional_test test k (behind (of_start begin (in_new_block (entered known)) (within_block (entered known) h)) first).1) tested).1
-named_part (for_body {begin = begin} {test = test} {step = step} {known = known} {k = k} {j = j} {i = i} first tested stepped) h = within_block i (behind (of_optional step j (behind (of_optional_test test k (behind (of_start begin (in_new_block (entered known)) (within_block (entered known) h)) first).1) tested).1) stepped).1
-named_part (switch_operand {known = known}) h = within_block (entered known) h
-named_part (switch_cases {operand = operand} {known = known} is) h = (behind (of_expression operand as_truth (in_new_block (entered known)) (within_block (entered known) h)) is).1
-named_part returned h = h
-named_part an_item_declares h = h
-named_part (behind_declaration {first = first} {known = known} is) h = (behind (of_declaration_by (λ class. class) first (entered known) h) is).1
-named_part an_item h = h
-named_part (behind_statement {around = around} {first = first} {known = known} is) h = (behind (of_statement first around (entered known) h) is).1
-named_part (behind_label {first = first} {known = known} is) h = (behind (of_mark first (entered known) h) is).1
-named_part (one_case {type = type} {seen = seen} {list = list} {known = known} {k = k} is) h = within_block k (behind (of_labels list type seen known h) is).1
-named_part (more_cases {type = type} {seen = seen} {around = around} {list = list} {first = first} {known = known} {k = k} is body) h = (behind (of_block first around k (behind (of_labels list type seen known h) is).1) body).1
-named_part (a_body {s = s} {d = d} {it = it} {declared = what} {known = known} {k = k} {j = j} is type) h = let there = behind (of_declarator d it true (definition_faults it.storage) k (behind (of_specifiers s elsewhere (entered known) h) is).1) type in body_knows (unwrap_or what.name []) what.type what.parameters j there.0 there.1
-named_part declared h = h
-named_part one_external h = h
-named_part (more_externals {x = x} {known = known} is) h = (behind (of_external x known h) is).1
-
--- each object that has a name in scope is known
-pub named : {greatest : ℕ} {model : DataModel} {unit : c.Unit} {it : Piece} {known : Known} → IsReached greatest model unit it known → Knows zero known
-named the_unit = ((omega arith), (tt, tt))
-named (a_part reached part) = named_part part (named reached)
 
 -- ---- what is found
 

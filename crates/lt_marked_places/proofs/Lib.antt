@@ -1,0 +1,12 @@
+pub mod Coming
+pub mod Standing
+pub mod Both
+pub mod MarksBeside
+pub mod Expressions
+pub mod Labels
+pub mod Statements
+pub mod Initialisers
+pub mod Declarations
+pub mod Units
+pub mod Naming
+pub mod Differences

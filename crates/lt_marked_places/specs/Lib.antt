@@ -1,0 +1,2 @@
+pub use Rattle.lt_meaning.specs.Runs
+pub mod Laws

@@ -1,0 +1,4 @@
+mod Lists
+mod NamedParts
+mod NamedCells
+pub mod NamedInputs
