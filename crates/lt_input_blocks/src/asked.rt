@@ -1,15 +1,14 @@
 //! What is asked of the type of a block's elements.
 
-ghost use Rattle.std.specs.Prelude.{◌≡◌, ◌*◌, Some, not, nat_lt, true, false};
-ghost use Rattle.lt_model.specs.Layout.{most_cells};
+ghost use Rattle.std.specs.Prelude.{◌≡◌, Some, true, false};
 ghost use Rattle.lt_tree.specs.Typing.Types.{CType};
 ghost use Rattle.lt_tree.specs.Typing.Programs.{Program};
 ghost use Rattle.lt_entry.specs.Conditions.{is_block};
 ghost use Rattle.lt_entry.specs.Views.{numeral_view};
 ghost use Rattle.lt_input_blocks.specs.Elements.{IsAsked};
 
-use crate::facts::MOST_CELLS;
 use lt_entry::Numeral;
+use lt_input_wants::is_object;
 
 /// What is asked of the type of a block's elements.
 #[derive(Clone, Copy)]
@@ -31,11 +30,4 @@ pub fn is_block(asked: Asked, count: Numeral) -> bool
         && asked.has_size
         && !asked.is_pointer_to_function
         && is_object(asked.cells, count.size)
-}
-
-// Whether an object may have so many elements with so many cells.
-fn is_object(cells: u32, count: u64) -> bool
-    ensures { result ≡ not (nat_lt most_cells (count * cells)) }
-{
-    u128::from(count) * u128::from(cells) <= u128::from(MOST_CELLS)
 }

@@ -8,8 +8,9 @@ ghost use Rattle.lt_input_blocks.specs.Facts.{HaveFacts, capped, facts_at};
 ghost use Rattle.lt_input_blocks.specs.Cells as spec;
 ghost use Rattle.lt_input_blocks.specs.Cells.{AreCells, AreSettled, members_among, struct_cells_by, is_settled};
 
-use crate::facts::{Facts, MOST_CELLS, Part, facts_at, times};
+use crate::facts::{Facts, Part, facts_at, times};
 use crate::order::order;
+use lt_input_wants::MOST_CELLS;
 use lt_tree::typed::{Member, StructType};
 use std::alloc::{AllocError, Global};
 

@@ -5,11 +5,9 @@ ghost use Rattle.lt_tree.specs.Typing.Types.{CType};
 ghost use Rattle.lt_tree.specs.Typing.TypeRows.{type_of_row, types_of_rows};
 ghost use Rattle.lt_input_blocks.specs.Facts.{AreFacts, AreAllFacts, HaveFacts, capped, facts_at, plain_facts};
 
+use lt_input_wants::MOST_CELLS;
 use lt_tree::typed::{TypeId, TypeRow};
 use std::alloc::{AllocError, Global};
-
-/// The most cells that an object may have.
-pub const MOST_CELLS: u32 = 1_048_576;
 
 /// What an object of a type is made of.
 #[derive(Clone, Copy)]

@@ -5,9 +5,7 @@ use Rattle.lt_model.specs.declared.input.FreeCell.{FreeCell}
 use Rattle.lt_model.specs.declared.input.Place.{Place}
 use Rattle.lt_model.specs.declared.input.Want.{Want}
 use Rattle.lt_model.specs.declared.input.Want.TheVariants as want
-use Rattle.lt_model.specs.declared.input.StubRange.{StubRange}
 use Rattle.lt_model.specs.declared.scalar.DataModel.{DataModel}
-use Rattle.lt_model.specs.Scalar.{least_of, greatest_of}
 use Rattle.lt_tree.specs.declared.typed.entity.Object.{Object}
 use Rattle.lt_tree.specs.declared.typed.types.TypeId.{TypeId}
 use Rattle.lt_tree.specs.declared.typed.program.Program as typed
@@ -17,7 +15,6 @@ use Rattle.lt_tree.specs.Typing.Programs.{Program}
 use Rattle.lt_meaning.specs.Expressions.{shape}
 use Rattle.lt_entry.specs.Written.{default_name}
 use Rattle.lt_entry.specs.Naming.{Root, Block, object_root, default_block}
-use Rattle.lt_entry.specs.Conditions.{Stub}
 use Rattle.lt_entry.specs.Meaning.{any_value, zero_start, place_in, null_or_default}
 use Rattle.lt_input_names.specs.Blocks.{program_types}
 
@@ -50,7 +47,3 @@ plain_cell model name pointer it = record {
 abbrev pub parameter_cells : Program → Root → List FreeCell
 parameter_cells program parameter =
     map (plain_cell program.model parameter.name (null_or_default program parameter)) (shape program parameter.type).cells
-
--- the range of a function without a body of which no line says anything
-abbrev pub whole_range : DataModel → Stub → StubRange
-whole_range model stub = record { name = stub.name; lo = least_of model stub.type; hi = greatest_of model stub.type }

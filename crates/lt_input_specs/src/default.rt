@@ -9,7 +9,8 @@ ghost use Rattle.lt_entry.specs.Specifications.{specification_in};
 ghost use Rattle.lt_input_names.specs.Blocks.{specification_of};
 ghost use Rattle.lt_input_names.specs.Kinds.{AreKinds};
 ghost use Rattle.lt_input_specs.specs.Reading.{IsDefaultAnswer};
-ghost use Rattle.lt_input_specs.specs.Defaults.{root_of, parameter_cells, plain_cell, whole_range};
+ghost use Rattle.lt_input_specs.specs.Defaults.{root_of, parameter_cells, plain_cell};
+ghost use Rattle.lt_input_wants.specs.Stubs.{whole_range};
 ghost use Rattle.lt_input_names.specs.Stubs.{stub_view};
 
 use crate::cells::put_cells;
@@ -17,7 +18,8 @@ use crate::entry::last_entry;
 use crate::parameters::{default_blocks, default_name, parameters_of, target_of};
 use crate::stops::NoSpec;
 use lt_input_names::{Kinds, Specification, Stub, stubs_of};
-use lt_model::{BlockIn, DataModel, FreeCell, Name, Sequence, Spec, StubRange, greatest, least};
+use lt_input_wants::whole_range;
+use lt_model::{BlockIn, DataModel, FreeCell, Sequence, Spec, StubRange};
 use lt_tables::Tables;
 use lt_tree::typed::{Object, Program};
 use std::alloc::{AllocError, Global};
@@ -194,11 +196,7 @@ fn ranges_among(
 {
     let mut ranges = Vec::new(alloc);
     for stub in stubs {
-        ranges.push(StubRange {
-            name: Name::new(alloc, stub.name)?,
-            lo: least(model, stub.ty),
-            hi: greatest(model, stub.ty),
-        })?;
+        ranges.push(whole_range(alloc, model, stub.name, stub.ty)?)?;
     }
     Ok(ranges)
 }

@@ -18,8 +18,10 @@ use Rattle.lt_entry.specs.Conditions.{same_place, each_named, Stub, stub_among, 
 use Rattle.lt_entry.specs.Suites.{SuiteLine, test_line, set_line, point_line, values_line, is_suite_form, sets_cell, sets_stub, is_number, is_target_for, fits_in_test, cells_set, stubs_set, points_to}
 use Rattle.lt_entry.proofs.PieceLaws.{both}
 use Rattle.lt_input_names.specs.Stubs.{has_name}
+use Rattle.lt_input_wants.specs.declared.marked.MarkedPlaces.{MarkedPlaces}
+use Rattle.lt_input_wants.specs.Marks.{Marks, is_marked}
 use Rattle.lt_input_suites.specs.declared.begun.Begun.{Begun}
-use Rattle.lt_input_suites.specs.Drafts.{has_place, HasSet, Marks, IsPut}
+use Rattle.lt_input_suites.specs.Drafts.{HasSet, IsPut}
 use Rattle.lt_input_suites.proofs.Said.{any_last}
 use Rattle.lt_input_suites.proofs.Sets.{or_comm}
 
@@ -57,28 +59,28 @@ begins_put scope lines name test has = record {
 -- ---- cells
 
 one_fits : (scope : Scope) (lines : List SuiteLine) (test : Begun) (p : Named → Bool) (its : List Named) (it : Named) → its ≡ it ∷ [] → HasSet scope lines test
-    → each_named (λ it. p it && not (list_any (sets_cell scope it.place) lines)) its ≡ (p it && not (has_place test.places it.place))
+    → each_named (λ it. p it && not (list_any (sets_cell scope it.place) lines)) its ≡ (p it && not (is_marked test.places it.place))
 one_fits scope lines test p its it e has =
     ap (each_named (λ it. p it && not (list_any (sets_cell scope it.place) lines))) e
     ∙ and_true (p it && not (list_any (sets_cell scope it.place) lines))
     ∙ ap (λ t. p it && not t) (sym (has.places it.place))
 
 pub set_fits : (scope : Scope) (lines : List SuiteLine) (test : Begun) (place : PlaceWord) (value : Numeral) (it : Named) → named_by scope place ≡ it ∷ [] → HasSet scope lines test
-    → fits_in_test scope lines (set_line place value) ≡ (is_number scope.program.model value (scalar_of it.type) && not (has_place test.places it.place))
+    → fits_in_test scope lines (set_line place value) ≡ (is_number scope.program.model value (scalar_of it.type) && not (is_marked test.places it.place))
 set_fits scope lines test place value it e has = one_fits scope lines test (λ it. is_number scope.program.model value (scalar_of it.type)) (named_by scope place) it e has
 
 pub set_nothing : (scope : Scope) (lines : List SuiteLine) (place : PlaceWord) (value : Numeral) → named_by scope place ≡ [] → fits_in_test scope lines (set_line place value) ≡ false
 set_nothing scope lines place value e = rw e refl
 
 pub set_bad : (scope : Scope) (lines : List SuiteLine) (test : Begun) (place : PlaceWord) (value : Numeral) (it : Named) → named_by scope place ≡ it ∷ [] → HasSet scope lines test → is_number scope.program.model value (scalar_of it.type) ≡ false → fits_in_test scope lines (set_line place value) ≡ false
-set_bad scope lines test place value it e has bad = set_fits scope lines test place value it e has ∙ ap (λ t. t && not (has_place test.places it.place)) bad
+set_bad scope lines test place value it e has bad = set_fits scope lines test place value it e has ∙ ap (λ t. t && not (is_marked test.places it.place)) bad
 
-pub set_twice : (scope : Scope) (lines : List SuiteLine) (test marked : Begun) (place : PlaceWord) (value : Numeral) (it : Named) → named_by scope place ≡ it ∷ [] → HasSet scope lines test → Marks it.place test marked false → fits_in_test scope lines (set_line place value) ≡ false
+pub set_twice : (scope : Scope) (lines : List SuiteLine) (test : Begun) (marked : MarkedPlaces) (place : PlaceWord) (value : Numeral) (it : Named) → named_by scope place ≡ it ∷ [] → HasSet scope lines test → Marks it.place test.places marked false → fits_in_test scope lines (set_line place value) ≡ false
 set_twice scope lines test marked place value it e has marks =
     set_fits scope lines test place value it e has ∙ ap (λ t. is_number scope.program.model value (scalar_of it.type) && t) (sym marks.added) ∙ and_false (is_number scope.program.model value (scalar_of it.type))
 
 pub point_fits : (scope : Scope) (lines : List SuiteLine) (test : Begun) (place : PlaceWord) (target : TargetWord) (it : Named) → named_by scope place ≡ it ∷ [] → HasSet scope lines test
-    → fits_in_test scope lines (point_line place target) ≡ (is_target_for scope target (target_of it.type) && not (has_place test.places it.place))
+    → fits_in_test scope lines (point_line place target) ≡ (is_target_for scope target (target_of it.type) && not (is_marked test.places it.place))
 point_fits scope lines test place target it e has = one_fits scope lines test (λ it. is_target_for scope target (target_of it.type)) (named_by scope place) it e has
 
 pub point_nothing : (scope : Scope) (lines : List SuiteLine) (place : PlaceWord) (target : TargetWord) → named_by scope place ≡ [] → fits_in_test scope lines (point_line place target) ≡ false
@@ -97,37 +99,36 @@ target_there scope target (Some pointed) found e = no_length (targets_of scope p
 pub point_bad : (scope : Scope) (lines : List SuiteLine) (test : Begun) (place : PlaceWord) (target : TargetWord) (it : Named) → named_by scope place ≡ it ∷ [] → HasSet scope lines test
     → unwrap_or (option_map (λ pointed. targets_of scope pointed target) (target_of it.type)) [] ≡ [] → fits_in_test scope lines (point_line place target) ≡ false
 point_bad scope lines test place target it e has none =
-    point_fits scope lines test place target it e has ∙ ap (λ t. t && not (has_place test.places it.place)) (target_there scope target (target_of it.type) None none)
+    point_fits scope lines test place target it e has ∙ ap (λ t. t && not (is_marked test.places it.place)) (target_there scope target (target_of it.type) None none)
 
-pub point_twice : (scope : Scope) (lines : List SuiteLine) (test marked : Begun) (place : PlaceWord) (target : TargetWord) (it : Named) → named_by scope place ≡ it ∷ [] → HasSet scope lines test → Marks it.place test marked false → fits_in_test scope lines (point_line place target) ≡ false
+pub point_twice : (scope : Scope) (lines : List SuiteLine) (test : Begun) (marked : MarkedPlaces) (place : PlaceWord) (target : TargetWord) (it : Named) → named_by scope place ≡ it ∷ [] → HasSet scope lines test → Marks it.place test.places marked false → fits_in_test scope lines (point_line place target) ≡ false
 point_twice scope lines test marked place target it e has marks =
     point_fits scope lines test place target it e has ∙ ap (λ t. is_target_for scope target (target_of it.type) && t) (sym marks.added) ∙ and_false (is_target_for scope target (target_of it.type))
 
 -- what is marked is the place of the part
-pub marked_at : (at : Place) (root : List ℕ) (old new : Begun) (b c : Bool) → at.root ≡ root → b ≡ c → Marks (record { root = root; offset = at.offset }) old new b → Marks at old new c
+pub marked_at : (at : Place) (root : List ℕ) (old new : MarkedPlaces) (b c : Bool) → at.root ≡ root → b ≡ c → Marks (record { root = root; offset = at.offset }) old new b → Marks at old new c
 marked_at at root old new b c e f marks =
     subst (λ c. Marks at old new c) f (subst (λ r. Marks (record { root = r; offset = at.offset }) old new b) (sym e) marks)
 
 -- The line sets this cell, and the test has marked it.
-cell_put : (scope : Scope) (lines : List SuiteLine) (line : SuiteLine) (at : Place) (old marked new : Begun)
+cell_put : (scope : Scope) (lines : List SuiteLine) (line : SuiteLine) (at : Place) (old new : Begun)
     → ((place : Place) → sets_cell scope place line ≡ same_place at place) → ((name : List ℕ) → sets_stub name line ≡ false) → stubs_set line ≡ []
-    → Marks at old marked true → HasSet scope lines old → fits_in_test scope lines line ≡ true
-    → new.name ≡ marked.name → new.stubs ≡ marked.stubs → new.places ≡ marked.places → new.functions ≡ marked.functions
-    → new.cells.items ≡ marked.cells.items ++ cells_set scope line
+    → Marks at old.places new.places true → HasSet scope lines old → fits_in_test scope lines line ≡ true
+    → new.name ≡ old.name → new.stubs ≡ old.stubs → new.functions ≡ old.functions
+    → new.cells.items ≡ old.cells.items ++ cells_set scope line
     → IsPut scope lines line old new true
-cell_put scope lines line at old marked new sets calls stubs marks has fits names same places functions cells = record {
+cell_put scope lines line at old new sets calls stubs marks has fits names same functions cells = record {
   fits = sym fits;
   said = λ h. test_is new.name.now old.name.now new.cells.items (old.cells.items ++ cells_set scope line) new.stubs.items (old.stubs.items ++ stubs_set line)
-      (ap (λ name. name.now) names ∙ ap (λ (t : Begun). t.name.now) marks.others)
-      (cells ∙ ap (λ (t : Begun). t.cells.items ++ cells_set scope line) marks.others)
-      (ap (λ v. v.items) same ∙ ap (λ (t : Begun). t.stubs.items) marks.others ∙ sym (ap (λ l. old.stubs.items ++ l) stubs ∙ append-nil old.stubs.items));
+      (ap (λ name. name.now) names) cells
+      (ap (λ v. v.items) same ∙ sym (ap (λ l. old.stubs.items ++ l) stubs ∙ append-nil old.stubs.items));
   set = λ h. record {
     places = λ place.
-        ap (λ set. has_place set place) places ∙ marks.places place ∙ or_comm (same_place at place) (has_place old.places place)
+        marks.places place ∙ or_comm (same_place at place) (is_marked old.places place)
         ∙ ap (λ t. t || same_place at place) (has.places place)
         ∙ sym (any_last (sets_cell scope place) lines line ∙ ap (λ t. list_any (sets_cell scope place) lines || t) (sets place));
     functions = λ name.
-        ap (λ set. has_name set name) functions ∙ ap (λ (t : Begun). has_name t.functions name) marks.others ∙ has.functions name
+        ap (λ set. has_name set name) functions ∙ has.functions name
         ∙ sym (any_last (sets_stub name) lines line ∙ ap (λ t. list_any (sets_stub name) lines || t) (calls name) ∙ or_false (list_any (sets_stub name) lines));
   };
 }
@@ -135,29 +136,29 @@ cell_put scope lines line at old marked new sets calls stubs marks has fits name
 one_place : (its : List Named) (it : Named) (place : Place) → its ≡ it ∷ [] → list_any (λ it. same_place it.place place) its ≡ same_place it.place place
 one_place its it place e = ap (list_any (λ (it : Named). same_place it.place place)) e ∙ or_false (same_place it.place place)
 
-pub set_put : (scope : Scope) (lines : List SuiteLine) (place : PlaceWord) (value : Numeral) (it : Named) (old marked new : Begun) → named_by scope place ≡ it ∷ []
+pub set_put : (scope : Scope) (lines : List SuiteLine) (place : PlaceWord) (value : Numeral) (it : Named) (old new : Begun) → named_by scope place ≡ it ∷ []
     → is_number scope.program.model value (scalar_of it.type) ≡ true
-    → Marks it.place old marked true → HasSet scope lines old
-    → new.name ≡ marked.name → new.stubs ≡ marked.stubs → new.places ≡ marked.places → new.functions ≡ marked.functions
-    → new.cells.items ≡ marked.cells.items ++ cellset.Number it.place (value_of value) ∷ []
+    → Marks it.place old.places new.places true → HasSet scope lines old
+    → new.name ≡ old.name → new.stubs ≡ old.stubs → new.functions ≡ old.functions
+    → new.cells.items ≡ old.cells.items ++ cellset.Number it.place (value_of value) ∷ []
     → IsPut scope lines (set_line place value) old new true
-set_put scope lines place value it old marked new e number marks has names same places functions cells =
-    cell_put scope lines (set_line place value) it.place old marked new (λ other. one_place (named_by scope place) it other e) (λ name. refl) refl marks has
+set_put scope lines place value it old new e number marks has names same functions cells =
+    cell_put scope lines (set_line place value) it.place old new (λ other. one_place (named_by scope place) it other e) (λ name. refl) refl marks has
     (set_fits scope lines old place value it e has ∙ rw (number, sym marks.added) refl)
-    names same places functions
-    (cells ∙ ap (λ its. marked.cells.items ++ map (λ (it : Named). cellset.Number it.place (value_of value)) its) (sym e))
+    names same functions
+    (cells ∙ ap (λ its. old.cells.items ++ map (λ (it : Named). cellset.Number it.place (value_of value)) its) (sym e))
 
-pub point_put : (scope : Scope) (lines : List SuiteLine) (place : PlaceWord) (target : TargetWord) (to : Option Place) (it : Named) (old marked new : Begun) → named_by scope place ≡ it ∷ []
+pub point_put : (scope : Scope) (lines : List SuiteLine) (place : PlaceWord) (target : TargetWord) (to : Option Place) (it : Named) (old new : Begun) → named_by scope place ≡ it ∷ []
     → unwrap_or (option_map (λ pointed. targets_of scope pointed target) (target_of it.type)) [] ≡ to ∷ []
-    → Marks it.place old marked true → HasSet scope lines old
-    → new.name ≡ marked.name → new.stubs ≡ marked.stubs → new.places ≡ marked.places → new.functions ≡ marked.functions
-    → new.cells.items ≡ marked.cells.items ++ cellset.Point it.place to ∷ []
+    → Marks it.place old.places new.places true → HasSet scope lines old
+    → new.name ≡ old.name → new.stubs ≡ old.stubs → new.functions ≡ old.functions
+    → new.cells.items ≡ old.cells.items ++ cellset.Point it.place to ∷ []
     → IsPut scope lines (point_line place target) old new true
-point_put scope lines place target to it old marked new e found marks has names same places functions cells =
-    cell_put scope lines (point_line place target) it.place old marked new (λ other. one_place (named_by scope place) it other e) (λ name. refl) refl marks has
+point_put scope lines place target to it old new e found marks has names same functions cells =
+    cell_put scope lines (point_line place target) it.place old new (λ other. one_place (named_by scope place) it other e) (λ name. refl) refl marks has
     (point_fits scope lines old place target it e has ∙ rw (target_there scope target (target_of it.type) (Some to) found, sym marks.added) refl)
-    names same places functions
-    (cells ∙ ap (λ l. marked.cells.items ++ l) (sym (ap (flat_map (points_to scope target)) e ∙ append-nil (points_to scope target it) ∙ ap (map (cellset.Point it.place)) found)))
+    names same functions
+    (cells ∙ ap (λ l. old.cells.items ++ l) (sym (ap (flat_map (points_to scope target)) e ∙ append-nil (points_to scope target it) ∙ ap (map (cellset.Point it.place)) found)))
 
 -- ---- functions without a body
 
@@ -213,7 +214,7 @@ values_put scope lines stub values old new fits has functions names cells places
       (ap (λ name. name.now) names) (ap (λ v. v.items) cells ∙ sym (append-nil old.cells.items)) stubs;
   set = λ h. record {
     places = λ place.
-        ap (λ set. has_place set place) places ∙ has.places place
+        ap (λ marked. is_marked marked place) places ∙ has.places place
         ∙ sym (any_last (sets_cell scope place) lines (values_line stub values) ∙ or_false (list_any (sets_cell scope place) lines));
     functions = λ name.
         functions name ∙ or_comm (bytes_eq stub name) (has_name old.functions name)

@@ -1,24 +1,11 @@
--- What sets of places and names have behind a change.
+-- What sets of names have behind a change.
 use Rattle.std.proofs.Common.{◌≡◌, ℕ, ◌==◌, Bool, true, false, cond, List, refl, ◌∙◌}
 use Rattle.std.specs.Prelude.{◌&&◌, ◌||◌, not}
 use Rattle.std.specs.Borrow.{Bor}
 use Rattle.std.specs.HashSet.{HashSet, contains_by}
 use Rattle.std.specs.Str.{bytes_eq}
-use Rattle.lt_model.specs.declared.input.Place.{Place}
-use Rattle.lt_entry.specs.Conditions.{same_place}
 use Rattle.lt_input_names.specs.Stubs.{has_name}
-use Rattle.lt_input_suites.specs.Drafts.{Key, has_place}
-
-abbrev pub is_key : Key → Key → Bool
-is_key q key = bytes_eq q.0.now key.0.now && (q.1 == key.1)
-
--- the key of a place, lent as another is
-key_at : Bor (List ℕ) → Place → Key
-key_at name place = (record name { now = place.root }, place.offset)
-
-or_cond : (t u : Bool) → cond t true u ≡ (t || u)
-or_cond true u = refl
-or_cond false u = refl
+use Rattle.lt_input_wants.proofs.PlaceMaps.{or_cond}
 
 pub or_comm : (a b : Bool) → (a || b) ≡ (b || a)
 or_comm true true = refl
@@ -33,11 +20,6 @@ not_false false h = absurd (cc)
 pub not_true : (a : Bool) → not a ≡ true → a ≡ false
 not_true true h = absurd (cc)
 not_true false h = refl
-
-pub has_place_more : {S : Type 0} (old new : HashSet Key S) (name : Bor (List ℕ)) (offset : ℕ) → ((q : Key) → contains_by (is_key q) new ≡ cond (bytes_eq name.now q.0.now && (offset == q.1)) true (contains_by (is_key q) old)) → (place : Place) → has_place new place ≡ (same_place (record { root = name.now; offset = offset }) place || has_place old place)
-unfolding key_at
-has_place_more old new name offset updates place =
-    updates (key_at name place) ∙ or_cond (bytes_eq name.now place.root && (offset == place.offset)) (has_place old place)
 
 abbrev pub same_name : Bor (List ℕ) → Bor (List ℕ) → Bool
 same_name q key = bytes_eq q.now key.now

@@ -10,6 +10,7 @@ use Rattle.lt_entry.specs.Naming.{Scope}
 use Rattle.lt_entry.specs.Conditions.{same_place}
 use Rattle.lt_entry.specs.Suites.{SuiteLine, suite_words, is_suite_form, of_last_test, names_test, sets_cell, sets_stub, fits_in_test, fits_suite, cells_set, stubs_set, tests_said}
 use Rattle.lt_input_names.specs.Stubs.{has_name}
+use Rattle.lt_input_wants.specs.Marks.{is_marked}
 use Rattle.lt_input_suites.specs.declared.begun.Begun.{Begun}
 use Rattle.lt_input_suites.specs.declared.draft.Draft.{Draft}
 
@@ -22,27 +23,10 @@ test_of test = record { name = test.name.now; cells = test.cells.items; stubs = 
 abbrev pub with_line : Scope → SuiteLine → Test → Test
 with_line scope line test = record test { cells = test.cells ++ cells_set scope line; stubs = test.stubs ++ stubs_set line }
 
--- a place as a key: the name of its object, and its offset
-abbrev pub Key : Type 0
-Key = Bor (List ℕ) × ℕ
-
-abbrev pub is_key_of : Place → Key → Bool
-is_key_of place key = bytes_eq place.root key.0.now && (place.offset == key.1)
-
--- whether a set has a place
-abbrev pub has_place : {S : Type 0} → HashSet Key S → Place → Bool
-has_place places place = contains_by (is_key_of place) places
-
 -- The places and functions of the test are those that these lines set.
 pub record HasSet (scope : Scope) (lines : List SuiteLine) (test : Begun) : Type 0 where
-  pub places : (place : Place) → has_place test.places place ≡ list_any (sets_cell scope place) lines
+  pub places : (place : Place) → is_marked test.places place ≡ list_any (sets_cell scope place) lines
   pub functions : (name : List ℕ) → has_name test.functions name ≡ list_any (sets_stub name) lines
-
--- whether the place is new, and that it is among those of the test behind that
-pub record Marks (place : Place) (old new : Begun) (is_new : Bool) : Type 0 where
-  pub added : is_new ≡ not (has_place old.places place)
-  pub places : (other : Place) → has_place new.places other ≡ (same_place place other || has_place old.places other)
-  pub others : new ≡ record old { places = new.places }
 
 -- whether the line fits behind these in the test, and what the test is then
 pub record IsPut (scope : Scope) (lines : List SuiteLine) (line : SuiteLine) (old new : Begun) (taken : Bool) : Type 0 where

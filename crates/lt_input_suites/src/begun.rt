@@ -4,12 +4,13 @@ ghost use Rattle.std.specs.Prelude.{◌≡◌, [], IfOk};
 ghost use Rattle.lt_entry.specs.Naming.{Scope};
 ghost use Rattle.lt_entry.specs.LineViews.{set_view, point_view, values_view, suite_line_view};
 ghost use Rattle.lt_input_names.specs.Views.{AreNames, scope_of};
-ghost use Rattle.lt_input_suites.specs.Drafts.{HasSet, Marks, Puts, test_of};
+ghost use Rattle.lt_input_suites.specs.Drafts.{HasSet, Puts, test_of};
 
-use crate::numbers::{are_numbers, is_number, value_of, values_of};
+use crate::numbers::{are_numbers, values_of};
 use crate::parts::{part_of, target_of};
 use lt_entry::{PointLine, SetLine, SuiteLine, Test, ValuesLine};
 use lt_input_names::Names;
+use lt_input_wants::{MarkedPlaces, is_number, value_of};
 use lt_model::{CellSet, Name, Sequence, StubSet};
 use std::alloc::{AllocError, Global};
 use std::collections::HashSet;
@@ -20,8 +21,8 @@ pub struct Begun<'a> {
     name: &'a [u8],
     cells: Vec<CellSet>,
     stubs: Vec<StubSet>,
-    /// The places that it sets, by the names of their objects and their offsets.
-    places: HashSet<(&'a [u8], u64)>,
+    /// The places that it sets.
+    places: MarkedPlaces<'a>,
     /// The functions for which it has values.
     functions: HashSet<&'a [u8]>,
 }
@@ -36,7 +37,7 @@ impl<'a> Begun<'a> {
             name,
             cells: Vec::new(alloc),
             stubs: Vec::new(alloc),
-            places: HashSet::new(alloc),
+            places: MarkedPlaces::new(alloc),
             functions: HashSet::new(alloc),
         }
     }
@@ -85,7 +86,7 @@ impl<'a> Begun<'a> {
         if !is_number(names.model(), line.value, names.scalar(part.ty)) {
             return Ok(false);
         }
-        if !self.mark(line.place.name, part.place.offset)? {
+        if !self.places.mark(line.place.name, part.place.offset)? {
             return Ok(false);
         }
         self.cells
@@ -108,7 +109,7 @@ impl<'a> Begun<'a> {
         let Some(target) = target_of(alloc, names, part.ty, &line.target)? else {
             return Ok(false);
         };
-        if !self.mark(line.place.name, part.place.offset)? {
+        if !self.places.mark(line.place.name, part.place.offset)? {
             return Ok(false);
         }
         self.cells.push(CellSet::Point(part.place, target))?;
@@ -139,12 +140,5 @@ impl<'a> Begun<'a> {
             values: Sequence::new(values_of(alloc, &line.values)?),
         })?;
         Ok(true)
-    }
-
-    // Whether the place of this object and offset is not set yet; from now on it is.
-    fn mark(&mut self, root: &'a [u8], offset: u64) -> Result<bool, AllocError>
-        ensures { IfOk result (Marks (record { root = root.now; offset = offset }) self.old self.new) }
-    {
-        Ok(self.places.insert((root, offset))?)
     }
 }

@@ -7,28 +7,11 @@ ghost use Rattle.lt_entry.specs.Suites.{is_number};
 ghost use Rattle.lt_entry.specs.Views.{numeral_view};
 
 use lt_entry::Numeral;
-use lt_model::{DataModel, Scalar, is_value};
+use lt_input_wants::{is_number, value_of};
+use lt_model::{DataModel, Scalar};
 use std::alloc::{AllocError, Global};
 
-/// The number that a numeral writes.
-pub fn value_of(numeral: Numeral) -> i128
-    ensures { result ≡ value_of (numeral_view numeral) }
-{
-    let size = i128::from(numeral.size);
-    if numeral.is_negative { -size } else { size }
-}
-
-/// Whether the number is a value of the type, if there is one.
-pub fn is_number(model: DataModel, value: Numeral, scalar: Option<Scalar>) -> bool
-    ensures { result ≡ is_number model (numeral_view value) scalar }
-{
-    match scalar {
-        None => false,
-        Some(scalar) => is_value(model, scalar, value_of(value)),
-    }
-}
-
-/// Whether all numbers are.
+/// Whether all numbers are values of the type, if there is one.
 pub fn are_numbers(model: DataModel, values: &[Numeral], scalar: Option<Scalar>) -> bool
     ensures { result ≡ list_all (λ value. is_number model (numeral_view value) scalar) values.now }
 {

@@ -16,7 +16,7 @@ use Rattle.lt_model.specs.declared.input.StartValue.TheVariants as start
 use Rattle.lt_entry.specs.Conditions.{same_place}
 use Rattle.lt_entry.specs.Meeting.{place_set, value_set, last_set, held, is_wanted, number_of, number_at}
 use Rattle.lt_entry.specs.Inputs.{set_to, set_in}
-use Rattle.lt_input_values.specs.Finding.{holds_well}
+use Rattle.lt_input_wants.specs.Cells.{holds_well}
 use Rattle.lt_input_values.proofs.PlaceLaws.{same_place-self}
 
 -- ---- the last of what is set at a place

@@ -1,24 +1,15 @@
 -- How free cells, what is set in them, and what functions without a body may give are found.
-use Rattle.std.specs.Prelude.{◌≡◌, ℕ, ℤ, int_le, ◌&&◌, ◌||◌, not, Bool, true, List, Option, Some, None, IfSome, option_map, unwrap_or}
+use Rattle.std.specs.Prelude.{◌≡◌, ℕ, ℤ, int_le, ◌&&◌, ◌||◌, not, Bool, true, List, Option, Some, None, IfSome}
 use Rattle.std.specs.List.{list_all}
 use Rattle.std.specs.HashMap.{HashMap, get_by}
 use Rattle.std.specs.Borrow.{Bor}
 use Rattle.std.specs.Str.{bytes_eq}
-use Rattle.lt_model.specs.declared.input.CellSet.{CellSet}
-use Rattle.lt_model.specs.declared.input.FreeCell.{FreeCell}
 use Rattle.lt_model.specs.declared.input.Input.{Input}
 use Rattle.lt_model.specs.declared.input.Spec.{Spec}
 use Rattle.lt_model.specs.declared.input.StubRange.{StubRange}
-use Rattle.lt_entry.specs.Meeting.{value_set, is_wanted}
 use Rattle.lt_input_values.specs.declared.finder.Finder.{Finder}
 use Rattle.lt_input_values.specs.declared.finder.Maps.{Maps}
 use Rattle.lt_input_values.specs.Maps.{HasFirstCells, HasLast}
-
--- a cell holds what it may, where this is set in it
-abbrev pub holds_well : FreeCell → Option CellSet → Bool
-holds_well cell it = is_wanted cell.want (unwrap_or (option_map value_set it) cell.start)
-
--- ---- functions without a body
 
 -- the number is within bounds; without them each is
 abbrev pub is_within : Option (ℤ × ℤ) → ℤ → Bool
@@ -35,8 +26,6 @@ may_give ranges name z = list_all (λ range. not (bytes_eq name range.name) || i
 -- The map has for each name the bounds of all its ranges.
 abbrev pub HasBounds : {S : Type 0} → List StubRange → HashMap (Bor (List ℕ)) (ℤ × ℤ) S → Type 0
 HasBounds ranges map = (name : List ℕ) (z : ℤ) → is_within (get_by (λ key. bytes_eq name key.now) map) z ≡ may_give ranges name z
-
--- ---- all of it
 
 -- The maps are those of the specification and the input.
 pub record AreMaps (spec : Spec) (input : Input) (maps : Maps) : Type 0 where

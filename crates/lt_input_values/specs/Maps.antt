@@ -1,5 +1,5 @@
 -- What maps have for places and names.
-use Rattle.std.specs.Prelude.{◌≡◌, ℕ, ◌==◌, ◌&&◌, not, Bool, List, filter, find, reverse, Option, is_some, option_map}
+use Rattle.std.specs.Prelude.{◌≡◌, ℕ, ◌&&◌, not, Bool, List, filter, find, reverse, Option, is_some, option_map}
 use Rattle.std.specs.List.{list_any}
 use Rattle.std.specs.Borrow.{Bor}
 use Rattle.std.specs.HashMap.{HashMap, get_by}
@@ -12,21 +12,11 @@ use Rattle.lt_model.specs.declared.input.StubRange.{StubRange}
 use Rattle.lt_model.specs.declared.input.StubSet.{StubSet}
 use Rattle.lt_entry.specs.Conditions.{same_place}
 use Rattle.lt_entry.specs.Meeting.{place_set}
-
--- a place as a key: the name of its object, and its offset
-abbrev pub Key : Type 0
-Key = Bor (List ℕ) × ℕ
-
-abbrev pub is_key_of : Place → Key → Bool
-is_key_of place key = bytes_eq place.root key.0.now && (place.offset == key.1)
+pub use Rattle.lt_input_wants.specs.Places.{Key, is_key_of, has_place}
 
 -- what a map has for a place
 abbrev pub set_at : {S : Type 0} → HashMap Key (Bor CellSet) S → Place → Option CellSet
 set_at map place = option_map (λ it. it.now) (get_by (is_key_of place) map)
-
--- whether a set has a place
-abbrev pub has_place : {S : Type 0} → HashSet Key S → Place → Bool
-has_place places place = contains_by (is_key_of place) places
 
 -- what is set last at a place
 abbrev pub last_at : Place → List CellSet → Option CellSet

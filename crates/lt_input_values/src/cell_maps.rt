@@ -3,7 +3,7 @@
 ghost use Rattle.std.specs.Prelude.{◌≡◌, IfOk};
 ghost use Rattle.lt_input_values.specs.Maps.{HasFirstCells, HasLast};
 
-use crate::places::place_set;
+use lt_input_wants::place_set;
 use lt_model::{CellSet, FreeCell};
 use std::alloc::{AllocError, Global};
 use std::collections::HashMap;

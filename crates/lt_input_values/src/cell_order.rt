@@ -6,7 +6,7 @@ ghost use Rattle.lt_input_values.specs.Maps.{set_at, has_place, HasPlacesSet, el
 
 use crate::cell_maps::last_sets;
 use crate::copies::set_of;
-use crate::places::place_set;
+use lt_input_wants::place_set;
 use lt_model::{CellSet, FreeCell, Place, Spec};
 use std::alloc::{AllocError, Global};
 use std::collections::{HashMap, HashSet};

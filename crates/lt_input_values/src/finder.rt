@@ -8,7 +8,7 @@ ghost use Rattle.lt_input_values.specs.Maps.{last_at};
 
 use crate::bounds::{Bounds, bounds_for, bounds_of};
 use crate::cell_maps::{first_cells, last_sets};
-use crate::places::{place_set, same_place};
+use lt_input_wants::{place_set, same_place};
 use lt_model::{CellSet, FreeCell, Input, Place, Spec};
 use std::alloc::{AllocError, Global};
 use std::collections::HashMap;

@@ -12,10 +12,8 @@ mod input;
 mod laws;
 mod meeting;
 mod needs;
-mod places;
 mod stub_order;
 mod stubs;
-mod wanted;
 
 pub use input::build;
 pub use laws::order_is_no_matter;

@@ -9,9 +9,8 @@ ghost use Rattle.lt_input_values.specs.Finding.{IsFinder};
 use crate::blocks::same_blocks;
 use crate::finder::Finder;
 use crate::needs::needs_hold;
-use crate::places::place_set;
 use crate::stubs::stubs_keep_ranges;
-use crate::wanted::holds_well;
+use lt_input_wants::{holds_well, place_set};
 use lt_model::{CellSet, FreeCell, Input, Spec};
 use std::alloc::{AllocError, Global};
 

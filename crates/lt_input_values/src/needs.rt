@@ -2,13 +2,14 @@
 
 ghost use Rattle.std.specs.Prelude.{◌≡◌, ◌≤◌, ◌^◌, ◌*ℤ◌, option_map, IfSome, length, true};
 ghost use Rattle.std.specs.List.{list_all};
-ghost use Rattle.lt_entry.specs.Meeting.{value_set, number_of, number_at, sum_of, is_related, needs_hold};
+ghost use Rattle.lt_entry.specs.Meeting.{value_set, number_of, number_at, sum_of, needs_hold};
 ghost use Rattle.lt_entry.specs.Inputs.{is_short, has_small_factor};
 ghost use Rattle.lt_input_values.specs.Bounds.{IsWithin, HaveNumbers64};
 ghost use Rattle.lt_input_values.specs.Finding.{IsFinder};
 
 use crate::finder::Finder;
-use lt_model::{CellSet, Need, NeedTerm, Op, Place, StartValue};
+use lt_input_wants::is_related;
+use lt_model::{CellSet, Need, NeedTerm, Place, StartValue};
 
 fn number_set(it: &CellSet) -> Option<i128>
     ensures { result ≡ number_of (value_set it.now) }
@@ -64,17 +65,6 @@ fn sum_of(finder: &Finder<'_>, terms: &[NeedTerm]) -> Option<i128>
         sum += product_of(finder, term)?;
     }
     Some(sum)
-}
-
-fn is_related(relation: Op, sum: i128, constant: i128) -> bool
-    ensures { result ≡ is_related relation sum constant }
-{
-    match relation {
-        Op::Le => sum <= constant,
-        Op::Ge => sum >= constant,
-        Op::Eq => sum == constant,
-        _ => false,
-    }
 }
 
 fn need_holds(finder: &Finder<'_>, need: &Need) -> bool

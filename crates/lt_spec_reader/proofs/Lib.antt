@@ -13,7 +13,6 @@ pub mod TypeLaws
 pub mod FaultLaws
 pub mod LinesLaws
 pub mod CellLaws
-pub mod NumberLaws
 pub mod BlockLaws
 pub mod FreedLaws
 pub mod NeedLaws

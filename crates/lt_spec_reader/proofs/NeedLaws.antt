@@ -20,7 +20,7 @@ use Rattle.lt_input_names.specs.declared.part.Part.{Part}
 use Rattle.lt_input_names.specs.declared.stubs.Stub.{Stub}
 use Rattle.lt_input_names.specs.Stubs.{stub_view}
 use Rattle.lt_input_names.specs.Views.{scope_of, named_at}
-use Rattle.lt_input_specs.specs.Defaults.{whole_range}
+use Rattle.lt_input_wants.specs.Stubs.{whole_range}
 use Rattle.lt_spec_reader.specs.Said.{HasRanges, range_in, part_term}
 use Rattle.lt_spec_reader.proofs.Loops.{mapped_more}
 

@@ -10,7 +10,7 @@ use Rattle.lt_entry.specs.Naming.{Scope, block_root, root_among}
 use Rattle.lt_entry.specs.Conditions.{points_at, is_ranged_by}
 use Rattle.lt_input_names.specs.Stubs.{has_name}
 use Rattle.lt_spec_reader.specs.declared.free.Free.{Free}
-use Rattle.lt_spec_reader.specs.Said.{Key, is_key_of}
+pub use Rattle.lt_input_wants.specs.Places.{Key, has_place}
 
 -- whether it is this name, if it is one
 abbrev pub is_name_of : List ℕ → Option (List ℕ) → Bool
@@ -20,10 +20,6 @@ is_name_of name (Some it) = bytes_eq it name
 -- The names are those behind `points` of rows that say where it points.
 abbrev pub HasPointed : {S : Type 0} → List Row → HashSet (Bor (List ℕ)) S → Type 0
 HasPointed rows names = (name : List ℕ) → has_name names name ≡ list_any (λ row. points_at name row.words) rows
-
--- whether a set has a place
-abbrev pub has_place : {S : Type 0} → HashSet Key S → Place → Bool
-has_place places place = contains_by (is_key_of place) places
 
 -- The names are those of parameters and blocks.
 abbrev pub HasOwn : {S : Type 0} → Scope → HashSet (Bor (List ℕ)) S → Type 0

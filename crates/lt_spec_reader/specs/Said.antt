@@ -20,20 +20,10 @@ use Rattle.lt_entry.specs.declared.specification_line.StubLine.{StubLine}
 use Rattle.lt_entry.specs.Views.{numeral_view}
 use Rattle.lt_input_names.specs.declared.part.Part.{Part}
 use Rattle.lt_input_names.specs.Found.{found_in}
-use Rattle.lt_input_specs.specs.Defaults.{whole_range}
+use Rattle.lt_input_wants.specs.Stubs.{whole_range}
+pub use Rattle.lt_input_wants.specs.Places.{Key, is_key_of, found_at}
 
 -- ---- cells
-
--- a place as a key: the name of its object, and its offset
-abbrev pub Key : Type 0
-Key = Bor (List ℕ) × ℕ
-
-abbrev pub is_key_of : Place → Key → Bool
-is_key_of place key = bytes_eq place.root key.0.now && (place.offset == key.1)
-
--- what a map has for a place
-abbrev pub found_at : {V S : Type 0} → HashMap Key V S → Place → Option V
-found_at map place = get_by (is_key_of place) map
 
 -- The map has what the lines say of each cell.
 abbrev pub HasSaid : {S : Type 0} → Scope → List Line → HashMap Key Want S → Type 0

@@ -10,9 +10,9 @@ ghost use Rattle.lt_input_specs.specs.Defaults.{root_of, want_to};
 ghost use Rattle.lt_spec_reader.specs.Said.{HasSaid, found_at};
 ghost use Rattle.lt_spec_reader.specs.Cells.{place_at, want_in};
 
-use crate::wants::Wants;
 use lt_input_names::Kinds;
 use lt_input_specs::{any_value, default_name, target_of, zero_start};
+use lt_input_wants::Wants;
 use lt_model::{BlockIn, DataModel, FreeCell, Name, Place, Sequence, ShapeCell, Want};
 use lt_tables::Tables;
 use lt_tree::typed::Object;

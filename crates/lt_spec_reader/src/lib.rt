@@ -9,7 +9,6 @@ mod faults;
 mod free;
 mod lines;
 mod needs;
-mod numbers;
 mod objects;
 mod own;
 mod pointed;
@@ -24,7 +23,6 @@ mod state;
 mod stops;
 mod stubs;
 mod unfree;
-mod wants;
 
 pub use reading::read_spec;
 pub use stops::NoSpecification;

@@ -14,10 +14,10 @@ ghost use Rattle.lt_input_names.specs.Stubs.{stub_view};
 ghost use Rattle.lt_input_names.specs.Views.{AreNames, scope_of};
 ghost use Rattle.lt_spec_reader.specs.Said.{HasRanges, range_in, part_term};
 
-use crate::numbers::value_of;
 use crate::stubs::Ranges;
 use lt_entry::{Addend, Line, Numeral, Relation, RequireLine, Term};
 use lt_input_names::{Kinds, Names, Part, Stub, stubs_of};
+use lt_input_wants::value_of;
 use lt_model::{DataModel, Name, Need, NeedTerm, Op, Place, Sequence, StubRange, greatest, least};
 use std::alloc::{AllocError, Global};
 

@@ -12,7 +12,7 @@ ghost use Rattle.lt_spec_reader.specs.Objects as freed;
 
 use crate::cells::copied;
 use crate::own::own_names;
-use crate::wants::Wants;
+use lt_input_wants::Wants;
 use lt_ir::Static;
 use lt_model::{Address, Content, FreeCell, Name, Place, ShapeCell, StartValue};
 use lt_tables::Tables;

@@ -14,9 +14,9 @@ ghost use Rattle.lt_entry.specs.LineViews.{points_view};
 ghost use Rattle.lt_input_names.specs.Views.{AreNames, scope_of, type_at, named_at};
 ghost use Rattle.lt_spec_reader.specs.Said.{found_at, HasSaid, IsSaid, may_point};
 
-use crate::wants::{Wants, is_said, say};
 use lt_entry::{PointsLine, TargetWord};
 use lt_input_names::{Names, Part, PartType};
+use lt_input_wants::{Wants, is_said, say};
 use lt_model::{Place, Sequence, Want};
 use std::alloc::{AllocError, Global};
 

@@ -12,10 +12,9 @@ ghost use Rattle.lt_entry.specs.LineViews.{range_view};
 ghost use Rattle.lt_input_names.specs.Views.{AreNames, scope_of, named_at};
 ghost use Rattle.lt_spec_reader.specs.Said.{found_at, HasSaid, IsSaid, may_range};
 
-use crate::numbers::{is_range, value_of};
-use crate::wants::{Wants, is_said, say};
 use lt_entry::RangeLine;
 use lt_input_names::{Names, Part};
+use lt_input_wants::{Wants, may_have_range, say, value_of};
 use lt_model::Want;
 use std::alloc::{AllocError, Global};
 
@@ -24,8 +23,15 @@ fn may_have(names: &Names<'_>, wants: &Wants<'_>, line: &RangeLine<'_>, part: &P
     requires { AreNames names.now }
     ensures { (before : List Line) → HasSaid (scope_of names.now) before wants.now → result ≡ may_range (scope_of names.now) before (numeral_view line.now.low) (numeral_view line.now.high) (named_at names.now part.now) }
 {
-    let fits = is_range(names.model(), line.low, line.high, names.scalar(part.ty));
-    fits & !is_said(wants, &part.place)
+    let scalar = names.scalar(part.ty);
+    may_have_range(
+        wants,
+        names.model(),
+        &part.place,
+        scalar,
+        line.low,
+        line.high,
+    )
 }
 
 // Whether there are parts, and each may have the range of a line.

@@ -1,9 +1,9 @@
 //! What is kept while lines are read.
 
 use crate::stubs::Ranges;
-use crate::wants::Wants;
 use lt_input_blocks::BlockTypes;
 use lt_input_names::{LineBlock, Names};
+use lt_input_wants::Wants;
 
 /// What is kept while lines are read.
 #[derive(Drop)]

@@ -5,9 +5,9 @@ ghost use Rattle.lt_entry.specs.LineViews.{stub_view};
 ghost use Rattle.lt_input_names.specs.Views.{AreNames, scope_of};
 ghost use Rattle.lt_spec_reader.specs.Said.{IsRanged};
 
-use crate::numbers::is_range;
 use lt_entry::StubLine;
 use lt_input_names::Names;
+use lt_input_wants::is_range;
 use std::alloc::AllocError;
 use std::collections::HashMap;
 

@@ -2,7 +2,7 @@ use Rattle.std.proofs.Common.{◌≡◌, [], map, sym, ap, ◌∙◌}
 use Rattle.lt_tree.specs.Typing.ProgramView.{program_of}
 use Rattle.lt_entry.specs.Meaning.{stub_range}
 use Rattle.lt_input_names.specs.Stubs.{stub_view}
-use Rattle.lt_input_specs.specs.Defaults.{whole_range}
+use Rattle.lt_input_wants.specs.Stubs.{whole_range}
 use Rattle.lt_input_specs.proofs.Lists.{ok_map, map-map}
 use Rattle.lt_input_specs.proofs.default.ranges_of.Goals as goal
 

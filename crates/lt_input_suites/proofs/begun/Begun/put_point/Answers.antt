@@ -32,9 +32,9 @@ returns-then-not-branch c = λ lines form has.
     let target = target_view c.args.line.now.target in
     let part = subst (IsPart c.args.names.now place) c.in-Some.is c.in_ok-part.ensures (single_point place target form) in
     let it = named_at c.args.names.now c.in-Some.part in
-    not_put scope lines (point_line place target) c.args.self.now c.mark.new.self
+    not_put scope lines (point_line place target) c.args.self.now _
     (point_twice scope lines c.args.self.now c.mark.new.self place target it part has
-    (marked_at c.in-Some.part.place place.name c.args.self.now c.mark.new.self c.in_ok-mark.field-0 false (name_of_part scope place it part) c.if-not-branch.true c.in_ok-mark.ensures))
+    (marked_at c.in-Some.part.place place.name c.args.self.now.places c.mark.new.self c.in_ok-mark.field-0 false (name_of_part scope place it part) c.if-not-branch.true c.in_ok-mark.ensures))
 
 pub returns : goal.returns
 returns c = λ lines form has.
@@ -43,7 +43,7 @@ returns c = λ lines form has.
     let target = target_view c.args.line.now.target in
     let part = subst (IsPart c.args.names.now place) c.in-Some.is c.in_ok-part.ensures (single_point place target form) in
     let it = named_at c.args.names.now c.in-Some.part in
-    point_put scope lines place target c.in-Some-2.target it c.args.self.now c.mark.new.self _ part
+    point_put scope lines place target c.in-Some-2.target it c.args.self.now _ part
     (subst (IsTarget c.args.names.now c.in-Some.part.ty target) c.in-Some-2.is c.in_ok-target.ensures (single_target place target form))
-    (marked_at c.in-Some.part.place place.name c.args.self.now c.mark.new.self c.in_ok-mark.field-0 true (name_of_part scope place it part) c.if-not-branch.false c.in_ok-mark.ensures)
-    has refl refl refl refl c.in_ok-push.ensures.items
+    (marked_at c.in-Some.part.place place.name c.args.self.now.places c.mark.new.self c.in_ok-mark.field-0 true (name_of_part scope place it part) c.if-not-branch.false c.in_ok-mark.ensures)
+    has refl refl refl c.in_ok-push.ensures.items

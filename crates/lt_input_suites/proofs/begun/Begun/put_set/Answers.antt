@@ -38,9 +38,9 @@ returns-then-not-branch c = λ lines form has.
     let value = numeral_view c.args.line.now.value in
     let part = subst (IsPart c.args.names.now place) c.in-Some.is c.in_ok-part.ensures (single_set place value form) in
     let it = named_at c.args.names.now c.in-Some.part in
-    not_put scope lines (set_line place value) c.args.self.now c.mark.new.self
+    not_put scope lines (set_line place value) c.args.self.now _
     (set_twice scope lines c.args.self.now c.mark.new.self place value it part has
-    (marked_at c.in-Some.part.place place.name c.args.self.now c.mark.new.self c.in_ok-mark.field-0 false (name_of_part scope place it part) c.if-not-branch.true c.in_ok-mark.ensures))
+    (marked_at c.in-Some.part.place place.name c.args.self.now.places c.mark.new.self c.in_ok-mark.field-0 false (name_of_part scope place it part) c.if-not-branch.true c.in_ok-mark.ensures))
 
 pub returns : goal.returns
 returns c = λ lines form has.
@@ -50,10 +50,10 @@ returns c = λ lines form has.
     let part = subst (IsPart c.args.names.now place) c.in-Some.is c.in_ok-part.ensures (single_set place value form) in
     let it = named_at c.args.names.now c.in-Some.part in
     let fits : SFits w128 c.value_of.result = search rules in
-    set_put scope lines place value it c.args.self.now c.mark.new.self _ part
+    set_put scope lines place value it c.args.self.now _ part
     (ap (λ model. is_number model value (scalar_of (type_at c.args.names.now c.in-Some.part.ty))) (sym c.model.ensures)
     ∙ ap (is_number c.model.result value) (sym c.scalar.ensures) ∙ sym c.is_number.ensures ∙ c.if-not-is_number.false)
-    (marked_at c.in-Some.part.place place.name c.args.self.now c.mark.new.self c.in_ok-mark.field-0 true (name_of_part scope place it part) c.if-not-branch.false c.in_ok-mark.ensures)
-    has refl refl refl refl
+    (marked_at c.in-Some.part.place place.name c.args.self.now.places c.mark.new.self c.in_ok-mark.field-0 true (name_of_part scope place it part) c.if-not-branch.false c.in_ok-mark.ensures)
+    has refl refl refl
     (c.in_ok-push.ensures.items
-    ∙ ap (λ z. c.mark.new.self.cells.items ++ cellset.Number c.in-Some.part.place z ∷ []) (to_z-of_z w128 c.value_of.result fits ∙ c.value_of.ensures))
+    ∙ ap (λ z. c.args.self.now.cells.items ++ cellset.Number c.in-Some.part.place z ∷ []) (to_z-of_z w128 c.value_of.result fits ∙ c.value_of.ensures))

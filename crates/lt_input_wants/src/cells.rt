@@ -3,7 +3,7 @@
 ghost use Rattle.std.specs.Prelude.{◌≡◌, option_map};
 ghost use Rattle.std.specs.List.{list_any};
 ghost use Rattle.lt_entry.specs.Meeting.{same_target, is_wanted, value_set};
-ghost use Rattle.lt_input_values.specs.Finding.{holds_well};
+ghost use Rattle.lt_input_wants.specs.Cells.{holds_well};
 
 use crate::places::same_target;
 use lt_model::{CellSet, FreeCell, Place, StartValue, Want};

@@ -3,8 +3,8 @@ use Rattle.std.specs.Prelude.{neg_ℤ, if◌then◌else◌}
 use Rattle.std.proofs.lemmas.Int.{to_z-of_z}
 use mir.Syntax.{w128}
 use mir.Val.{SFits, to_z, of_z}
-use Rattle.lt_spec_reader.proofs.NumberLaws.{opposite_fits, opposite_is}
-use Rattle.lt_spec_reader.proofs.numbers.value_of.Goals as goal
+use Rattle.lt_input_wants.proofs.NumberLaws.{opposite_fits, opposite_is}
+use Rattle.lt_input_wants.proofs.numbers.value_of.Goals as goal
 
 pub returns-then-numeral : goal.returns-then-numeral
 returns-then-numeral c =
