@@ -1,11 +1,13 @@
 -- Lines by their words: those of a fixed number of words, and those that end with numbers.
 use Rattle.std.proofs.Common.{◌≡◌, ℕ, ◌≢◌, ◌≤◌, ◌<◌, ◌+◌, suc, zero, List, [], ◌∷◌, ◌++◌, length, get_or, take, drop, length-drop, refl, sym, ◌∙◌, ap, arith, Option, Some, None, Bor, append_assoc, true, false}
-use Rattle.std.specs.Prelude.{map, Bool, ◌&&◌, option_map, option_and_then}
+use Rattle.std.specs.Prelude.{map, Bool, ◌&&◌, codes, option_map, option_and_then}
+use Rattle.std.specs.Str.{bytes_eq}
 use Rattle.std.specs.List.{list_all}
 use Rattle.std.proofs.lemmas.List.{append-nil, map-append, map_more, drop-drop}
-use Rattle.lt_entry.specs.SpecificationLines.{Addend}
-use Rattle.lt_entry.specs.Reading.{read_numeral, read_single, with_first}
-use Rattle.lt_entry.specs.ReadingLines.{all_but_last, last_word, block_from, read_block, read_range, read_stub, read_requirement, read_require, read_set, read_point, term_from, first_addend, read_addends}
+use Rattle.lt_entry.specs.SpecificationLines.{Term, Addend, Relation, block_line}
+use Rattle.lt_entry.specs.Reading.{read_numeral, read_index, read_single, with_first}
+use Rattle.lt_entry.specs.Written.{Numeral, at_index, is_name}
+use Rattle.lt_entry.specs.ReadingLines.{all_but_last, last_word, parts_of_term, term_from, read_term, block_from, read_block, read_range, read_stub, read_relation, require_from, read_requirement, read_require, read_set, read_point, first_addend, read_addends}
 
 pub all_mapped : {A B : Type 0} (test : B → Bool) (f : A → B) (xs : List A) → list_all test (map f xs) ≡ list_all (λ x. test (f x)) xs
 all_mapped test f [] = refl
@@ -69,6 +71,45 @@ no_term (a ∷ []) word two = refl
 no_term (a ∷ b ∷ []) word two = absurd (two refl)
 no_term (a ∷ b ∷ c ∷ parts) word two = refl
 
+-- the parts of a term's word, as they are kept
+parts_are : (word : List ℕ) (items parts : List (Bor (List ℕ))) → map (λ (w : Bor (List ℕ)). w.now) items ≡ parts_of_term word → parts ≡ items → read_term word ≡ term_from word (map (λ (w : Bor (List ℕ)). w.now) parts)
+parts_are word items parts are same = ap (term_from word) (sym are ∙ ap (map (λ (w : Bor (List ℕ)). w.now)) (sym same))
+
+pub term_alone : (word : List ℕ) (items parts : List (Bor (List ℕ))) → map (λ (w : Bor (List ℕ)). w.now) items ≡ parts_of_term word → parts ≡ items → length parts ≢ 2 → read_term word ≡ option_map (λ p. record { factor = None; place = p }) (read_single word)
+term_alone word items parts are same two = parts_are word items parts are same ∙ no_term parts word two
+
+-- ---- lines of which a part is none
+
+no_relation : (o : Option Term) (p : Option (List Addend)) (q : Option Relation) (r : Option Numeral) → q ≡ None → require_from o p q r ≡ None
+no_relation None p q r is = refl
+no_relation (Some first) None q r is = refl
+no_relation (Some first) (Some others) None r is = refl
+no_relation (Some first) (Some others) (Some relation) r is = absurd (cc)
+
+no_constant : (o : Option Term) (p : Option (List Addend)) (q : Option Relation) (r : Option Numeral) → r ≡ None → require_from o p q r ≡ None
+no_constant None p q r is = refl
+no_constant (Some first) None q r is = refl
+no_constant (Some first) (Some others) None r is = refl
+no_constant (Some first) (Some others) (Some relation) None is = refl
+no_constant (Some first) (Some others) (Some relation) (Some constant) is = absurd (cc)
+
+pub sum_no_relation : (sum others : List (Bor (List ℕ))) (first : Bor (List ℕ)) (relation constant : List ℕ) → sum ≡ first ∷ others → read_relation relation ≡ None → read_requirement (map (λ (w : Bor (List ℕ)). w.now) sum) relation constant ≡ None
+sum_no_relation sum others first relation constant are is =
+    ap (λ ws. read_requirement (map (λ (w : Bor (List ℕ)). w.now) ws) relation constant) are
+    ∙ no_relation (read_term first.now) (read_addends (map (λ (w : Bor (List ℕ)). w.now) others)) (read_relation relation) (read_numeral constant) is
+
+pub sum_no_constant : (sum others : List (Bor (List ℕ))) (first : Bor (List ℕ)) (relation constant : List ℕ) → sum ≡ first ∷ others → read_numeral constant ≡ None → read_requirement (map (λ (w : Bor (List ℕ)). w.now) sum) relation constant ≡ None
+sum_no_constant sum others first relation constant are is =
+    ap (λ ws. read_requirement (map (λ (w : Bor (List ℕ)). w.now) ws) relation constant) are
+    ∙ no_constant (read_term first.now) (read_addends (map (λ (w : Bor (List ℕ)). w.now) others)) (read_relation relation) (read_numeral constant) is
+
+-- an index that is no asterisk
+pub index_none : (word : List ℕ) → bytes_eq word (codes "*") ≡ false → read_numeral word ≡ None → read_index word ≡ None
+index_none word other bad = rw (other, bad) refl
+
+pub index_some : (word : List ℕ) (n : Numeral) → bytes_eq word (codes "*") ≡ false → read_numeral word ≡ Some n → read_index word ≡ Some (at_index n)
+index_some word n other has = rw (other, has) refl
+
 -- words by their number
 pub two_are : (words : List (Bor (List ℕ))) (d e : Bor (List ℕ)) → length words ≡ 2 → map (λ (w : Bor (List ℕ)). w.now) words ≡ (get_or words 0 d).now ∷ (get_or words 1 e).now ∷ []
 two_are [] d e h = absurd (omega arith)
@@ -114,6 +155,12 @@ block_is words behind type name count are end =
     ap (λ ws. read_block (map (λ (w : Bor (List ℕ)). w.now) ws)) are
     ∙ ap (λ ws. block_from name.now (all_but_last ws) (option_and_then read_numeral (last_word ws))) e
     ∙ rw (before_last (map (λ (w : Bor (List ℕ)). w.now) type) count.now, last_is (map (λ (w : Bor (List ℕ)). w.now) type) count.now) refl
+
+pub block_uncounted : (words behind ty : List (Bor (List ℕ))) (name count : Bor (List ℕ)) → words ≡ name ∷ behind → behind ≡ ty ++ count ∷ [] → is_name name.now ≡ true → read_numeral count.now ≡ None → read_block (map (λ (w : Bor (List ℕ)). w.now) words) ≡ None
+block_uncounted words behind ty name count are end is bad = block_is words behind ty name count are end ∙ rw (is, bad) refl
+
+pub block_whole : (words behind ty : List (Bor (List ℕ))) (name count : Bor (List ℕ)) (n : Numeral) → words ≡ name ∷ behind → behind ≡ ty ++ count ∷ [] → is_name name.now ≡ true → read_numeral count.now ≡ Some n → read_block (map (λ (w : Bor (List ℕ)). w.now) words) ≡ Some (block_line name.now (map (λ (w : Bor (List ℕ)). w.now) ty) n)
+block_whole words behind ty name count n are end is has = block_is words behind ty name count are end ∙ rw (is, has) refl
 
 pub require_is : (words before sum : List (Bor (List ℕ))) (relation constant : Bor (List ℕ)) → words ≡ before ++ constant ∷ [] → before ≡ sum ++ relation ∷ [] → read_require (map (λ (w : Bor (List ℕ)). w.now) words) ≡ read_requirement (map (λ (w : Bor (List ℕ)). w.now) sum) relation.now constant.now
 require_is words before sum relation constant are end =

@@ -40,8 +40,12 @@ fn decimal_of(digits: &[u8]) -> Option<u64>
 pub fn numeral_of(word: &[u8]) -> Option<Numeral>
     ensures { option_map numeral_view result ≡ read_numeral word.now }
 {
-    let (first, digits) = word.split_first()?;
+    let Some((first, digits)) = word.split_first() else {
+        return None;
+    };
     let is_negative = *first == b'-';
-    let size = decimal_of(if is_negative { digits } else { word })?;
-    Some(Numeral { is_negative, size })
+    match decimal_of(if is_negative { digits } else { word }) {
+        Some(size) => Some(Numeral { is_negative, size }),
+        None => None,
+    }
 }

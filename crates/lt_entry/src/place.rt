@@ -5,6 +5,7 @@ ghost use Rattle.lt_entry.specs.Views.{step_view, place_view, target_view};
 ghost use Rattle.lt_entry.specs.Reading.{begins_step, pieces, read_step, read_closed, read_place, read_single, read_target, read_single_target};
 
 use crate::number::{Numeral, numeral_of};
+use crate::words::is_word;
 use std::alloc::{AllocError, Global};
 
 /// What leads from an object to a part of it.
@@ -89,20 +90,27 @@ fn pieces_of<'a>(alloc: Global, word: &'a [u8]) -> Result<Vec<&'a [u8]>, AllocEr
 fn index_of(closed: &[u8]) -> Option<Step<'_>>
     ensures { option_map step_view result ≡ read_closed closed.now }
 {
-    let (last, inside) = closed.split_last()?;
+    let Some((last, inside)) = closed.split_last() else {
+        return None;
+    };
     if *last != b']' {
         return None;
     }
-    if inside == b"*".as_slice() {
+    if is_word(inside, b"*") {
         return Some(Step::Each);
     }
-    Some(Step::Index(numeral_of(inside)?))
+    match numeral_of(inside) {
+        Some(index) => Some(Step::Index(index)),
+        None => None,
+    }
 }
 
 fn step_of(piece: &[u8]) -> Option<Step<'_>>
     ensures { option_map step_view result ≡ read_step piece.now }
 {
-    let (first, rest) = piece.split_first()?;
+    let Some((first, rest)) = piece.split_first() else {
+        return None;
+    };
     if *first == b'[' {
         return index_of(rest);
     }
@@ -158,9 +166,10 @@ pub fn single_place_of<'a>(
 ) -> Result<Option<PlaceWord<'a>>, AllocError>
     ensures { IfOk result (λ o. option_map place_view o ≡ read_single word.now) }
 {
-    match place_of(alloc, word)? {
-        Some(place) => Ok(if is_single(&place) { Some(place) } else { None }),
-        None => Ok(None),
+    match place_of(alloc, word) {
+        Ok(Some(place)) => Ok(if is_single(&place) { Some(place) } else { None }),
+        Ok(None) => Ok(None),
+        Err(error) => Err(error),
     }
 }
 
@@ -168,10 +177,14 @@ pub fn single_place_of<'a>(
 pub fn target_of<'a>(alloc: Global, word: &'a [u8]) -> Result<Option<TargetWord<'a>>, AllocError>
     ensures { IfOk result (λ o. option_map target_view o ≡ read_target word.now) }
 {
-    if word == b"null".as_slice() {
+    if is_word(word, b"null") {
         return Ok(Some(TargetWord::Null));
     }
-    Ok(place_of(alloc, word)?.map(TargetWord::Place))
+    match place_of(alloc, word) {
+        Ok(Some(place)) => Ok(Some(TargetWord::Place(place))),
+        Ok(None) => Ok(None),
+        Err(error) => Err(error),
+    }
 }
 
 /// The target that a word writes, if none of its steps goes to every element.
@@ -181,8 +194,12 @@ pub fn single_target_of<'a>(
 ) -> Result<Option<TargetWord<'a>>, AllocError>
     ensures { IfOk result (λ o. option_map target_view o ≡ read_single_target word.now) }
 {
-    if word == b"null".as_slice() {
+    if is_word(word, b"null") {
         return Ok(Some(TargetWord::Null));
     }
-    Ok(single_place_of(alloc, word)?.map(TargetWord::Place))
+    match single_place_of(alloc, word) {
+        Ok(Some(place)) => Ok(Some(TargetWord::Place(place))),
+        Ok(None) => Ok(None),
+        Err(error) => Err(error),
+    }
 }

@@ -1,13 +1,14 @@
 ghost use Rattle.std.specs.Prelude.{◌≡◌, ◌≤◌, IfOk, OnSome, length, option_map, map};
-ghost use Rattle.lt_entry.specs.Views.{numeral_view, place_view, target_view};
-ghost use Rattle.lt_entry.specs.LineViews.{relation_view, term_view, addend_view, block_view, range_view, points_view, stub_view, require_view, line_view};
-ghost use Rattle.lt_entry.specs.Reading.{read_all, read_target};
+ghost use Rattle.lt_entry.specs.SpecificationLines as written;
+ghost use Rattle.lt_entry.specs.Views.{numeral_view, target_view};
+ghost use Rattle.lt_entry.specs.LineViews.{relation_view, term_view, addend_view, line_view};
+ghost use Rattle.lt_entry.specs.Reading.{read_all, read_single, read_target};
 ghost use Rattle.lt_entry.specs.ReadingLines as reading;
-ghost use Rattle.lt_entry.specs.ReadingLines.{parts_of_term, factor_and_place, read_term, read_sign, read_addend, read_addends, read_relation, read_entry, read_block, read_range, read_points, read_stub, read_requirement, read_require, read_short, read_line};
+ghost use Rattle.lt_entry.specs.ReadingLines.{parts_of_term, read_term, read_sign, read_addend, read_addends, read_relation, read_entry, read_block, read_range, read_points, read_stub, read_requirement, read_require, read_line};
 
 use crate::number::{Numeral, numeral_of};
 use crate::place::{PlaceWord, TargetWord, is_name, place_of, single_place_of, target_of};
-use crate::words::{three_words, two_words};
+use crate::words::{is_word, three_words, two_words};
 use std::alloc::{AllocError, Global};
 
 /// How the sum of a requirement stands to its constant.
@@ -89,41 +90,43 @@ fn parts_of_term<'a>(alloc: Global, word: &'a [u8]) -> Result<Vec<&'a [u8]>, All
     word.split(|b| *b == b'*').collect(alloc)
 }
 
+// The term of a place, with a factor or none.
+fn term_at<'a>(
+    alloc: Global,
+    factor: Option<Numeral>,
+    word: &'a [u8],
+) -> Result<Option<Term<'a>>, AllocError>
+    ensures { IfOk result (λ o. option_map term_view o ≡ option_map (λ p. record { factor = option_map numeral_view factor; place = p }) (read_single word.now)) }
+{
+    match single_place_of(alloc, word) {
+        Ok(Some(place)) => Ok(Some(Term { factor, place })),
+        Ok(None) => Ok(None),
+        Err(error) => Err(error),
+    }
+}
+
 // The term that a word writes.
-#[tactic(auto, using(crate::proofs::LinesRead::no_term))]
 fn term_of<'a>(alloc: Global, word: &'a [u8]) -> Result<Option<Term<'a>>, AllocError>
     ensures { IfOk result (λ o. option_map term_view o ≡ read_term word.now) }
 {
     let parts = parts_of_term(alloc, word)?;
-    match two_words(parts.as_slice()) {
-        Some((factor, place)) => Ok(with_factor(
-            numeral_of(factor),
-            single_place_of(alloc, place)?,
-        )),
-        None => Ok(single_place_of(alloc, word)?.map(|place| Term {
-            factor: None,
-            place,
-        })),
+    let Some((factor, place)) = two_words(parts.as_slice()) else {
+        return term_at(alloc, None, word);
+    };
+    match numeral_of(factor) {
+        Some(factor) => term_at(alloc, Some(factor), place),
+        None => Ok(None),
     }
-}
-
-fn with_factor<'a>(factor: Option<Numeral>, place: Option<PlaceWord<'a>>) -> Option<Term<'a>>
-    ensures { option_map term_view result ≡ factor_and_place (option_map numeral_view factor) (option_map place_view place.entry) }
-{
-    Some(Term {
-        factor: Some(factor?),
-        place: place?,
-    })
 }
 
 // Whether a sign is a minus.
 fn sign_of(word: &[u8]) -> Option<bool>
     ensures { result ≡ read_sign word.now }
 {
-    if word == b"+".as_slice() {
+    if is_word(word, b"+") {
         return Some(false);
     }
-    if word == b"-".as_slice() {
+    if is_word(word, b"-") {
         return Some(true);
     }
     None
@@ -136,9 +139,13 @@ fn addend_of<'a>(
 ) -> Result<Option<Addend<'a>>, AllocError>
     ensures { IfOk result (λ o. option_map addend_view o ≡ read_addend sign.now word.now) }
 {
-    match sign_of(sign) {
-        Some(is_minus) => Ok(term_of(alloc, word)?.map(|term| Addend { is_minus, term })),
-        None => Ok(None),
+    let Some(is_minus) = sign_of(sign) else {
+        return Ok(None);
+    };
+    match term_of(alloc, word) {
+        Ok(Some(term)) => Ok(Some(Addend { is_minus, term })),
+        Ok(None) => Ok(None),
+        Err(error) => Err(error),
     }
 }
 
@@ -171,13 +178,13 @@ fn addends_of<'a>(alloc: Global, words: &[&'a [u8]]) -> Result<Option<Vec<Addend
 fn relation_of(word: &[u8]) -> Option<Relation>
     ensures { option_map relation_view result ≡ read_relation word.now }
 {
-    if word == b"<=".as_slice() {
+    if is_word(word, b"<=") {
         return Some(Relation::AtMost);
     }
-    if word == b">=".as_slice() {
+    if is_word(word, b">=") {
         return Some(Relation::AtLeast);
     }
-    if word == b"==".as_slice() {
+    if is_word(word, b"==") {
         return Some(Relation::EqualTo);
     }
     None
@@ -189,7 +196,7 @@ fn targets_of<'a>(
 ) -> Result<Option<Vec<TargetWord<'a>>>, AllocError>
     ensures { IfOk result (λ o. option_map (λ v. map target_view v.items) o ≡ read_all read_target (map (λ word. word.now) words.now)) }
 {
-    let mut targets = Vec::with_capacity(alloc, words.len())?;
+    let mut targets = Vec::new(alloc);
     for word in words {
         match target_of(alloc, word)? {
             Some(target) => targets.push(target)?,
@@ -199,117 +206,86 @@ fn targets_of<'a>(
     Ok(Some(targets))
 }
 
-fn block_line<'a>(alloc: Global, words: &[&'a [u8]]) -> Result<Option<BlockLine<'a>>, AllocError>
-    ensures { IfOk result (λ o. option_map block_view o ≡ read_block (map (λ word. word.now) words.now)) }
+// A line `entry`, behind its first word.
+fn entry_line<'a>(words: &[&'a [u8]]) -> Option<Line<'a>>
+    ensures { option_map line_view result ≡ option_map written.entry_line (read_entry (map (λ word. word.now) words.now)) }
+{
+    match words {
+        [name] => Some(Line::Entry(name)),
+        _ => None,
+    }
+}
+
+// A line `block`, behind its first word; the same of those below.
+fn block_line<'a>(alloc: Global, words: &[&'a [u8]]) -> Result<Option<Line<'a>>, AllocError>
+    ensures { IfOk result (λ o. option_map line_view o ≡ read_block (map (λ word. word.now) words.now)) }
 {
     let Some((name, behind)) = words.split_first() else {
         return Ok(None);
     };
-    match behind.split_last() {
-        Some((count, ty)) => block_from(alloc, name, ty, numeral_of(count)),
-        None => Ok(None),
-    }
-}
-
-fn block_from<'a>(
-    alloc: Global,
-    name: &'a [u8],
-    ty: &[&'a [u8]],
-    count: Option<Numeral>,
-) -> Result<Option<BlockLine<'a>>, AllocError>
-    ensures { IfOk result (λ o. option_map block_view o ≡ reading.block_from name.now (map (λ word. word.now) ty.now) (option_map numeral_view count)) }
-{
+    let Some((count, ty)) = behind.split_last() else {
+        return Ok(None);
+    };
     if !is_name(name) {
         return Ok(None);
     }
-    match count {
-        Some(count) => Ok(Some(BlockLine {
-            name,
-            ty: Vec::from_slice(alloc, ty)?,
-            count,
-        })),
-        None => Ok(None),
-    }
+    let Some(count) = numeral_of(count) else {
+        return Ok(None);
+    };
+    let ty = Vec::from_slice(alloc, ty)?;
+    Ok(Some(Line::Block(BlockLine { name, ty, count })))
 }
 
 #[tactic(auto, using(crate::proofs::LinesRead::no_range))]
-fn range_line<'a>(alloc: Global, words: &[&'a [u8]]) -> Result<Option<RangeLine<'a>>, AllocError>
-    ensures { IfOk result (λ o. option_map range_view o ≡ read_range (map (λ word. word.now) words.now)) }
+fn range_line<'a>(alloc: Global, words: &[&'a [u8]]) -> Result<Option<Line<'a>>, AllocError>
+    ensures { IfOk result (λ o. option_map line_view o ≡ read_range (map (λ word. word.now) words.now)) }
 {
-    match three_words(words) {
-        Some((place, low, high)) => Ok(range_from(
-            place_of(alloc, place)?,
-            numeral_of(low),
-            numeral_of(high),
-        )),
-        None => Ok(None),
+    let Some((place, low, high)) = three_words(words) else {
+        return Ok(None);
+    };
+    let Some(low) = numeral_of(low) else {
+        return Ok(None);
+    };
+    let Some(high) = numeral_of(high) else {
+        return Ok(None);
+    };
+    match place_of(alloc, place) {
+        Ok(Some(place)) => Ok(Some(Line::Range(RangeLine { place, low, high }))),
+        Ok(None) => Ok(None),
+        Err(error) => Err(error),
     }
 }
 
-fn range_from<'a>(
-    place: Option<PlaceWord<'a>>,
-    low: Option<Numeral>,
-    high: Option<Numeral>,
-) -> Option<RangeLine<'a>>
-    ensures { option_map range_view result ≡ reading.range_from (option_map place_view place.entry) (option_map numeral_view low) (option_map numeral_view high) }
+fn points_line<'a>(alloc: Global, words: &[&'a [u8]]) -> Result<Option<Line<'a>>, AllocError>
+    ensures { IfOk result (λ o. option_map line_view o ≡ read_points (map (λ word. word.now) words.now)) }
 {
-    Some(RangeLine {
-        place: place?,
-        low: low?,
-        high: high?,
-    })
-}
-
-fn points_line<'a>(alloc: Global, words: &[&'a [u8]]) -> Result<Option<PointsLine<'a>>, AllocError>
-    ensures { IfOk result (λ o. option_map points_view o ≡ read_points (map (λ word. word.now) words.now)) }
-{
-    match words.split_first() {
-        Some((place, targets)) => Ok(points_from(
-            place_of(alloc, place)?,
-            targets_of(alloc, targets)?,
-        )),
-        None => Ok(None),
+    let Some((place, targets)) = words.split_first() else {
+        return Ok(None);
+    };
+    let Some(place) = place_of(alloc, place)? else {
+        return Ok(None);
+    };
+    match targets_of(alloc, targets) {
+        Ok(Some(targets)) => Ok(Some(Line::Points(PointsLine { place, targets }))),
+        Ok(None) => Ok(None),
+        Err(error) => Err(error),
     }
-}
-
-fn points_from<'a>(
-    place: Option<PlaceWord<'a>>,
-    targets: Option<Vec<TargetWord<'a>>>,
-) -> Option<PointsLine<'a>>
-    ensures { option_map points_view result ≡ reading.points_from (option_map place_view place.entry) (option_map (λ v. map target_view v.items) targets.entry) }
-{
-    Some(PointsLine {
-        place: place?,
-        targets: targets?,
-    })
 }
 
 #[tactic(auto, using(crate::proofs::LinesRead::no_stub))]
-fn stub_line<'a>(words: &[&'a [u8]]) -> Option<StubLine<'a>>
-    ensures { option_map stub_view result ≡ read_stub (map (λ word. word.now) words.now) }
+fn stub_line<'a>(words: &[&'a [u8]]) -> Option<Line<'a>>
+    ensures { option_map line_view result ≡ read_stub (map (λ word. word.now) words.now) }
 {
-    let (name, low, high) = three_words(words)?;
-    Some(StubLine {
-        name,
-        low: numeral_of(low)?,
-        high: numeral_of(high)?,
-    })
-}
-
-fn require_from<'a>(
-    first: Option<Term<'a>>,
-    others: Option<Vec<Addend<'a>>>,
-    relation: Option<Relation>,
-    constant: Option<Numeral>,
-) -> Option<RequireLine<'a>>
-    ensures { option_map require_view result ≡ reading.require_from (option_map term_view first.entry) (option_map (λ v. map addend_view v.items) others.entry) (option_map relation_view relation) (option_map numeral_view constant) }
-{
-    Some(RequireLine {
-        first: first?,
-        others: others?,
-        relation: relation?,
-        constant: constant?,
-    })
+    let Some((name, low, high)) = three_words(words) else {
+        return None;
+    };
+    let Some(low) = numeral_of(low) else {
+        return None;
+    };
+    let Some(high) = numeral_of(high) else {
+        return None;
+    };
+    Some(Line::Stub(StubLine { name, low, high }))
 }
 
 // The requirement of these terms with their signs.
@@ -318,25 +294,35 @@ fn requirement_of<'a>(
     sum: &[&'a [u8]],
     relation: &[u8],
     constant: &[u8],
-) -> Result<Option<RequireLine<'a>>, AllocError>
-    ensures { IfOk result (λ o. option_map require_view o ≡ read_requirement (map (λ word. word.now) sum.now) relation.now constant.now) }
+) -> Result<Option<Line<'a>>, AllocError>
+    ensures { IfOk result (λ o. option_map line_view o ≡ read_requirement (map (λ word. word.now) sum.now) relation.now constant.now) }
 {
-    match sum.split_first() {
-        Some((first, others)) => Ok(require_from(
-            term_of(alloc, first)?,
-            addends_of(alloc, others)?,
-            relation_of(relation),
-            numeral_of(constant),
-        )),
-        None => Ok(None),
+    let Some((first, others)) = sum.split_first() else {
+        return Ok(None);
+    };
+    let Some(relation) = relation_of(relation) else {
+        return Ok(None);
+    };
+    let Some(constant) = numeral_of(constant) else {
+        return Ok(None);
+    };
+    let Some(first) = term_of(alloc, first)? else {
+        return Ok(None);
+    };
+    match addends_of(alloc, others) {
+        Ok(Some(others)) => Ok(Some(Line::Require(RequireLine {
+            first,
+            others,
+            relation,
+            constant,
+        }))),
+        Ok(None) => Ok(None),
+        Err(error) => Err(error),
     }
 }
 
-fn require_line<'a>(
-    alloc: Global,
-    words: &[&'a [u8]],
-) -> Result<Option<RequireLine<'a>>, AllocError>
-    ensures { IfOk result (λ o. option_map require_view o ≡ read_require (map (λ word. word.now) words.now)) }
+fn require_line<'a>(alloc: Global, words: &[&'a [u8]]) -> Result<Option<Line<'a>>, AllocError>
+    ensures { IfOk result (λ o. option_map line_view o ≡ read_require (map (λ word. word.now) words.now)) }
 {
     let Some((constant, before)) = words.split_last() else {
         return Ok(None);
@@ -354,43 +340,23 @@ pub fn line_of<'a>(alloc: Global, words: &[&'a [u8]]) -> Result<Option<Line<'a>>
     let Some((keyword, rest)) = words.split_first() else {
         return Ok(None);
     };
-    if *keyword == b"range".as_slice() {
-        return Ok(range_line(alloc, rest)?.map(Line::Range));
+    if is_word(keyword, b"range") {
+        return range_line(alloc, rest);
     }
-    if *keyword == b"points".as_slice() {
-        return Ok(points_line(alloc, rest)?.map(Line::Points));
+    if is_word(keyword, b"points") {
+        return points_line(alloc, rest);
     }
-    if *keyword == b"require".as_slice() {
-        return Ok(require_line(alloc, rest)?.map(Line::Require));
+    if is_word(keyword, b"require") {
+        return require_line(alloc, rest);
     }
-    short_line(alloc, keyword, rest)
-}
-
-fn entry_line<'a>(words: &[&'a [u8]]) -> Option<&'a [u8]>
-    ensures { option_map (λ name. name.now) result ≡ read_entry (map (λ word. word.now) words.now) }
-{
-    match words {
-        [name] => Some(name),
-        _ => None,
+    if is_word(keyword, b"entry") {
+        return Ok(entry_line(rest));
     }
-}
-
-// A line with no place.
-fn short_line<'a>(
-    alloc: Global,
-    keyword: &[u8],
-    rest: &[&'a [u8]],
-) -> Result<Option<Line<'a>>, AllocError>
-    ensures { IfOk result (λ o. option_map line_view o ≡ read_short keyword.now (map (λ word. word.now) rest.now)) }
-{
-    if keyword == b"entry".as_slice() {
-        return Ok(entry_line(rest).map(Line::Entry));
+    if is_word(keyword, b"block") {
+        return block_line(alloc, rest);
     }
-    if keyword == b"block".as_slice() {
-        return Ok(block_line(alloc, rest)?.map(Line::Block));
-    }
-    if keyword == b"stub".as_slice() {
-        return Ok(stub_line(rest).map(Line::Stub));
+    if is_word(keyword, b"stub") {
+        return Ok(stub_line(rest));
     }
     Ok(None)
 }

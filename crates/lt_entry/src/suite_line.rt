@@ -1,14 +1,13 @@
 ghost use Rattle.std.specs.Prelude.{◌≡◌, IfOk, option_map, map};
 ghost use Rattle.lt_entry.specs.Suites.{is_test_name};
-ghost use Rattle.lt_entry.specs.Views.{numeral_view, place_view, target_view};
-ghost use Rattle.lt_entry.specs.LineViews.{set_view, point_view, values_view, suite_line_view};
+ghost use Rattle.lt_entry.specs.Views.{numeral_view};
+ghost use Rattle.lt_entry.specs.LineViews.{suite_line_view};
 ghost use Rattle.lt_entry.specs.Reading.{read_all, read_numeral};
 ghost use Rattle.lt_entry.specs.ReadingLines.{read_test, read_set, read_point, read_values, read_suite_line};
-ghost use Rattle.lt_entry.specs.ReadingLines as reading;
 
 use crate::number::{Numeral, numeral_of};
 use crate::place::{PlaceWord, TargetWord, are_name_bytes, single_place_of, single_target_of};
-use crate::words::two_words;
+use crate::words::{is_word, two_words};
 use std::alloc::{AllocError, Global};
 
 /// `set PLACE INT`
@@ -62,54 +61,44 @@ fn test_line<'a>(words: &[&'a [u8]]) -> Option<SuiteLine<'a>>
     }
 }
 
-fn set_from<'a>(place: Option<PlaceWord<'a>>, value: Option<Numeral>) -> Option<SetLine<'a>>
-    ensures { option_map set_view result ≡ reading.set_from (option_map place_view place.entry) (option_map numeral_view value) }
-{
-    Some(SetLine {
-        place: place?,
-        value: value?,
-    })
-}
-
 #[tactic(auto, using(crate::proofs::LinesRead::no_set))]
-fn set_line<'a>(alloc: Global, words: &[&'a [u8]]) -> Result<Option<SetLine<'a>>, AllocError>
-    ensures { IfOk result (λ o. option_map set_view o ≡ read_set (map (λ word. word.now) words.now)) }
+fn set_line<'a>(alloc: Global, words: &[&'a [u8]]) -> Result<Option<SuiteLine<'a>>, AllocError>
+    ensures { IfOk result (λ o. option_map suite_line_view o ≡ read_set (map (λ word. word.now) words.now)) }
 {
-    match two_words(words) {
-        Some((place, value)) => Ok(set_from(single_place_of(alloc, place)?, numeral_of(value))),
-        None => Ok(None),
+    let Some((place, value)) = two_words(words) else {
+        return Ok(None);
+    };
+    let Some(value) = numeral_of(value) else {
+        return Ok(None);
+    };
+    match single_place_of(alloc, place) {
+        Ok(Some(place)) => Ok(Some(SuiteLine::Set(SetLine { place, value }))),
+        Ok(None) => Ok(None),
+        Err(error) => Err(error),
     }
 }
 
-fn point_from<'a>(
-    place: Option<PlaceWord<'a>>,
-    target: Option<TargetWord<'a>>,
-) -> Option<PointLine<'a>>
-    ensures { option_map point_view result ≡ reading.point_from (option_map place_view place.entry) (option_map target_view target.entry) }
-{
-    Some(PointLine {
-        place: place?,
-        target: target?,
-    })
-}
-
 #[tactic(auto, using(crate::proofs::LinesRead::no_point))]
-fn point_line<'a>(alloc: Global, words: &[&'a [u8]]) -> Result<Option<PointLine<'a>>, AllocError>
-    ensures { IfOk result (λ o. option_map point_view o ≡ read_point (map (λ word. word.now) words.now)) }
+fn point_line<'a>(alloc: Global, words: &[&'a [u8]]) -> Result<Option<SuiteLine<'a>>, AllocError>
+    ensures { IfOk result (λ o. option_map suite_line_view o ≡ read_point (map (λ word. word.now) words.now)) }
 {
-    match two_words(words) {
-        Some((place, target)) => Ok(point_from(
-            single_place_of(alloc, place)?,
-            single_target_of(alloc, target)?,
-        )),
-        None => Ok(None),
+    let Some((place, target)) = two_words(words) else {
+        return Ok(None);
+    };
+    let Some(place) = single_place_of(alloc, place)? else {
+        return Ok(None);
+    };
+    match single_target_of(alloc, target) {
+        Ok(Some(target)) => Ok(Some(SuiteLine::Point(PointLine { place, target }))),
+        Ok(None) => Ok(None),
+        Err(error) => Err(error),
     }
 }
 
 fn numerals_of(alloc: Global, words: &[&[u8]]) -> Result<Option<Vec<Numeral>>, AllocError>
     ensures { IfOk result (λ o. option_map (λ v. map numeral_view v.items) o ≡ read_all read_numeral (map (λ word. word.now) words.now)) }
 {
-    let mut numerals = Vec::with_capacity(alloc, words.len())?;
+    let mut numerals = Vec::new(alloc);
     for word in words {
         match numeral_of(word) {
             Some(numeral) => numerals.push(numeral)?,
@@ -119,14 +108,16 @@ fn numerals_of(alloc: Global, words: &[&[u8]]) -> Result<Option<Vec<Numeral>>, A
     Ok(Some(numerals))
 }
 
-fn values_line<'a>(alloc: Global, words: &[&'a [u8]]) -> Result<Option<ValuesLine<'a>>, AllocError>
-    ensures { IfOk result (λ o. option_map values_view o ≡ read_values (map (λ word. word.now) words.now)) }
+fn values_line<'a>(alloc: Global, words: &[&'a [u8]]) -> Result<Option<SuiteLine<'a>>, AllocError>
+    ensures { IfOk result (λ o. option_map suite_line_view o ≡ read_values (map (λ word. word.now) words.now)) }
 {
-    match words.split_first() {
-        Some((stub, numbers)) => {
-            Ok(numerals_of(alloc, numbers)?.map(|values| ValuesLine { stub, values }))
-        }
-        None => Ok(None),
+    let Some((stub, numbers)) = words.split_first() else {
+        return Ok(None);
+    };
+    match numerals_of(alloc, numbers) {
+        Ok(Some(values)) => Ok(Some(SuiteLine::Values(ValuesLine { stub, values }))),
+        Ok(None) => Ok(None),
+        Err(error) => Err(error),
     }
 }
 
@@ -140,16 +131,16 @@ pub fn suite_line_of<'a>(
     let Some((keyword, rest)) = words.split_first() else {
         return Ok(None);
     };
-    if *keyword == b"set".as_slice() {
-        return Ok(set_line(alloc, rest)?.map(SuiteLine::Set));
+    if is_word(keyword, b"set") {
+        return set_line(alloc, rest);
     }
-    if *keyword == b"point".as_slice() {
-        return Ok(point_line(alloc, rest)?.map(SuiteLine::Point));
+    if is_word(keyword, b"point") {
+        return point_line(alloc, rest);
     }
-    if *keyword == b"stub".as_slice() {
-        return Ok(values_line(alloc, rest)?.map(SuiteLine::Values));
+    if is_word(keyword, b"stub") {
+        return values_line(alloc, rest);
     }
-    if *keyword == b"test".as_slice() {
+    if is_word(keyword, b"test") {
         return Ok(test_line(rest));
     }
     Ok(None)

@@ -1,4 +1,12 @@
 ghost use Rattle.std.specs.Prelude.{◌≡◌, ◌≢◌, ◌∷◌, [], length, map, MatchOption};
+ghost use Rattle.std.specs.Str.{bytes_eq};
+
+/// Whether a word is spelled so.
+pub fn is_word(word: &[u8], spelled: &[u8]) -> bool
+    ensures { result ≡ bytes_eq word.now spelled.now }
+{
+    word == spelled
+}
 
 /// The words, if there are two.
 pub fn two_words<'a>(words: &[&'a [u8]]) -> Option<(&'a [u8], &'a [u8])>
