@@ -3,17 +3,7 @@
 use crate::escapes::put_meant;
 use crate::question::Question;
 use crate::stop::Stop;
-use std::alloc::{AllocError, Global};
-use std::mem;
-
-/// A text with its question, and what has to come. It begins at this line.
-#[derive(Drop)]
-pub struct Row<'a> {
-    pub line: usize,
-    pub question: Question<'a>,
-    pub text: Vec<u8>,
-    pub answer: Vec<u8>,
-}
+use std::alloc::Global;
 
 /// What a line is part of.
 #[derive(Clone, Copy, PartialEq, Eq)]
@@ -29,13 +19,15 @@ enum Part {
 #[derive(Drop)]
 pub struct Sheet<'a> {
     alloc: Global,
-    question: Option<Question<'a>>,
-    beside: Vec<u8>,
+    pub question: Option<Question<'a>>,
+    /// What is declared beside the texts of rows.
+    pub beside: Vec<u8>,
     part: Part,
-    /// Where the latest row begins, and what is known of its text and its answer.
-    line: usize,
-    text: Vec<u8>,
-    answer: Vec<u8>,
+    /// Where the latest row begins.
+    pub line: usize,
+    /// What is known of its text, and of what has to come of it.
+    pub text: Vec<u8>,
+    pub answer: Vec<u8>,
 }
 
 // A line of a text or of an answer, with its end, unless it says that it has none.
@@ -75,11 +67,6 @@ impl<'a> Sheet<'a> {
         }
     }
 
-    /// What is declared beside the texts of rows.
-    pub fn beside(&self) -> &[u8] {
-        self.beside.as_slice()
-    }
-
     /// Where a row begins that hasn't ended.
     pub fn unended_row(&self) -> Option<usize> {
         if self.part == Part::Rows {
@@ -89,8 +76,8 @@ impl<'a> Sheet<'a> {
         }
     }
 
-    /// The row that ends with this line, if one does.
-    pub fn take(&mut self, number: usize, line: &'a str) -> Result<Option<Row<'a>>, Stop> {
+    /// Whether a row ends with this line.
+    pub fn take(&mut self, number: usize, line: &'a str) -> Result<bool, Stop> {
         match self.part {
             Part::Rows => self.take_row(number, line),
             Part::Text => self.take_text(line),
@@ -98,47 +85,57 @@ impl<'a> Sheet<'a> {
         }
     }
 
-    fn take_row(&mut self, number: usize, line: &'a str) -> Result<Option<Row<'a>>, Stop> {
+    fn take_row(&mut self, number: usize, line: &'a str) -> Result<bool, Stop> {
         self.line = number;
         self.text.clear();
         self.answer.clear();
         if line.is_empty() || line.starts_with("### ") {
-            return Ok(None);
+            return Ok(false);
         }
         if let Some(heading) = line.strip_prefix("## ") {
-            self.take_heading(heading)?;
-            return Ok(None);
+            return self.take_heading(heading);
         }
         if line == "<<" {
             self.part = Part::Text;
-            return Ok(None);
+            return Ok(false);
         }
-        let question = self.question.ok_or(Stop::NoQuestion)?;
-        let (text, answer) = sides(question, line).ok_or(Stop::NoAnswer)?;
+        self.take_sides(line)
+    }
+
+    // A row of one line.
+    fn take_sides(&mut self, line: &str) -> Result<bool, Stop> {
+        let Some(question) = self.question else {
+            return Err(Stop::NoQuestion);
+        };
+        let Some((text, answer)) = sides(question, line) else {
+            return Err(Stop::NoAnswer);
+        };
         put_meant(&mut self.text, text)?;
         put_meant(&mut self.answer, answer)?;
-        self.end_row()
+        Ok(true)
     }
 
-    fn take_heading(&mut self, heading: &'a str) -> Result<(), Stop> {
+    fn take_heading(&mut self, heading: &'a str) -> Result<bool, Stop> {
         if let Some(text) = heading.strip_prefix("beside: ") {
-            return put_line(&mut self.beside, text);
+            put_line(&mut self.beside, text)?;
+            return Ok(false);
         }
-        self.beside = Vec::new(self.alloc);
+        self.beside.clear();
         self.question = Question::of_heading(heading);
-        if self.question.is_none() {
-            return Err(Stop::NoSuchQuestion);
+        if self.question.is_some() {
+            Ok(false)
+        } else {
+            Err(Stop::NoSuchQuestion)
         }
-        Ok(())
     }
 
-    fn take_text(&mut self, line: &str) -> Result<Option<Row<'a>>, Stop> {
+    fn take_text(&mut self, line: &str) -> Result<bool, Stop> {
         if line == "=>" {
             self.part = Part::Answer;
-            return Ok(None);
+            return Ok(false);
         }
         if line == ">>" {
-            self.answer = Vec::from_slice(self.alloc, self.text.as_slice())?;
+            self.answer.extend_from_slice(self.text.as_slice())?;
             return self.end_row();
         }
         if let Some(answer) = line.strip_prefix("=> ") {
@@ -146,27 +143,24 @@ impl<'a> Sheet<'a> {
             return self.end_row();
         }
         put_line(&mut self.text, line)?;
-        Ok(None)
+        Ok(false)
     }
 
-    fn take_answer(&mut self, line: &str) -> Result<Option<Row<'a>>, Stop> {
+    fn take_answer(&mut self, line: &str) -> Result<bool, Stop> {
         if line == ">>" {
             return self.end_row();
         }
         put_line(&mut self.answer, line)?;
-        Ok(None)
+        Ok(false)
     }
 
-    fn end_row(&mut self) -> Result<Option<Row<'a>>, Stop> {
+    // A row of several lines ends.
+    fn end_row(&mut self) -> Result<bool, Stop> {
         self.part = Part::Rows;
-        let text = mem::replace(&mut self.text, Vec::new(self.alloc));
-        let answer = mem::replace(&mut self.answer, Vec::new(self.alloc));
-        let question = self.question.ok_or(Stop::NoQuestion)?;
-        Ok(Some(Row {
-            line: self.line,
-            question,
-            text,
-            answer,
-        }))
+        if self.question.is_some() {
+            Ok(true)
+        } else {
+            Err(Stop::NoQuestion)
+        }
     }
 }
