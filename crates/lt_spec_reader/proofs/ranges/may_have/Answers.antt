@@ -12,5 +12,5 @@ returns c = λ before said.
     let low = numeral_view c.args.line.now.low in
     let high = numeral_view c.args.line.now.high in
     let said_at = is_some (found_at c.args.wants.now c.args.part.now.place) in
-    c.may_have_range.ensures ∙ ap (λ m. is_range m low high c.scalar.result && not said_at) c.model.ensures
-    ∙ may_range_is (scope_of c.args.names.now) before low high (named_at c.args.names.now c.args.part.now) _ _ _ _ refl c.scalar.ensures refl (said c.args.part.now.place)
+    c.may_have_range.ensures ∙ ap (λ m. is_range m low high c.scalar-scalar.result && not said_at) c.model.ensures
+    ∙ may_range_is (scope_of c.args.names.now) before low high (named_at c.args.names.now c.args.part.now) _ _ _ _ refl c.scalar-scalar.ensures refl (said c.args.part.now.place)
