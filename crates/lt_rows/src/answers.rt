@@ -7,17 +7,15 @@ use lt_model::Name;
 use std::alloc::{AllocError, Global};
 
 fn number(word: &str) -> Result<u32, Stop> {
-    match word.parse::<u32>() {
-        Ok(number) => Ok(number),
-        Err(_) => Err(Stop::NoNumber),
-    }
+    word.parse::<u32>().map_err(|_| Stop::NoNumber)
+}
+
+fn rule(word: &str) -> Result<u8, Stop> {
+    word.parse::<u8>().map_err(|_| Stop::NoNumber)
 }
 
 fn length(word: &str) -> Result<u64, Stop> {
-    match word.parse::<u64>() {
-        Ok(number) => Ok(number),
-        Err(_) => Err(Stop::NoNumber),
-    }
+    word.parse::<u64>().map_err(|_| Stop::NoNumber)
 }
 
 fn name(alloc: Global, word: &str) -> Result<Name, AllocError> {
@@ -29,50 +27,29 @@ fn pair(words: &str) -> Result<(&str, &str), Stop> {
     words.split_once(' ').ok_or(Stop::OneText)
 }
 
-fn unsupported(alloc: Global, rest: &str) -> Result<Refusal, Stop> {
-    let (word, at) = pair(rest)?;
-    let at = number(at)?;
-    Ok(Refusal::Unsupported(name(alloc, word)?, at))
-}
-
-fn typing(rest: &str) -> Result<Refusal, Stop> {
-    let (rule, at) = pair(rest)?;
-    match rule.parse::<u8>() {
-        Ok(rule) => Ok(Refusal::Typing(rule, number(at)?)),
-        Err(_) => Err(Stop::NoNumber),
-    }
-}
-
-// A refusal that tells a number alone.
-fn numbered(kind: &str, number: u32) -> Result<Refusal, Stop> {
-    match kind {
-        "lex" => Ok(Refusal::Lex(number)),
-        "nested" => Ok(Refusal::TooNested(number)),
-        "syntax" => Ok(Refusal::Syntax(number)),
-        "spec" => Ok(Refusal::Spec(number)),
-        "suite" => Ok(Refusal::Suite(number)),
-        "cover" => Ok(Refusal::Cover(number)),
-        "label" => Ok(Refusal::Mixed(number)),
-        "hyperlabel" => Ok(Refusal::MixedHyper(number)),
-        _ => Err(Stop::NoSuchQuestion),
-    }
-}
-
 fn refusal(alloc: Global, kind: &str, rest: &str) -> Result<Refusal, Stop> {
     match kind {
-        "unsupported" => unsupported(alloc, rest),
-        "typing" => typing(rest),
+        "lex" => Ok(Refusal::Lex(number(rest)?)),
+        "unsupported" => {
+            let (word, at) = pair(rest)?;
+            Ok(Refusal::Unsupported(name(alloc, word)?, number(at)?))
+        }
+        "nested" => Ok(Refusal::TooNested(number(rest)?)),
+        "syntax" => Ok(Refusal::Syntax(number(rest)?)),
+        "typing" => {
+            let (broken, at) = pair(rest)?;
+            Ok(Refusal::Typing(rule(broken)?, number(at)?))
+        }
         "entry" => Ok(Refusal::NoEntry),
+        "spec" => Ok(Refusal::Spec(number(rest)?)),
+        "suite" => Ok(Refusal::Suite(number(rest)?)),
+        "cover" => Ok(Refusal::Cover(number(rest)?)),
+        "label" => Ok(Refusal::Mixed(number(rest)?)),
+        "hyperlabel" => Ok(Refusal::MixedHyper(number(rest)?)),
         "grown" => Ok(Refusal::Grown(length(rest)?)),
         "test" => Ok(Refusal::MixedTest(name(alloc, rest)?)),
-        _ => numbered(kind, number(rest)?),
+        _ => Err(Stop::NoSuchQuestion),
     }
-}
-
-fn too_long(alloc: Global, rest: &str) -> Result<Status, Stop> {
-    let (file, bytes) = pair(rest)?;
-    let bytes = length(bytes)?;
-    Ok(Status::TooLong(name(alloc, file)?, bytes))
 }
 
 fn status(alloc: Global, text: &str) -> Result<Status, Stop> {
@@ -81,7 +58,10 @@ fn status(alloc: Global, text: &str) -> Result<Status, Stop> {
         "done" => Ok(Status::Done),
         "usage" => Ok(Status::Usage),
         "absent" => Ok(Status::Absent(name(alloc, rest)?)),
-        "long" => too_long(alloc, rest),
+        "long" => {
+            let (file, len) = pair(rest)?;
+            Ok(Status::TooLong(name(alloc, file)?, length(len)?))
+        }
         "reading" => Ok(Status::ReadFault),
         "writing" => Ok(Status::WriteFault),
         "memory" => Ok(Status::NoMemory),
@@ -90,20 +70,18 @@ fn status(alloc: Global, text: &str) -> Result<Status, Stop> {
 }
 
 /// The exit code of a status, and its line on standard error.
-pub fn put_told(alloc: Global, words: &mut Words, status: &Status) -> Result<(), Stop> {
-    words.push_number(i128::from(code(status)));
+pub fn told(alloc: Global, status: &Status) -> Result<Vec<u8>, Stop> {
+    let mut words = Words::new(alloc);
+    words.push_number(i128::from(code(status)))?;
     let line = message(alloc, status)?;
     if !line.is_empty() {
-        words.push_text(line.as_str());
+        words.push_text(line.as_str())?;
     }
-    Ok(())
+    Ok(words.into_bytes())
 }
 
 /// The exit code of an answer, and its line on standard error.
-pub fn answered(alloc: Global, words: &mut Words, text: &[u8]) -> Result<(), Stop> {
-    let Ok(text) = std::str::from_utf8(text) else {
-        return Err(Stop::NoSuchQuestion);
-    };
-    let status = status(alloc, text)?;
-    put_told(alloc, words, &status)
+pub fn answered(alloc: Global, text: &[u8]) -> Result<Vec<u8>, Stop> {
+    let text = std::str::from_utf8(text).map_err(|_| Stop::NoSuchQuestion)?;
+    told(alloc, &status(alloc, text)?)
 }

@@ -19,23 +19,13 @@ fn named_byte(name: &str) -> Option<u8> {
     }
 }
 
-fn put_named(out: &mut Vec<u8>, name: &str) -> Result<(), Stop> {
-    match named_byte(name) {
-        Some(byte) => Ok(out.push(byte)?),
-        None => Err(Stop::NoSuchEscape),
-    }
-}
-
 // A piece so many times.
-fn put_times(out: &mut Vec<u8>, times: &str, piece: &str) -> Result<(), Stop> {
-    let Ok(times) = times.parse::<usize>() else {
-        return Err(Stop::NoSuchEscape);
-    };
+fn repeat(out: &mut Vec<u8>, times: usize, piece: &[u8]) -> Result<(), Stop> {
     if times > MOST_TIMES {
         return Err(Stop::TooLong);
     }
     for _turn in 0..times {
-        out.extend_from_slice(piece.as_bytes())?;
+        out.extend_from_slice(piece)?;
     }
     Ok(())
 }
@@ -46,11 +36,14 @@ fn put_escape(out: &mut Vec<u8>, escape: &str) -> Result<(), Stop> {
         return Ok(());
     }
     if let Some(name) = escape.strip_prefix('\\') {
-        return put_named(out, name);
+        let byte = named_byte(name).ok_or(Stop::NoSuchEscape)?;
+        out.push(byte)?;
+        return Ok(());
     }
-    match escape.split_once(' ') {
-        Some((times, piece)) => put_times(out, times, piece),
-        None => Err(Stop::NoSuchEscape),
+    let (times, piece) = escape.split_once(' ').ok_or(Stop::NoSuchEscape)?;
+    match times.parse::<usize>() {
+        Ok(times) => repeat(out, times, piece.as_bytes()),
+        Err(_) => Err(Stop::NoSuchEscape),
     }
 }
 
@@ -73,21 +66,16 @@ pub fn put_meant(out: &mut Vec<u8>, line: &str) -> Result<(), Stop> {
     }
 }
 
-// A byte as it is written in one line.
-fn put_shown(alloc: Global, line: &mut String, byte: u8) -> Result<(), AllocError> {
-    match byte {
-        b'\n' => line.push_str("`\\n`"),
-        b'`' => line.push_str("`\\x60`"),
-        32..=126 => line.push(char::from(byte)),
-        other => line.push_str(format!(in alloc; "`\\x{other:02x}`")?.as_str()),
-    }
-}
-
 /// Bytes as they are written in one line.
 pub fn shown(alloc: Global, bytes: &[u8]) -> Result<String, AllocError> {
     let mut line = String::new(alloc);
     for byte in bytes {
-        put_shown(alloc, &mut line, *byte)?;
+        match *byte {
+            b'\n' => line.push_str("`\\n`")?,
+            b'`' => line.push_str("`\\x60`")?,
+            32..=126 => line.push(char::from(*byte))?,
+            other => line.push_str(format!(in alloc; "`\\x{other:02x}`")?.as_str())?,
+        }
     }
     Ok(line)
 }

@@ -9,12 +9,6 @@ use lt_model::Name;
 use lt_tree::Expr;
 use std::alloc::Global;
 
-fn declare(alloc: Global, names: &mut Typedefs, name: &str, is_type: bool) -> Result<(), Stop> {
-    let name = Name::new(alloc, name.as_bytes())?;
-    names.declare(&name, is_type)?;
-    Ok(())
-}
-
 // The names of a heading: `+T` is a typedef name, `-T` another name, and `^` takes off the innermost.
 fn in_scope(alloc: Global, list: &str) -> Result<Typedefs, Stop> {
     let mut names = Typedefs::new(alloc);
@@ -22,9 +16,9 @@ fn in_scope(alloc: Global, list: &str) -> Result<Typedefs, Stop> {
         if word == "^" {
             names.back_to(names.len().saturating_sub(1));
         } else if let Some(name) = word.strip_prefix('+') {
-            declare(alloc, &mut names, name, true)?;
+            names.declare(&Name::new(alloc, name.as_bytes())?, true)?;
         } else if let Some(name) = word.strip_prefix('-') {
-            declare(alloc, &mut names, name, false)?;
+            names.declare(&Name::new(alloc, name.as_bytes())?, false)?;
         } else {
             return Err(Stop::NoSuchName);
         }
@@ -70,31 +64,26 @@ fn form(e: &Expr) -> &'static str {
     }
 }
 
-// The form of an expression, of a string literal its bytes.
-fn put_form(words: &mut Words, e: &Expr) {
-    match e {
-        Expr::Text(bytes) => words.push(bytes.as_slice()),
-        e => words.push_text(form(e)),
-    }
-}
-
 /// The form of an expression, of a string literal its bytes, and how many tokens it has; then the spots of its nodes, or how many
 /// these are.
 pub fn expression(
     alloc: Global,
-    words: &mut Words,
     text: &[u8],
     names: &str,
     with_spots: bool,
-) -> Result<(), Stop> {
+) -> Result<Vec<u8>, Stop> {
     let parsed = parsed(alloc, text, names)?;
-    put_form(words, &parsed.tree);
-    words.push_number(parsed.next as i128);
-    if with_spots {
-        words.push_text("at");
-        words.push_spots(parsed.spots.as_slice());
-    } else {
-        words.push_number(parsed.spots.len() as i128);
+    let mut words = Words::new(alloc);
+    match &parsed.tree {
+        Expr::Text(bytes) => words.push(&[bytes.as_slice()])?,
+        tree => words.push_text(form(tree))?,
     }
-    Ok(())
+    words.push_number(parsed.next as i128)?;
+    if with_spots {
+        words.push_text("at")?;
+        words.push_spots(parsed.spots.as_slice())?;
+    } else {
+        words.push_number(parsed.spots.len() as i128)?;
+    }
+    Ok(words.into_bytes())
 }

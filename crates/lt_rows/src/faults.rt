@@ -1,10 +1,9 @@
 //! The command `annotate` between a shelf and a sink in memory of which one call fails.
 
 use crate::annotations::annotated;
-use crate::answers::put_told;
+use crate::answers::told;
 use crate::pairs::pair;
 use crate::stop::Stop;
-use crate::words::Words;
 use lt_answers::Status;
 use lt_outside::{MapShelf, VecSink};
 use lt_sources::{put_text, read_file};
@@ -21,31 +20,33 @@ enum Fault {
 }
 
 fn number(word: &str) -> Result<u64, Stop> {
-    match word.parse::<u64>() {
-        Ok(number) => Ok(number),
-        Err(_) => Err(Stop::NoNumber),
-    }
-}
-
-// The call and the count of a put that fails.
-fn put_fault(rest: &str) -> Result<Fault, Stop> {
-    match rest.split_once(' ') {
-        Some((call, taken)) => Ok(Fault::Put(number(call)?, number(taken)?)),
-        None => Err(Stop::NoSuchFault),
-    }
+    word.parse::<u64>().map_err(|_| Stop::NoNumber)
 }
 
 // The fault of a line.
 fn fault_of(line: &[u8]) -> Result<Fault, Stop> {
-    let Ok(line) = std::str::from_utf8(line) else {
-        return Err(Stop::NoSuchFault);
-    };
+    let line = std::str::from_utf8(line).map_err(|_| Stop::NoSuchFault)?;
     let line = line.strip_suffix("\n").unwrap_or(line);
     match line.split_once(' ') {
         Some(("read", call)) => Ok(Fault::Read(number(call)?)),
-        Some(("put", rest)) => put_fault(rest),
+        Some(("put", rest)) => {
+            let (call, taken) = rest.split_once(' ').ok_or(Stop::NoSuchFault)?;
+            Ok(Fault::Put(number(call)?, number(taken)?))
+        }
         _ => Err(Stop::NoSuchFault),
     }
+}
+
+// A shelf with the file, and a sink, of which these calls fail.
+fn outside(
+    alloc: Global,
+    file: &[u8],
+    reads: &[u64],
+    puts: &[(u64, u64)],
+) -> Result<(MapShelf, VecSink), Stop> {
+    let mut shelf = MapShelf::new(alloc, reads)?;
+    shelf.add(alloc, FILE, file)?;
+    Ok((shelf, VecSink::new(alloc, puts)?))
 }
 
 // Reads the file, and puts it with the labels that options ask for.
@@ -58,49 +59,22 @@ fn command(
     match read_file(alloc, shelf, FILE) {
         Err(status) => Ok(status),
         Ok(file) => {
-            let mut text = Words::new(alloc);
-            annotated(alloc, &mut text, file.as_slice(), options)?;
-            let text = text.into_bytes()?;
+            let text = annotated(alloc, file.as_slice(), options)?;
             Ok(put_text(sink, text.as_slice()))
         }
     }
 }
 
-// How the command ends between a shelf and a sink, and what the sink has then.
-fn put_between(
-    alloc: Global,
-    words: &mut Words,
-    shelf: &mut MapShelf,
-    sink: &mut VecSink,
-    options: &str,
-) -> Result<(), Stop> {
-    let status = command(alloc, shelf, sink, options)?;
-    put_told(alloc, words, &status)?;
-    words.append(b"\n");
-    words.append(sink.bytes());
-    Ok(())
-}
-
-// How the command ends on a file where these calls fail, and what the sink has then.
-fn put_ended(
-    alloc: Global,
-    words: &mut Words,
-    file: &[u8],
-    options: &str,
-    reads: &[u64],
-    puts: &[(u64, u64)],
-) -> Result<(), Stop> {
-    let mut shelf = MapShelf::new(alloc, reads)?;
-    shelf.add(alloc, FILE, file)?;
-    let mut sink = VecSink::new(alloc, puts)?;
-    put_between(alloc, words, &mut shelf, &mut sink, options)
-}
-
 /// How the command ends on a file past a fault, and what the sink has then.
-pub fn ended(alloc: Global, words: &mut Words, text: &[u8], options: &str) -> Result<(), Stop> {
+pub fn ended(alloc: Global, text: &[u8], options: &str) -> Result<Vec<u8>, Stop> {
     let (file, line) = pair(text)?;
-    match fault_of(line)? {
-        Fault::Read(call) => put_ended(alloc, words, file, options, &[call], &[]),
-        Fault::Put(call, taken) => put_ended(alloc, words, file, options, &[], &[(call, taken)]),
-    }
+    let (mut shelf, mut sink) = match fault_of(line)? {
+        Fault::Read(call) => outside(alloc, file, &[call], &[])?,
+        Fault::Put(call, taken) => outside(alloc, file, &[], &[(call, taken)])?,
+    };
+    let status = command(alloc, &mut shelf, &mut sink, options)?;
+    let mut out = told(alloc, &status)?;
+    out.push(b'\n')?;
+    out.extend_from_slice(sink.bytes())?;
+    Ok(out)
 }

@@ -6,7 +6,7 @@ use crate::units::parsed;
 use crate::words::Words;
 use lt_model::{DataModel, Name};
 use lt_table::Types;
-use lt_tree::typed::{Entity, Life, Member, Object, StructType, TypeId};
+use lt_tree::typed::{Entity, Life, Object, StructType};
 use lt_tree::{Declaration, Expr, External, Item, Stmt, Unit};
 use lt_type::{
     Bodies, Declarations, Declares, Judging, Labels, NameFrame, NameSet, Names, Objects, Setting,
@@ -14,11 +14,10 @@ use lt_type::{
 };
 use lt_unit::elaborate;
 use std::alloc::Global;
-use std::mem;
 
-// What is known where no scope is open.
-fn nothing_known(alloc: Global, model: DataModel) -> Walker {
-    Walker {
+// What is known where nothing is declared.
+fn nothing_known(alloc: Global, model: DataModel) -> Result<Walker, TypeStop> {
+    let mut walker = Walker {
         types: Types::new(alloc, model),
         defined: NameSet::new(alloc),
         next: 0,
@@ -29,7 +28,9 @@ fn nothing_known(alloc: Global, model: DataModel) -> Walker {
         functions: Bodies::new(alloc),
         labels: Labels::new(alloc),
         facts: Vec::new(alloc),
-    }
+    };
+    walker.open(NameFrame::new(alloc))?;
+    Ok(walker)
 }
 
 // Makes known what a declarator at file scope declares: a function or an object.
@@ -73,15 +74,15 @@ fn declare(alloc: Global, walker: &mut Walker, d: &Declaration) -> Result<(), Ty
     Ok(())
 }
 
-// Makes known what a unit declares, in a scope of its own.
-fn declare_all(alloc: Global, walker: &mut Walker, unit: &Unit) -> Result<(), TypeStop> {
-    walker.open(NameFrame::new(alloc))?;
+// What is known behind the declarations of a unit.
+fn known(alloc: Global, unit: &Unit, model: DataModel) -> Result<Walker, TypeStop> {
+    let mut walker = nothing_known(alloc, model)?;
     for external in &unit.externals {
         if let External::Declaration(d) = external {
-            declare(alloc, walker, d)?;
+            declare(alloc, &mut walker, d)?;
         }
     }
-    Ok(())
+    Ok(walker)
 }
 
 // The expression that the last function gives, whose body is a `return` alone.
@@ -95,115 +96,62 @@ fn given(unit: &Unit) -> Option<&Expr> {
     }
 }
 
-// The text of a function that gives an expression, beside declarations.
-fn giving(alloc: Global, expression: &[u8], beside: &[u8]) -> Result<Vec<u8>, Stop> {
-    let mut text = Words::new(alloc);
-    text.append(beside);
-    text.append(b"int f(void) { return ");
-    text.append(expression);
-    text.append(b"; }");
-    Ok(text.into_bytes()?)
-}
-
-// A type of these.
-fn put_known(words: &mut Words, types: Types, t: TypeId) -> Result<(), Stop> {
-    let (rows, _) = types.into_parts()?;
-    put_type(words, rows.as_slice(), t);
-    Ok(())
-}
-
-// The type of an expression behind the declarations of a unit.
-fn put_type_of(
-    alloc: Global,
-    words: &mut Words,
-    walker: &mut Walker,
-    unit: &Unit,
-    e: &Expr,
-) -> Result<(), Stop> {
-    declare_all(alloc, walker, unit)?;
-    let t = type_of(walker, e)?;
-    let nothing = Types::new(alloc, walker.types.model());
-    put_known(words, mem::replace(&mut walker.types, nothing), t)
-}
-
-// The type of the expression that the last function of a unit gives.
-fn put_given(alloc: Global, words: &mut Words, unit: &Unit, model: DataModel) -> Result<(), Stop> {
-    match given(unit) {
-        None => Err(Stop::Syntax),
-        Some(e) => {
-            let mut walker = nothing_known(alloc, model);
-            put_type_of(alloc, words, &mut walker, unit, e)
-        }
-    }
-}
-
 /// The type of an expression beside declarations.
 pub fn type_in(
     alloc: Global,
-    words: &mut Words,
     expression: &[u8],
     beside: &[u8],
     model: DataModel,
+) -> Result<Vec<u8>, Stop> {
+    let mut text = Vec::from_slice(alloc, beside)?;
+    text.extend_from_slice(b"int f(void) { return ")?;
+    text.extend_from_slice(expression)?;
+    text.extend_from_slice(b"; }")?;
+    let unit = parsed(alloc, text.as_slice())?.unit;
+    let e = given(&unit).ok_or(Stop::Syntax)?;
+    let mut walker = known(alloc, &unit, model)?;
+    let t = type_of(&mut walker, e)?;
+    let (rows, _) = walker.types.into_parts()?;
+    let mut words = Words::new(alloc);
+    put_type(&mut words, rows.as_slice(), t)?;
+    Ok(words.into_bytes())
+}
+
+// The size of a struct, and the offset of each member by its name.
+fn put_layout(
+    words: &mut Words,
+    types: &mut Types,
+    number: u32,
+    it: &StructType,
 ) -> Result<(), Stop> {
-    let text = giving(alloc, expression, beside)?;
-    let parsed = parsed(alloc, text.as_slice())?;
-    put_given(alloc, words, &parsed.unit, model)
-}
-
-// The offset of each member by its name.
-fn put_members(words: &mut Words, types: &Types, number: u32, members: &[Member]) {
+    let t = types.structure(number)?;
+    let Some(members) = &it.members else {
+        words.push_text("incomplete")?;
+        return Ok(());
+    };
+    if let Some(size) = types.size_of(t) {
+        words.push_number(i128::from(size))?;
+    }
     for member in members {
-        words.push(member.name.as_slice());
+        words.push(&[member.name.as_slice()])?;
         if let Some((_, offset)) = types.member_of(number, member.name.as_slice()) {
-            words.push_number(i128::from(offset));
+            words.push_number(i128::from(offset))?;
         }
-    }
-}
-
-// The size of a struct and its members, if it is complete.
-fn put_layout(words: &mut Words, types: &Types, number: u32, t: TypeId, it: &StructType) {
-    match &it.members {
-        None => words.push_text("incomplete"),
-        Some(members) => {
-            if let Some(size) = types.size_of(t) {
-                words.push_number(i128::from(size));
-            }
-            put_members(words, types, number, members.as_slice());
-        }
-    }
-    words.end_part();
-}
-
-fn put_structs(words: &mut Words, types: &mut Types, structs: &[StructType]) -> Result<(), Stop> {
-    let mut number = 0_u32;
-    for it in structs {
-        let t = types.structure(number)?;
-        put_layout(words, types, number, t, it);
-        number = number.saturating_add(1);
     }
     Ok(())
 }
 
-// The layouts of a unit's structs, behind its declarations.
-fn put_layouts(
-    alloc: Global,
-    words: &mut Words,
-    walker: &mut Walker,
-    unit: &Unit,
-    model: DataModel,
-) -> Result<(), Stop> {
-    declare_all(alloc, walker, unit)?;
-    let program = elaborate(alloc, unit, model)?;
-    put_structs(words, &mut walker.types, program.structs.as_slice())
-}
-
 /// The layout of each struct of a unit.
-pub fn layouts(
-    alloc: Global,
-    words: &mut Words,
-    unit: &Unit,
-    model: DataModel,
-) -> Result<(), Stop> {
-    let mut walker = nothing_known(alloc, model);
-    put_layouts(alloc, words, &mut walker, unit, model)
+pub fn layouts(alloc: Global, text: &[u8], model: DataModel) -> Result<Vec<u8>, Stop> {
+    let unit = parsed(alloc, text)?.unit;
+    let mut types = known(alloc, &unit, model)?.types;
+    let program = elaborate(alloc, &unit, model)?;
+    let mut words = Words::new(alloc);
+    let mut number = 0_u32;
+    for it in &program.structs {
+        put_layout(&mut words, &mut types, number, it)?;
+        words.end_part()?;
+        number = number.saturating_add(1);
+    }
+    Ok(words.into_bytes())
 }

@@ -22,12 +22,11 @@ mod units;
 mod words;
 
 use escapes::shown;
-use sheet::Sheet;
+use sheet::{Row, Sheet};
 use std::alloc::{AllocError, Global};
 use std::process::ExitCode;
 use std::{env, fs, io};
 use stop::Stop;
-use words::Words;
 
 /// How many rows there are, and how often something else came than has to.
 #[derive(Drop)]
@@ -37,33 +36,20 @@ struct Tally {
 }
 
 // What a stop is in words.
-fn in_words(alloc: Global, stop: Stop) -> Result<Vec<u8>, AllocError> {
-    let mut words = Words::new(alloc);
-    stop.tell(&mut words);
-    words.into_bytes()
+fn in_words(alloc: Global, stop: &Stop) -> Result<Vec<u8>, AllocError> {
+    Vec::from_slice(alloc, format!(in alloc; "{stop}")?.as_bytes())
 }
 
-// What comes of a sheet's row.
-fn came_of(alloc: Global, sheet: &Sheet) -> Result<Vec<u8>, Stop> {
-    let Some(question) = sheet.question else {
-        return Err(Stop::NoQuestion);
+// What comes of a row, where that isn't what has to come.
+fn difference(alloc: Global, row: &Row, beside: &[u8]) -> Result<Option<Vec<u8>>, AllocError> {
+    let came = match row.question.answer(alloc, row.text.as_slice(), beside) {
+        Ok(answer) => answer,
+        Err(stop) => in_words(alloc, &stop)?,
     };
-    let mut words = Words::new(alloc);
-    question.answer(
-        alloc,
-        &mut words,
-        sheet.text.as_slice(),
-        sheet.beside.as_slice(),
-    )?;
-    Ok(words.into_bytes()?)
-}
-
-// The same, where that is why there is no answer.
-fn came(alloc: Global, sheet: &Sheet) -> Result<Vec<u8>, AllocError> {
-    match came_of(alloc, sheet) {
-        Ok(answer) => Ok(answer),
-        Err(stop) => in_words(alloc, stop),
+    if came.as_slice() == row.answer.as_slice() {
+        return Ok(None);
     }
+    Ok(Some(came))
 }
 
 impl Tally {
@@ -74,54 +60,32 @@ impl Tally {
         println!(rt; "{file}:{line}: {came}")
     }
 
-    fn tell_stop(
-        &mut self,
-        rt: &HostRuntime,
-        file: &str,
-        line: usize,
-        stop: Stop,
-    ) -> io::Result<()> {
-        let words = in_words(rt.alloc(), stop)?;
-        self.tell(rt, file, line, words.as_slice())
-    }
-
-    // Asks about the row of a sheet.
-    fn count(&mut self, rt: &HostRuntime, file: &str, sheet: &Sheet) -> io::Result<()> {
+    fn count(&mut self, rt: &HostRuntime, file: &str, row: &Row, beside: &[u8]) -> io::Result<()> {
         self.rows = self.rows.saturating_add(1);
-        let came = came(rt.alloc(), sheet)?;
-        if came == sheet.answer {
-            Ok(())
-        } else {
-            self.tell(rt, file, sheet.line, came.as_slice())
+        match difference(rt.alloc(), row, beside)? {
+            None => Ok(()),
+            Some(came) => self.tell(rt, file, row.line, came.as_slice()),
         }
     }
 
     // Goes over the rows of a file.
     fn count_all(&mut self, rt: &HostRuntime, file: &str, text: &str) -> io::Result<()> {
-        let mut sheet = Sheet::new(rt.alloc());
+        let alloc = rt.alloc();
+        let mut sheet = Sheet::new(alloc);
         for (place, line) in text.lines().enumerate() {
             let line_number = place.saturating_add(1);
             match sheet.take(line_number, line) {
-                Ok(false) => {}
-                Ok(true) => self.count(rt, file, &sheet)?,
-                Err(stop) => self.tell_stop(rt, file, line_number, stop)?,
+                Ok(None) => {}
+                Ok(Some(row)) => self.count(rt, file, &row, sheet.beside())?,
+                Err(stop) => {
+                    self.tell(rt, file, line_number, in_words(alloc, &stop)?.as_slice())?
+                }
             }
         }
         match sheet.unended_row() {
             None => Ok(()),
-            Some(line) => self.tell_stop(rt, file, line, Stop::NoEnd),
+            Some(line) => self.tell(rt, file, line, in_words(alloc, &Stop::NoEnd)?.as_slice()),
         }
-    }
-
-    // Goes over the rows of a file, if it can be read, and tells how many there are.
-    fn count_file(&mut self, rt: &HostRuntime, file: &str) -> io::Result<()> {
-        let before = self.rows;
-        match fs::read_to_string(rt, file) {
-            Ok(text) => self.count_all(rt, file, text.as_str())?,
-            Err(_) => self.tell(rt, file, 0, b"can't be read")?,
-        }
-        let rows = self.rows.saturating_sub(before);
-        println!(rt; "{file}: {rows} rows")
     }
 }
 
@@ -132,7 +96,13 @@ fn check_files(rt: &HostRuntime) -> io::Result<bool> {
         differences: 0,
     };
     for file in env::args(rt)?.skip(1) {
-        tally.count_file(rt, file.as_str())?;
+        let before = tally.rows;
+        match fs::read_to_string(rt, file.as_str()) {
+            Ok(text) => tally.count_all(rt, file.as_str(), text.as_str())?,
+            Err(_) => tally.tell(rt, file.as_str(), 0, b"can't be read")?,
+        }
+        let rows = tally.rows.saturating_sub(before);
+        println!(rt; "{file}: {rows} rows")?;
     }
     let Tally { rows, differences } = tally;
     println!(rt; "{rows} rows, {differences} differences")?;

@@ -11,21 +11,7 @@ use lt_model::{
     ub_number, usual,
 };
 use lt_value::{Num, forward, join, meet, refine, single};
-
-/// A question about numbers, sets of numbers and their types.
-#[derive(Clone, Copy)]
-pub enum OfNumbers {
-    Operator(DataModel),
-    Conversion(DataModel),
-    Promotion(DataModel),
-    CommonType(DataModel),
-    Sum,
-    Product,
-    Join,
-    Meet,
-    Refine,
-    Results(DataModel),
-}
+use std::alloc::{AllocError, Global};
 
 const SCALARS: [Scalar; 12] = [
     Scalar::Bool,
@@ -86,10 +72,11 @@ fn is_relation(op: Op) -> bool
 }
 
 fn number(word: &str) -> Result<i128, Stop> {
-    match word.parse::<i128>() {
-        Ok(z) => Ok(z),
-        Err(_) => Err(Stop::NoNumber),
-    }
+    word.parse::<i128>().map_err(|_| Stop::NoNumber)
+}
+
+fn text_of(text: &[u8]) -> Result<&str, Stop> {
+    std::str::from_utf8(text).map_err(|_| Stop::NoNumber)
 }
 
 // The two sides of a separator.
@@ -97,107 +84,94 @@ fn halves<'a>(text: &'a str, separator: &str) -> Result<(&'a str, &'a str), Stop
     text.split_once(separator).ok_or(Stop::NoNumber)
 }
 
-// `TYPE: REST`
-fn typed(text: &str) -> Result<(Scalar, &str), Stop> {
+// `TYPE: A OP B`
+fn operands(text: &str) -> Result<(Scalar, i128, Op, i128), Stop> {
     let (ty, rest) = halves(text, ": ")?;
-    Ok((scalar_named(ty)?, rest))
+    let (left, rest) = halves(rest, " ")?;
+    let (op, right) = halves(rest, " ")?;
+    Ok((
+        scalar_named(ty)?,
+        number(left)?,
+        operator_named(op)?,
+        number(right)?,
+    ))
 }
 
-// The operands as they are written and the operator, with a separator on both sides of it.
-fn operation<'a>(text: &'a str, separator: &str) -> Result<(&'a str, Op, &'a str), Stop> {
-    let (left, rest) = halves(text, separator)?;
-    let (op, right) = halves(rest, separator)?;
-    Ok((left, operator_named(op)?, right))
-}
-
-// Two numbers with a separator between them.
-fn two_numbers(text: &str, separator: &str) -> Result<(i128, i128), Stop> {
-    let (left, right) = halves(text, separator)?;
-    Ok((number(left)?, number(right)?))
-}
-
-// What an operator gives on two values of a type: a value, or the kind of undefined behaviour. `TYPE: A OP B`
-fn operator(words: &mut Words, text: &str, model: DataModel) -> Result<(), Stop> {
-    let (ty, rest) = typed(text)?;
-    let (left, op, right) = operation(rest, " ")?;
-    let (a, b) = (number(left)?, number(right)?);
+/// What an operator gives on two values of a type: a value, or the kind of undefined behaviour.
+pub fn operator(alloc: Global, text: &[u8], model: DataModel) -> Result<Vec<u8>, Stop> {
+    let (ty, a, op, b) = operands(text_of(text)?)?;
     if !is_value(model, ty, a) || !is_value(model, ty, b) {
         return Err(Stop::NoNumber);
     }
+    let mut words = Words::new(alloc);
     match apply(model, op, ty, a, b) {
-        Ok(z) => words.push_number(z),
+        Ok(z) => words.push_number(z)?,
         Err(kind) => {
-            words.push_text("kind");
-            words.push_number(i128::from(ub_number(kind)));
+            words.push_text("kind")?;
+            words.push_number(i128::from(ub_number(kind)))?;
         }
     }
-    Ok(())
+    Ok(words.into_bytes())
 }
 
-// A value of one type as one of another: `TYPE: A to TYPE`.
-fn conversion(words: &mut Words, text: &str, model: DataModel) -> Result<(), Stop> {
-    let (from, rest) = typed(text)?;
+/// A value of one type as one of another: `TYPE: A to TYPE`.
+pub fn conversion(alloc: Global, text: &[u8], model: DataModel) -> Result<Vec<u8>, Stop> {
+    let (from, rest) = halves(text_of(text)?, ": ")?;
     let (value, to) = halves(rest, " to ")?;
-    let value = number(value)?;
-    let to = scalar_named(to)?;
+    let (from, value, to) = (scalar_named(from)?, number(value)?, scalar_named(to)?);
     if !is_value(model, from, value) {
         return Err(Stop::NoNumber);
     }
-    words.push_number(convert(model, from, to, value));
-    Ok(())
+    let mut words = Words::new(alloc);
+    words.push_number(convert(model, from, to, value))?;
+    Ok(words.into_bytes())
 }
 
-// The type that a type is promoted to.
-fn promotion(words: &mut Words, text: &str, model: DataModel) -> Result<(), Stop> {
-    let ty = scalar_named(text)?;
-    words.push_text(scalar_name(promote(model, ty)));
-    Ok(())
+fn named(alloc: Global, scalar: Scalar) -> Result<Vec<u8>, Stop> {
+    let mut words = Words::new(alloc);
+    words.push_text(scalar_name(scalar))?;
+    Ok(words.into_bytes())
 }
 
-// The type of an operation whose operands have these types: `TYPE, TYPE`.
-fn common_type(words: &mut Words, text: &str, model: DataModel) -> Result<(), Stop> {
-    let (left, right) = halves(text, ", ")?;
-    let left = scalar_named(left)?;
-    let right = scalar_named(right)?;
-    words.push_text(scalar_name(usual(model, left, right)));
-    Ok(())
+/// The type that a type is promoted to.
+pub fn promotion(alloc: Global, text: &[u8], model: DataModel) -> Result<Vec<u8>, Stop> {
+    let ty = scalar_named(text_of(text)?)?;
+    named(alloc, promote(model, ty))
 }
 
-fn put_fitting(words: &mut Words, found: Option<i128>) {
+/// The type of an operation whose operands have these types.
+pub fn common_type(alloc: Global, text: &[u8], model: DataModel) -> Result<Vec<u8>, Stop> {
+    let (left, right) = halves(text_of(text)?, ", ")?;
+    let (left, right) = (scalar_named(left)?, scalar_named(right)?);
+    named(alloc, usual(model, left, right))
+}
+
+fn fitting(alloc: Global, found: Option<i128>) -> Result<Vec<u8>, Stop> {
+    let mut words = Words::new(alloc);
     match found {
-        None => words.push_text("none"),
-        Some(z) => words.push_number(z),
+        None => words.push_text("none")?,
+        Some(z) => words.push_number(z)?,
     }
+    Ok(words.into_bytes())
 }
 
-// A sum that fits 128 bits: `A + B`.
-fn sum(words: &mut Words, text: &str) -> Result<(), Stop> {
-    let (a, b) = two_numbers(text, " + ")?;
-    put_fitting(words, checked_sum(a, b));
-    Ok(())
+/// A sum that fits 128 bits: `A + B`.
+pub fn sum(alloc: Global, text: &[u8]) -> Result<Vec<u8>, Stop> {
+    let (left, right) = halves(text_of(text)?, " + ")?;
+    fitting(alloc, checked_sum(number(left)?, number(right)?))
 }
 
-// A product that fits 128 bits: `A * B`.
-fn product(words: &mut Words, text: &str) -> Result<(), Stop> {
-    let (a, b) = two_numbers(text, " * ")?;
-    put_fitting(words, checked_product(a, b));
-    Ok(())
-}
-
-fn one_number(word: &str) -> Result<Num, Stop> {
-    let z = number(word)?;
-    if -0x8000_0000_0000_0000 <= z && z <= 0xffff_ffff_ffff_ffff {
-        Ok(single(z))
-    } else {
-        Err(Stop::NoNumber)
-    }
+/// A product that fits 128 bits: `A * B`.
+pub fn product(alloc: Global, text: &[u8]) -> Result<Vec<u8>, Stop> {
+    let (left, right) = halves(text_of(text)?, " * ")?;
+    fitting(alloc, checked_product(number(left)?, number(right)?))
 }
 
 // The least set that holds numbers with a space between each two.
 fn spread(text: &str) -> Result<Num, Stop> {
     let mut set: Option<Num> = None;
     for word in text.split(' ') {
-        let one = one_number(word)?;
+        let one = one_number(number(word)?)?;
         set = match set {
             None => Some(one),
             Some(before) => Some(join(&before, &one)),
@@ -206,90 +180,71 @@ fn spread(text: &str) -> Result<Num, Stop> {
     set.ok_or(Stop::NoNumber)
 }
 
-// `NUMBERS, NUMBERS`
-fn two_sets(text: &str) -> Result<(Num, Num), Stop> {
-    let (left, right) = halves(text, ", ")?;
-    Ok((spread(left)?, spread(right)?))
+fn one_number(z: i128) -> Result<Num, Stop> {
+    if -0x8000_0000_0000_0000 <= z && z <= 0xffff_ffff_ffff_ffff {
+        Ok(single(z))
+    } else {
+        Err(Stop::NoNumber)
+    }
 }
 
 // The ends of a set, its step and its rest.
-fn put_set(words: &mut Words, set: &Num) {
-    words.push_number(set.lo);
-    words.push_number(set.hi);
-    words.push_count(set.step);
-    words.push_count(set.rest);
-    words.end_part();
+fn put_set(alloc: Global, words: &mut Words, set: &Num) -> Result<(), AllocError> {
+    words.push_number(set.lo)?;
+    words.push_number(set.hi)?;
+    words.push(&[format!(in alloc; "{}", set.step)?.as_bytes()])?;
+    words.push(&[format!(in alloc; "{}", set.rest)?.as_bytes()])?;
+    words.end_part()
 }
 
-fn put_if_any(words: &mut Words, set: Option<Num>) {
+fn shown(alloc: Global, set: Option<Num>) -> Result<Vec<u8>, Stop> {
+    let mut words = Words::new(alloc);
     match set {
-        None => words.push_text("none"),
-        Some(set) => put_set(words, &set),
+        None => words.push_text("none")?,
+        Some(set) => put_set(alloc, &mut words, &set)?,
     }
+    Ok(words.into_bytes())
 }
 
-fn put_both(words: &mut Words, sets: Option<(Num, Num)>) {
-    match sets {
-        None => words.push_text("none"),
-        Some((left, right)) => {
-            put_set(words, &left);
-            put_set(words, &right);
-        }
-    }
+/// The least set that holds two: `NUMBERS, NUMBERS`.
+pub fn joined(alloc: Global, text: &[u8]) -> Result<Vec<u8>, Stop> {
+    let (left, right) = halves(text_of(text)?, ", ")?;
+    shown(alloc, Some(join(&spread(left)?, &spread(right)?)))
 }
 
-// The least set that holds two.
-fn joined(words: &mut Words, text: &str) -> Result<(), Stop> {
-    let (left, right) = two_sets(text)?;
-    let both = join(&left, &right);
-    put_set(words, &both);
-    Ok(())
+/// The members that two sets have in common.
+pub fn common_members(alloc: Global, text: &[u8]) -> Result<Vec<u8>, Stop> {
+    let (left, right) = halves(text_of(text)?, ", ")?;
+    shown(alloc, meet(&spread(left)?, &spread(right)?))
 }
 
-// The members that two sets have in common.
-fn common_members(words: &mut Words, text: &str) -> Result<(), Stop> {
-    let (left, right) = two_sets(text)?;
-    put_if_any(words, meet(&left, &right));
-    Ok(())
-}
-
-// What a relation leaves of two sets: `NUMBERS, REL, NUMBERS`.
-fn refined(words: &mut Words, text: &str) -> Result<(), Stop> {
-    let (left, op, right) = operation(text, ", ")?;
+/// What a relation leaves of two sets: `NUMBERS, REL, NUMBERS`.
+pub fn refined(alloc: Global, text: &[u8]) -> Result<Vec<u8>, Stop> {
+    let (left, rest) = halves(text_of(text)?, ", ")?;
+    let (op, right) = halves(rest, ", ")?;
+    let op = relation_named(op)?;
     if !is_relation(op) {
         return Err(Stop::NoSuchOperator);
     }
-    let left = spread(left)?;
-    let right = spread(right)?;
-    put_both(words, refine(op, &left, &right));
-    Ok(())
-}
-
-// What an operator of a type gives on two sets: `TYPE: NUMBERS, OP, NUMBERS`.
-fn results(words: &mut Words, text: &str, model: DataModel) -> Result<(), Stop> {
-    let (ty, rest) = typed(text)?;
-    let (left, op, right) = operation(rest, ", ")?;
-    let left = spread(left)?;
-    let right = spread(right)?;
-    put_if_any(words, forward(model, op, ty, &left, &right));
-    Ok(())
-}
-
-/// What comes of a text about numbers.
-pub fn answer(words: &mut Words, asked: OfNumbers, text: &[u8]) -> Result<(), Stop> {
-    let Ok(text) = std::str::from_utf8(text) else {
-        return Err(Stop::NoNumber);
-    };
-    match asked {
-        OfNumbers::Operator(model) => operator(words, text, model),
-        OfNumbers::Conversion(model) => conversion(words, text, model),
-        OfNumbers::Promotion(model) => promotion(words, text, model),
-        OfNumbers::CommonType(model) => common_type(words, text, model),
-        OfNumbers::Sum => sum(words, text),
-        OfNumbers::Product => product(words, text),
-        OfNumbers::Join => joined(words, text),
-        OfNumbers::Meet => common_members(words, text),
-        OfNumbers::Refine => refined(words, text),
-        OfNumbers::Results(model) => results(words, text, model),
+    let mut words = Words::new(alloc);
+    match refine(op, &spread(left)?, &spread(right)?) {
+        None => words.push_text("none")?,
+        Some((left, right)) => {
+            put_set(alloc, &mut words, &left)?;
+            put_set(alloc, &mut words, &right)?;
+        }
     }
+    Ok(words.into_bytes())
+}
+
+/// What an operator of a type gives on two sets: `TYPE: NUMBERS, OP, NUMBERS`.
+pub fn results(alloc: Global, text: &[u8], model: DataModel) -> Result<Vec<u8>, Stop> {
+    let (ty, rest) = halves(text_of(text)?, ": ")?;
+    let (left, rest) = halves(rest, ", ")?;
+    let (op, right) = halves(rest, ", ")?;
+    let (ty, op) = (scalar_named(ty)?, operator_named(op)?);
+    shown(
+        alloc,
+        forward(model, op, ty, &spread(left)?, &spread(right)?),
+    )
 }

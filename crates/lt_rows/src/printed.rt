@@ -8,28 +8,20 @@ use lt_print::print_unit;
 use lt_tree::{External, Item, Stmt, Unit, is_pure};
 use std::alloc::Global;
 
-/// Whether a text is printed as it stands when it is read as a unit.
-pub fn is_canonical(alloc: Global, text: &[u8]) -> Result<bool, Stop> {
-    let parsed = parsed(alloc, text)?;
-    let again = print_unit(alloc, &parsed.unit)?;
-    Ok(again.as_slice() == text)
-}
-
 // The canonical text of a unit, which has to be printed as it stands when it is read again.
 fn printed(alloc: Global, unit: &Unit) -> Result<Vec<u8>, Stop> {
-    let text = print_unit(alloc, unit)?;
-    if is_canonical(alloc, text.as_slice())? {
-        Ok(text)
+    let once = print_unit(alloc, unit)?;
+    let again = parsed(alloc, once.as_slice())?.unit;
+    let twice = print_unit(alloc, &again)?;
+    if once == twice {
+        Ok(once)
     } else {
         Err(Stop::NotCanonical)
     }
 }
 
-/// The canonical text of a unit.
-pub fn canonical(alloc: Global, words: &mut Words, unit: &Unit) -> Result<(), Stop> {
-    let text = printed(alloc, unit)?;
-    words.append(text.as_slice());
-    Ok(())
+pub fn canonical(alloc: Global, text: &[u8]) -> Result<Vec<u8>, Stop> {
+    printed(alloc, &parsed(alloc, text)?.unit)
 }
 
 // The canonical text of a unit's erasure, in which no id is left.
@@ -42,19 +34,20 @@ fn erasure(alloc: Global, unit: &Unit) -> Result<Vec<u8>, Stop> {
 }
 
 /// The greatest id of a unit's marks, and on the lines behind it the canonical text of its erasure.
-pub fn erased(alloc: Global, words: &mut Words, unit: &Unit) -> Result<(), Stop> {
-    let text = erasure(alloc, unit)?;
-    words.push_number(i128::from(max_id(unit)));
-    words.append(b"\n");
-    words.append(text.as_slice());
-    Ok(())
+pub fn erased(alloc: Global, text: &[u8]) -> Result<Vec<u8>, Stop> {
+    let unit = parsed(alloc, text)?.unit;
+    let greatest = max_id(&unit);
+    let mut answer = Vec::from_slice(alloc, format!(in alloc; "{greatest}\n")?.as_bytes())?;
+    answer.extend_from_slice(erasure(alloc, &unit)?.as_slice())?;
+    Ok(answer)
 }
 
 /// How many bytes that text has.
-pub fn erased_length(alloc: Global, words: &mut Words, unit: &Unit) -> Result<(), Stop> {
-    let text = erasure(alloc, unit)?;
-    words.push_number(text.len() as i128);
-    Ok(())
+pub fn erased_length(alloc: Global, text: &[u8]) -> Result<Vec<u8>, Stop> {
+    let text = erasure(alloc, &parsed(alloc, text)?.unit)?;
+    let mut words = Words::new(alloc);
+    words.push_number(text.len() as i128)?;
+    Ok(words.into_bytes())
 }
 
 fn body(unit: &Unit) -> &[Item] {
@@ -65,10 +58,13 @@ fn body(unit: &Unit) -> &[Item] {
 }
 
 /// Of each expression that is a statement of the first function whether it is pure.
-pub fn purity(words: &mut Words, unit: &Unit) {
-    for item in body(unit) {
+pub fn purity(alloc: Global, text: &[u8]) -> Result<Vec<u8>, Stop> {
+    let unit = parsed(alloc, text)?.unit;
+    let mut words = Words::new(alloc);
+    for item in body(&unit) {
         if let Item::Statement(Stmt::Expression(e)) = item {
-            words.push_text(if is_pure(e) { "pure" } else { "impure" });
+            words.push_text(if is_pure(e) { "pure" } else { "impure" })?;
         }
     }
+    Ok(words.into_bytes())
 }

@@ -1,12 +1,9 @@
 //! What is asked of the texts of rows.
 
-use crate::numbers::OfNumbers;
 use crate::stop::Stop;
-use crate::units::OfUnit;
-use crate::words::Words;
 use crate::{
-    annotations, answers, covers, expressions, faults, known, numbers, replays, table, tokens,
-    units,
+    annotations, answers, covers, expressions, faults, known, numbers, printed, replays, rules,
+    table, tokens, units,
 };
 use lt_model::DataModel;
 use std::alloc::Global;
@@ -21,9 +18,19 @@ pub enum Question<'a> {
     /// Where these names are in scope.
     Expression(&'a str),
     ExpressionSize(&'a str),
+    Spots,
+    Nodes,
+    WeighedSpots,
     Prefixes,
-    Unit(OfUnit),
+    Canonical,
+    Erased,
+    ErasedLength,
+    Purity,
+    Rule(DataModel),
+    RulePlace(DataModel),
     TypeOf(DataModel),
+    Types(DataModel),
+    Layout(DataModel),
     Constant(DataModel),
     CoverageFile,
     CoverageMerge,
@@ -35,7 +42,16 @@ pub enum Question<'a> {
     Answer,
     /// In this model, with so many ticks a run.
     Replay(DataModel, u64),
-    Numbers(OfNumbers),
+    Operator(DataModel),
+    Conversion(DataModel),
+    Promotion(DataModel),
+    CommonType(DataModel),
+    Sum,
+    Product,
+    Join,
+    Meet,
+    Refine,
+    Results(DataModel),
 }
 
 fn model_named(name: &str) -> Option<DataModel> {
@@ -79,84 +95,88 @@ impl<'a> Question<'a> {
             "places" => Some(Question::Places),
             "expression" => Some(Question::Expression("")),
             "expression size" => Some(Question::ExpressionSize("")),
-            "spots" => Some(Question::Unit(OfUnit::Spots)),
-            "nodes" => Some(Question::Unit(OfUnit::Nodes)),
-            "weighed spots" => Some(Question::Unit(OfUnit::WeighedSpots)),
+            "spots" => Some(Question::Spots),
+            "nodes" => Some(Question::Nodes),
+            "weighed spots" => Some(Question::WeighedSpots),
             "prefixes" => Some(Question::Prefixes),
-            "canonical" => Some(Question::Unit(OfUnit::Canonical)),
-            "erased" => Some(Question::Unit(OfUnit::Erased)),
-            "erased length" => Some(Question::Unit(OfUnit::ErasedLength)),
-            "purity" => Some(Question::Unit(OfUnit::Purity)),
+            "canonical" => Some(Question::Canonical),
+            "erased" => Some(Question::Erased),
+            "erased length" => Some(Question::ErasedLength),
+            "purity" => Some(Question::Purity),
             "coverage file" => Some(Question::CoverageFile),
             "coverage merge" => Some(Question::CoverageMerge),
             "annotate" => Some(Question::Annotate("")),
             "answer" => Some(Question::Answer),
-            "sum" => Some(Question::Numbers(OfNumbers::Sum)),
-            "product" => Some(Question::Numbers(OfNumbers::Product)),
-            "join" => Some(Question::Numbers(OfNumbers::Join)),
-            "meet" => Some(Question::Numbers(OfNumbers::Meet)),
-            "refine" => Some(Question::Numbers(OfNumbers::Refine)),
+            "sum" => Some(Question::Sum),
+            "product" => Some(Question::Product),
+            "join" => Some(Question::Join),
+            "meet" => Some(Question::Meet),
+            "refine" => Some(Question::Refine),
             _ => None,
         }
     }
 
     fn in_model(name: &str, model: DataModel) -> Option<Question<'a>> {
         match name {
-            "rule" => Some(Question::Unit(OfUnit::Rule(model))),
-            "rule place" => Some(Question::Unit(OfUnit::RulePlace(model))),
+            "rule" => Some(Question::Rule(model)),
+            "rule place" => Some(Question::RulePlace(model)),
             "type" => Some(Question::TypeOf(model)),
-            "types" => Some(Question::Unit(OfUnit::Types(model))),
-            "layout" => Some(Question::Unit(OfUnit::Layout(model))),
+            "types" => Some(Question::Types(model)),
+            "layout" => Some(Question::Layout(model)),
             "constant" => Some(Question::Constant(model)),
-            "operator" => Some(Question::Numbers(OfNumbers::Operator(model))),
-            "conversion" => Some(Question::Numbers(OfNumbers::Conversion(model))),
-            "promotion" => Some(Question::Numbers(OfNumbers::Promotion(model))),
-            "common type" => Some(Question::Numbers(OfNumbers::CommonType(model))),
-            "results" => Some(Question::Numbers(OfNumbers::Results(model))),
+            "operator" => Some(Question::Operator(model)),
+            "conversion" => Some(Question::Conversion(model)),
+            "promotion" => Some(Question::Promotion(model)),
+            "common type" => Some(Question::CommonType(model)),
+            "results" => Some(Question::Results(model)),
             _ => None,
         }
     }
 
     /// Whether the answer, which is one word, stands before the text.
     pub fn is_answered_first(self) -> bool {
-        matches!(self, Question::Unit(OfUnit::Rule(_)))
+        matches!(self, Question::Rule(_))
     }
 
     /// What comes of a text, beside other texts if the question is about these too.
-    pub fn answer(
-        self,
-        alloc: Global,
-        words: &mut Words,
-        text: &[u8],
-        beside: &[u8],
-    ) -> Result<(), Stop> {
+    pub fn answer(self, alloc: Global, text: &[u8], beside: &[u8]) -> Result<Vec<u8>, Stop> {
         match self {
-            Question::Tokens => tokens::tokens(alloc, words, text),
-            Question::TokenCount => tokens::count(alloc, words, text),
-            Question::Nests => tokens::nests(alloc, words, text),
-            Question::Places => tokens::places(alloc, words, text),
-            Question::Expression(names) => {
-                expressions::expression(alloc, words, text, names, true)
-            }
-            Question::ExpressionSize(names) => {
-                expressions::expression(alloc, words, text, names, false)
-            }
-            Question::Prefixes => units::prefixes(alloc, words, text),
-            Question::Unit(asked) => units::answer(alloc, words, asked, text),
-            Question::TypeOf(model) => known::type_in(alloc, words, text, beside, model),
-            Question::Constant(model) => {
-                table::constant(words, text, model);
-                Ok(())
-            }
-            Question::CoverageFile => covers::rewritten(alloc, words, text),
-            Question::CoverageMerge => covers::merged(alloc, words, text),
-            Question::Annotate(options) => annotations::annotated(alloc, words, text, options),
-            Question::AnnotatePastFault(options) => faults::ended(alloc, words, text, options),
-            Question::Answer => answers::answered(alloc, words, text),
-            Question::Replay(model, steps) => {
-                replays::replayed(alloc, words, text, model, steps)
-            }
-            Question::Numbers(asked) => numbers::answer(words, asked, text),
+            Question::Tokens => tokens::tokens(alloc, text),
+            Question::TokenCount => tokens::count(alloc, text),
+            Question::Nests => tokens::nests(alloc, text),
+            Question::Places => tokens::places(alloc, text),
+            Question::Expression(names) => expressions::expression(alloc, text, names, true),
+            Question::ExpressionSize(names) => expressions::expression(alloc, text, names, false),
+            Question::Spots => units::spots(alloc, text),
+            Question::Nodes => units::nodes(alloc, text),
+            Question::WeighedSpots => units::weighed_spots(alloc, text),
+            Question::Prefixes => units::prefixes(alloc, text),
+            Question::Canonical => printed::canonical(alloc, text),
+            Question::Erased => printed::erased(alloc, text),
+            Question::ErasedLength => printed::erased_length(alloc, text),
+            Question::Purity => printed::purity(alloc, text),
+            Question::Rule(model) => rules::rule(alloc, text, model, false),
+            Question::RulePlace(model) => rules::rule(alloc, text, model, true),
+            Question::TypeOf(model) => known::type_in(alloc, text, beside, model),
+            Question::Types(model) => table::types(alloc, text, model),
+            Question::Layout(model) => known::layouts(alloc, text, model),
+            Question::Constant(model) => table::constant(alloc, text, model),
+            Question::CoverageFile => covers::rewritten(alloc, text),
+            Question::CoverageMerge => covers::merged(alloc, text),
+            Question::Annotate(options) => annotations::annotated(alloc, text, options),
+            Question::AnnotatePastFault(options) => faults::ended(alloc, text, options),
+            Question::Answer => answers::answered(alloc, text),
+            Question::Replay(model, steps) => replays::replayed(alloc, text, model, steps),
+            Question::Operator(model) => numbers::operator(alloc, text, model),
+            Question::Conversion(model) => numbers::conversion(alloc, text, model),
+            Question::Promotion(model) => numbers::promotion(alloc, text, model),
+            Question::CommonType(model) => numbers::common_type(alloc, text, model),
+            Question::Sum => numbers::sum(alloc, text),
+            Question::Product => numbers::product(alloc, text),
+            Question::Join => numbers::joined(alloc, text),
+            Question::Meet => numbers::common_members(alloc, text),
+            Question::Refine => numbers::refined(alloc, text),
+            Question::Results(model) => numbers::results(alloc, text, model),
         }
     }
 }

@@ -6,20 +6,18 @@ ghost use Rattle.lt_entry.specs.Suites.{IsSuite};
 ghost use Rattle.lt_input_names.specs.Blocks.{specification_of};
 ghost use Rattle.lt_answers.specs.Entries.{Specifies};
 
-use crate::covers::{put_merged, put_table, table};
+use crate::covers::merged_text;
 use crate::pairs::{cut, pair};
 use crate::stop::Stop;
 use crate::units::parsed;
-use crate::words::Words;
-use lt_cover::Coverage;
+use lt_cover::{Coverage, read_cover, write_cover};
 use lt_entry::Suite;
 use lt_input_names::Specification;
-use lt_input_specs::{NoSpec, default_spec, defaults_are_bounded, specifications_are_bounded};
-use lt_input_suites::{NoSuite, read_suite, tests_of_a_suite_differ};
+use lt_input_specs::{default_spec, defaults_are_bounded, specifications_are_bounded};
+use lt_input_suites::{read_suite, tests_of_a_suite_differ};
 use lt_model::DataModel;
 use lt_replay::replay;
-use lt_spec_reader::{NoSpecification, read_spec};
-use lt_tree::Unit;
+use lt_spec_reader::read_spec;
 use lt_tree::typed::Program;
 use lt_unit::elaborate;
 use std::alloc::Global;
@@ -54,16 +52,8 @@ fn specification(
     ensures { IfOk result (λ it. Specifies (program_of program.now) (option_map (λ text. text.now) entry.entry) (specification_of program.now it)) }
 {
     match entry {
-        None => match default_spec(alloc, program) {
-            Ok(it) => Ok(it),
-            Err(NoSpec::NoEntry) => Err(Stop::NoEntry),
-            Err(NoSpec::NoMemory) => Err(Stop::NoMemory),
-        },
-        Some(text) => match read_spec(alloc, program, text) {
-            Ok(it) => Ok(it),
-            Err(NoSpecification::Line(number)) => Err(Stop::EntryLine(number)),
-            Err(NoSpecification::NoMemory) => Err(Stop::NoMemory),
-        },
+        None => Ok(default_spec(alloc, program)?),
+        Some(text) => Ok(read_spec(alloc, program, text)?),
     }
 }
 
@@ -76,11 +66,7 @@ fn suite(
 ) -> Result<Suite, Stop>
     ensures { IfOk result (IsSuite (program_of program.now) (specification_of program.now specification.now) text.now) }
 {
-    match read_suite(alloc, program, specification, text) {
-        Ok(it) => Ok(it),
-        Err(NoSuite::Line(number)) => Err(Stop::SuiteLine(number)),
-        Err(NoSuite::NoMemory) => Err(Stop::NoMemory),
-    }
+    Ok(read_suite(alloc, program, specification, text)?)
 }
 
 // The coverage of a suite.
@@ -106,43 +92,22 @@ fn new_coverage(
     )?)
 }
 
-// The coverage text of a suite on a unit.
-fn put_replayed(
-    alloc: Global,
-    words: &mut Words,
-    unit: &Unit,
-    texts: Texts<'_>,
-    model: DataModel,
-    steps: u64,
-) -> Result<(), Stop> {
-    let program = elaborate(alloc, unit, model)?;
-    let new = new_coverage(alloc, &program, texts, steps)?;
-    match texts.cover {
-        None => put_table(alloc, words, &new),
-        Some(text) => put_merged_with(alloc, words, &new, text),
+// The coverage of a text, if there is one.
+fn old_coverage(alloc: Global, cover: Option<&[u8]>) -> Result<Option<Coverage>, Stop> {
+    match cover {
+        None => Ok(None),
+        Some(text) => Ok(Some(read_cover(alloc, text)?)),
     }
 }
 
-// What is written of the merge with the coverage of a text.
-fn put_merged_with(
-    alloc: Global,
-    words: &mut Words,
-    new: &Coverage,
-    text: &[u8],
-) -> Result<(), Stop> {
-    let old = table(alloc, text)?;
-    put_merged(alloc, words, new, &old)
-}
-
 /// The coverage text of a suite on a text, merged with an old one if there is one.
-pub fn replayed(
-    alloc: Global,
-    words: &mut Words,
-    text: &[u8],
-    model: DataModel,
-    steps: u64,
-) -> Result<(), Stop> {
+pub fn replayed(alloc: Global, text: &[u8], model: DataModel, steps: u64) -> Result<Vec<u8>, Stop> {
     let texts = texts_of(text)?;
     let parsed = parsed(alloc, texts.file)?;
-    put_replayed(alloc, words, &parsed.unit, texts, model, steps)
+    let program = elaborate(alloc, &parsed.unit, model)?;
+    let new = new_coverage(alloc, &program, texts, steps)?;
+    match old_coverage(alloc, texts.cover)? {
+        None => Ok(write_cover(alloc, &new)?),
+        Some(old) => merged_text(alloc, &new, &old),
+    }
 }

@@ -1,6 +1,7 @@
 //! The rule of typing that a unit breaks first.
 
 use crate::stop::Stop;
+use crate::units::parsed;
 use crate::words::Words;
 use lt_decl::Parsed;
 use lt_model::DataModel;
@@ -11,32 +12,22 @@ use std::alloc::Global;
 /// The number of the rule, 0 where none is broken; where its place is asked, also the first byte of the node at which it is broken.
 pub fn rule(
     alloc: Global,
-    words: &mut Words,
-    parsed: &Parsed,
+    text: &[u8],
     model: DataModel,
     with_place: bool,
-) -> Result<(), Stop> {
-    match elaborate(alloc, &parsed.unit, model) {
-        Ok(_) => words.push_number(0),
+) -> Result<Vec<u8>, Stop> {
+    let Parsed { unit, spots } = parsed(alloc, text)?;
+    let mut words = Words::new(alloc);
+    match elaborate(alloc, &unit, model) {
+        Ok(_) => words.push_number(0)?,
         Err(TypeStop::Broken(rule, node)) => {
-            words.push_number(i128::from(rule.number()));
+            words.push_number(i128::from(rule.number()))?;
             if with_place {
-                return put_place(words, parsed.spots.as_slice(), node);
+                words.push_text("at")?;
+                words.push_number(i128::from(*spots.get(node as usize).ok_or(Stop::NoSuchNode)?))?;
             }
         }
         Err(TypeStop::NoMemory) => return Err(Stop::NoMemory),
     }
-    Ok(())
-}
-
-// The first byte of a node.
-fn put_place(words: &mut Words, spots: &[u32], node: u32) -> Result<(), Stop> {
-    match spots.get(node as usize) {
-        None => Err(Stop::NoSuchNode),
-        Some(spot) => {
-            words.push_text("at");
-            words.push_number(i128::from(*spot));
-            Ok(())
-        }
-    }
+    Ok(words.into_bytes())
 }

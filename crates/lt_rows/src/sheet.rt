@@ -3,7 +3,17 @@
 use crate::escapes::put_meant;
 use crate::question::Question;
 use crate::stop::Stop;
-use std::alloc::Global;
+use std::alloc::{AllocError, Global};
+use std::mem;
+
+/// A text with its question, and what has to come. It begins at this line.
+#[derive(Drop)]
+pub struct Row<'a> {
+    pub line: usize,
+    pub question: Question<'a>,
+    pub text: Vec<u8>,
+    pub answer: Vec<u8>,
+}
 
 /// What a line is part of.
 #[derive(Clone, Copy, PartialEq, Eq)]
@@ -19,15 +29,13 @@ enum Part {
 #[derive(Drop)]
 pub struct Sheet<'a> {
     alloc: Global,
-    pub question: Option<Question<'a>>,
-    /// What is declared beside the texts of rows.
-    pub beside: Vec<u8>,
+    question: Option<Question<'a>>,
+    beside: Vec<u8>,
     part: Part,
-    /// Where the latest row begins.
-    pub line: usize,
-    /// What is known of its text, and of what has to come of it.
-    pub text: Vec<u8>,
-    pub answer: Vec<u8>,
+    /// Where the latest row begins, and what is known of its text and its answer.
+    line: usize,
+    text: Vec<u8>,
+    answer: Vec<u8>,
 }
 
 // A line of a text or of an answer, with its end, unless it says that it has none.
@@ -67,6 +75,11 @@ impl<'a> Sheet<'a> {
         }
     }
 
+    /// What is declared beside the texts of rows.
+    pub fn beside(&self) -> &[u8] {
+        self.beside.as_slice()
+    }
+
     /// Where a row begins that hasn't ended.
     pub fn unended_row(&self) -> Option<usize> {
         if self.part == Part::Rows {
@@ -76,8 +89,8 @@ impl<'a> Sheet<'a> {
         }
     }
 
-    /// Whether a row ends with this line.
-    pub fn take(&mut self, number: usize, line: &'a str) -> Result<bool, Stop> {
+    /// The row that ends with this line, if one does.
+    pub fn take(&mut self, number: usize, line: &'a str) -> Result<Option<Row<'a>>, Stop> {
         match self.part {
             Part::Rows => self.take_row(number, line),
             Part::Text => self.take_text(line),
@@ -85,57 +98,47 @@ impl<'a> Sheet<'a> {
         }
     }
 
-    fn take_row(&mut self, number: usize, line: &'a str) -> Result<bool, Stop> {
+    fn take_row(&mut self, number: usize, line: &'a str) -> Result<Option<Row<'a>>, Stop> {
         self.line = number;
         self.text.clear();
         self.answer.clear();
         if line.is_empty() || line.starts_with("### ") {
-            return Ok(false);
+            return Ok(None);
         }
         if let Some(heading) = line.strip_prefix("## ") {
-            return self.take_heading(heading);
+            self.take_heading(heading)?;
+            return Ok(None);
         }
         if line == "<<" {
             self.part = Part::Text;
-            return Ok(false);
+            return Ok(None);
         }
-        self.take_sides(line)
-    }
-
-    // A row of one line.
-    fn take_sides(&mut self, line: &str) -> Result<bool, Stop> {
-        let Some(question) = self.question else {
-            return Err(Stop::NoQuestion);
-        };
-        let Some((text, answer)) = sides(question, line) else {
-            return Err(Stop::NoAnswer);
-        };
+        let question = self.question.ok_or(Stop::NoQuestion)?;
+        let (text, answer) = sides(question, line).ok_or(Stop::NoAnswer)?;
         put_meant(&mut self.text, text)?;
         put_meant(&mut self.answer, answer)?;
-        Ok(true)
+        self.end_row()
     }
 
-    fn take_heading(&mut self, heading: &'a str) -> Result<bool, Stop> {
+    fn take_heading(&mut self, heading: &'a str) -> Result<(), Stop> {
         if let Some(text) = heading.strip_prefix("beside: ") {
-            put_line(&mut self.beside, text)?;
-            return Ok(false);
+            return put_line(&mut self.beside, text);
         }
-        self.beside.clear();
+        self.beside = Vec::new(self.alloc);
         self.question = Question::of_heading(heading);
-        if self.question.is_some() {
-            Ok(false)
-        } else {
-            Err(Stop::NoSuchQuestion)
+        if self.question.is_none() {
+            return Err(Stop::NoSuchQuestion);
         }
+        Ok(())
     }
 
-    fn take_text(&mut self, line: &str) -> Result<bool, Stop> {
+    fn take_text(&mut self, line: &str) -> Result<Option<Row<'a>>, Stop> {
         if line == "=>" {
             self.part = Part::Answer;
-            return Ok(false);
+            return Ok(None);
         }
         if line == ">>" {
-            self.answer.extend_from_slice(self.text.as_slice())?;
+            self.answer = Vec::from_slice(self.alloc, self.text.as_slice())?;
             return self.end_row();
         }
         if let Some(answer) = line.strip_prefix("=> ") {
@@ -143,24 +146,27 @@ impl<'a> Sheet<'a> {
             return self.end_row();
         }
         put_line(&mut self.text, line)?;
-        Ok(false)
+        Ok(None)
     }
 
-    fn take_answer(&mut self, line: &str) -> Result<bool, Stop> {
+    fn take_answer(&mut self, line: &str) -> Result<Option<Row<'a>>, Stop> {
         if line == ">>" {
             return self.end_row();
         }
         put_line(&mut self.answer, line)?;
-        Ok(false)
+        Ok(None)
     }
 
-    // A row of several lines ends.
-    fn end_row(&mut self) -> Result<bool, Stop> {
+    fn end_row(&mut self) -> Result<Option<Row<'a>>, Stop> {
         self.part = Part::Rows;
-        if self.question.is_some() {
-            Ok(true)
-        } else {
-            Err(Stop::NoQuestion)
-        }
+        let text = mem::replace(&mut self.text, Vec::new(self.alloc));
+        let answer = mem::replace(&mut self.answer, Vec::new(self.alloc));
+        let question = self.question.ok_or(Stop::NoQuestion)?;
+        Ok(Some(Row {
+            line: self.line,
+            question,
+            text,
+            answer,
+        }))
     }
 }

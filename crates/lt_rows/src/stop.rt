@@ -1,101 +1,79 @@
 //! Why a row has no answer.
 
-use crate::words::Words;
+use lt_cover::CoverStop;
+use lt_expr::ParseStop;
+use lt_input_specs::NoSpec;
+use lt_input_suites::NoSuite;
+use lt_lex::LexStop;
+use lt_spec_reader::NoSpecification;
 use lt_type::TypeStop;
 use std::alloc::{AllocError, AllocFailed};
+use thiserror::Error;
 
 /// What a row file has wrong, or where the way from a text to its answer ends.
-#[derive(Clone, Copy)]
+#[derive(Clone, Copy, Debug, Error)]
 pub enum Stop {
+    #[error("no such question")]
     NoSuchQuestion,
+    #[error("a row without a question")]
     NoQuestion,
+    #[error("a row without an answer")]
     NoAnswer,
+    #[error("a row without an end")]
     NoEnd,
+    #[error("no such escape")]
     NoSuchEscape,
+    #[error("no such name in scope")]
     NoSuchName,
+    #[error("no line of three hyphens between two texts")]
     OneText,
+    #[error("no such fault")]
     NoSuchFault,
+    #[error("no such type")]
     NoSuchType,
+    #[error("no such operator")]
     NoSuchOperator,
     /// No number of the type, or no such form.
+    #[error("no number")]
     NoNumber,
+    #[error("the text is too long")]
     TooLong,
+    #[error("Lex")]
     Lex,
+    #[error("Unsupported")]
     Unsupported,
+    #[error("TooNested")]
     TooNested,
+    #[error("Syntax")]
     Syntax,
     /// Neither at a token nor at the text's end.
+    #[error("Syntax at byte {0}")]
     SyntaxElsewhere(u32),
+    #[error("no node of this number")]
     NoSuchNode,
+    #[error("rule {0}")]
     Broken(u8),
+    #[error("Row {0}")]
     CoverageRow(u32),
+    #[error("no entry")]
     NoEntry,
+    #[error("entry line {0}")]
     EntryLine(u32),
+    #[error("suite line {0}")]
     SuiteLine(u32),
     /// Words that are of no command form.
+    #[error("Usage")]
     Usage,
-    /// An id of a label passes the greatest.
+    #[error("an id of a label passes the greatest")]
     LabelIds,
+    #[error("the text isn't tokens")]
     NoTokens,
+    #[error("the canonical text isn't printed as it stands")]
     NotCanonical,
+    #[error("a mark is left in the erasure")]
     MarkLeft,
+    #[error("NoMemory")]
     NoMemory,
-}
-
-impl Stop {
-    // The words before its number, if it has one.
-    fn text(self) -> &'static str {
-        match self {
-            Stop::NoSuchQuestion => "no such question",
-            Stop::NoQuestion => "a row without a question",
-            Stop::NoAnswer => "a row without an answer",
-            Stop::NoEnd => "a row without an end",
-            Stop::NoSuchEscape => "no such escape",
-            Stop::NoSuchName => "no such name in scope",
-            Stop::OneText => "no line of three hyphens between two texts",
-            Stop::NoSuchFault => "no such fault",
-            Stop::NoSuchType => "no such type",
-            Stop::NoSuchOperator => "no such operator",
-            Stop::NoNumber => "no number",
-            Stop::TooLong => "the text is too long",
-            Stop::Lex => "Lex",
-            Stop::Unsupported => "Unsupported",
-            Stop::TooNested => "TooNested",
-            Stop::Syntax => "Syntax",
-            Stop::SyntaxElsewhere(_) => "Syntax at byte",
-            Stop::NoSuchNode => "no node of this number",
-            Stop::Broken(_) => "rule",
-            Stop::CoverageRow(_) => "Row",
-            Stop::NoEntry => "no entry",
-            Stop::EntryLine(_) => "entry line",
-            Stop::SuiteLine(_) => "suite line",
-            Stop::Usage => "Usage",
-            Stop::LabelIds => "an id of a label passes the greatest",
-            Stop::NoTokens => "the text isn't tokens",
-            Stop::NotCanonical => "the canonical text isn't printed as it stands",
-            Stop::MarkLeft => "a mark is left in the erasure",
-            Stop::NoMemory => "NoMemory",
-        }
-    }
-
-    fn number(self) -> Option<u32> {
-        match self {
-            Stop::Broken(rule) => Some(u32::from(rule)),
-            Stop::SyntaxElsewhere(number)
-            | Stop::CoverageRow(number)
-            | Stop::EntryLine(number)
-            | Stop::SuiteLine(number) => Some(number),
-            _ => None,
-        }
-    }
-
-    /// The stop in words.
-    pub fn tell(self, words: &mut Words) {
-        words.push_text(self.text());
-        if let Some(number) = self.number() {
-            words.push_number(i128::from(number));
-        }
-    }
 }
 
 impl From<AllocError> for Stop {
@@ -110,11 +88,58 @@ impl<T: Drop> From<AllocFailed<T>> for Stop {
     }
 }
 
+impl From<LexStop> for Stop {
+    fn from(stop: LexStop) -> Stop {
+        match stop {
+            LexStop::Lex(_) => Stop::Lex,
+            LexStop::Unsupported(_, _) => Stop::Unsupported,
+            LexStop::TooNested(_) => Stop::TooNested,
+            LexStop::NoMemory => Stop::NoMemory,
+        }
+    }
+}
+
 impl From<TypeStop> for Stop {
     fn from(stop: TypeStop) -> Stop {
         match stop {
             TypeStop::Broken(rule, _) => Stop::Broken(rule.number()),
             TypeStop::NoMemory => Stop::NoMemory,
+        }
+    }
+}
+
+impl From<CoverStop> for Stop {
+    fn from(stop: CoverStop) -> Stop {
+        match stop {
+            CoverStop::Row(number) => Stop::CoverageRow(number),
+            CoverStop::NoMemory => Stop::NoMemory,
+        }
+    }
+}
+
+impl From<NoSpec> for Stop {
+    fn from(stop: NoSpec) -> Stop {
+        match stop {
+            NoSpec::NoEntry => Stop::NoEntry,
+            NoSpec::NoMemory => Stop::NoMemory,
+        }
+    }
+}
+
+impl From<NoSpecification> for Stop {
+    fn from(stop: NoSpecification) -> Stop {
+        match stop {
+            NoSpecification::Line(number) => Stop::EntryLine(number),
+            NoSpecification::NoMemory => Stop::NoMemory,
+        }
+    }
+}
+
+impl From<NoSuite> for Stop {
+    fn from(stop: NoSuite) -> Stop {
+        match stop {
+            NoSuite::Line(number) => Stop::SuiteLine(number),
+            NoSuite::NoMemory => Stop::NoMemory,
         }
     }
 }

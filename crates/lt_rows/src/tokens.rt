@@ -4,7 +4,7 @@ use crate::stop::Stop;
 use crate::words::Words;
 use lt_lex::{LexStop, Tokens, lex, nest};
 use lt_token::Kind;
-use std::alloc::Global;
+use std::alloc::{AllocError, Global};
 
 // More than any row needs.
 const MOST_BYTES: usize = 10_000_000;
@@ -14,13 +14,7 @@ pub fn lexed<'a>(alloc: Global, text: &'a [u8]) -> Result<Tokens<'a>, Stop> {
     if text.len() >= MOST_BYTES {
         return Err(Stop::TooLong);
     }
-    match lex(alloc, text) {
-        Ok(tokens) => Ok(tokens),
-        Err(LexStop::Lex(_)) => Err(Stop::Lex),
-        Err(LexStop::Unsupported(_, _)) => Err(Stop::Unsupported),
-        Err(LexStop::TooNested(_)) => Err(Stop::TooNested),
-        Err(LexStop::NoMemory) => Err(Stop::NoMemory),
-    }
+    Ok(lex(alloc, text)?)
 }
 
 // A letter for a token's kind.
@@ -35,71 +29,67 @@ fn letter(kind: Kind) -> &'static str {
     }
 }
 
-fn put_stop(words: &mut Words, stop: &LexStop) -> Result<(), Stop> {
-    let at = match stop {
-        LexStop::Lex(at) => {
-            words.push_text("Lex");
-            *at
-        }
-        LexStop::Unsupported(word, at) => {
-            words.push_text("Unsupported");
-            words.push(word.as_slice());
-            *at
-        }
-        LexStop::TooNested(at) => {
-            words.push_text("TooNested");
-            *at
-        }
-        LexStop::NoMemory => return Err(Stop::NoMemory),
+fn put_stop(words: &mut Words, stop: &LexStop) -> Result<(), AllocError> {
+    let (name, at) = match stop {
+        LexStop::Lex(at) => ("Lex", *at),
+        LexStop::Unsupported(_, at) => ("Unsupported", *at),
+        LexStop::TooNested(at) => ("TooNested", *at),
+        LexStop::NoMemory => return Err(AllocError),
     };
-    words.push_number(i128::from(at));
-    Ok(())
+    words.push_text(name)?;
+    if let LexStop::Unsupported(word, _) = stop {
+        words.push(&[word.as_slice()])?;
+    }
+    words.push_number(i128::from(at))
 }
 
-fn put_tokens(words: &mut Words, tokens: &Tokens) {
-    for token in &tokens.list {
-        words.push_text(letter(token.kind));
-        words.append(token.word());
-    }
+fn put_token<'a>(words: &mut Words, kind: &'a [u8], word: &'a [u8]) -> Result<(), AllocError> {
+    words.push(&[kind, word])
 }
 
 /// Each token's kind and word; or why there are none, and where.
-pub fn tokens(alloc: Global, words: &mut Words, text: &[u8]) -> Result<(), Stop> {
+pub fn tokens(alloc: Global, text: &[u8]) -> Result<Vec<u8>, Stop> {
     if text.len() >= MOST_BYTES {
         return Err(Stop::TooLong);
     }
+    let mut words = Words::new(alloc);
     match lex(alloc, text) {
         Ok(tokens) => {
-            put_tokens(words, &tokens);
-            Ok(())
+            for token in &tokens.list {
+                put_token(&mut words, letter(token.kind).as_bytes(), token.word())?;
+            }
         }
-        Err(stop) => put_stop(words, &stop),
+        Err(stop) => put_stop(&mut words, &stop)?,
     }
+    Ok(words.into_bytes())
 }
 
 /// How many tokens there are.
-pub fn count(alloc: Global, words: &mut Words, text: &[u8]) -> Result<(), Stop> {
+pub fn count(alloc: Global, text: &[u8]) -> Result<Vec<u8>, Stop> {
     let tokens = lexed(alloc, text)?;
-    words.push_number(tokens.list.len() as i128);
-    Ok(())
+    let mut words = Words::new(alloc);
+    words.push_number(tokens.list.len() as i128)?;
+    Ok(words.into_bytes())
 }
 
 /// The nest of each token.
-pub fn nests(alloc: Global, words: &mut Words, text: &[u8]) -> Result<(), Stop> {
+pub fn nests(alloc: Global, text: &[u8]) -> Result<Vec<u8>, Stop> {
     let tokens = lexed(alloc, text)?;
+    let mut words = Words::new(alloc);
     for k in 0..tokens.list.len() {
-        words.push_number(i128::from(nest(&tokens, k)));
+        words.push_number(i128::from(nest(&tokens, k)))?;
     }
-    Ok(())
+    Ok(words.into_bytes())
 }
 
 /// The first byte and the spelling of each token, and the length of the text.
-pub fn places(alloc: Global, words: &mut Words, text: &[u8]) -> Result<(), Stop> {
+pub fn places(alloc: Global, text: &[u8]) -> Result<Vec<u8>, Stop> {
     let tokens = lexed(alloc, text)?;
+    let mut words = Words::new(alloc);
     for token in &tokens.list {
-        words.push_number(i128::from(token.at));
-        words.push(token.text);
+        words.push_number(i128::from(token.at))?;
+        words.push(&[token.text])?;
     }
-    words.push_number(i128::from(tokens.length));
-    Ok(())
+    words.push_number(i128::from(tokens.length))?;
+    Ok(words.into_bytes())
 }

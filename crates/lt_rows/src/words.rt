@@ -2,12 +2,11 @@
 
 use std::alloc::{AllocError, Global};
 
-/// Words with a space between each two. Where memory lacks for one, that is told at the end, when the bytes are taken.
+/// Words with a space between each two.
 #[derive(Drop)]
 pub struct Words {
     alloc: Global,
     bytes: Vec<u8>,
-    lacks_memory: bool,
 }
 
 impl Words {
@@ -15,63 +14,41 @@ impl Words {
         Words {
             alloc,
             bytes: Vec::new(alloc),
-            lacks_memory: false,
         }
     }
 
-    /// Bytes right behind what is there.
-    pub fn append(&mut self, bytes: &[u8]) {
-        if self.bytes.extend_from_slice(bytes).is_err() {
-            self.lacks_memory = true;
-        }
-    }
-
-    /// One more word.
-    pub fn push(&mut self, word: &[u8]) {
+    /// One more word, which is made of these parts.
+    pub fn push(&mut self, parts: &[&[u8]]) -> Result<(), AllocError> {
         if !self.bytes.is_empty() {
-            self.append(b" ");
+            self.bytes.extend_from_slice(b" ")?;
         }
-        self.append(word);
-    }
-
-    pub fn push_text(&mut self, word: &str) {
-        self.push(word.as_bytes());
-    }
-
-    // A word that was written, unless memory lacked for it.
-    fn push_written(&mut self, written: Result<String, AllocError>) {
-        match written {
-            Ok(word) => self.push(word.as_bytes()),
-            Err(_) => self.lacks_memory = true,
+        for part in parts {
+            self.bytes.extend_from_slice(part)?;
         }
+        Ok(())
     }
 
-    pub fn push_number(&mut self, number: i128) {
-        let written = format!(in self.alloc; "{number}");
-        self.push_written(written);
+    pub fn push_text(&mut self, word: &str) -> Result<(), AllocError> {
+        self.push(&[word.as_bytes()])
     }
 
-    pub fn push_count(&mut self, number: u128) {
-        let written = format!(in self.alloc; "{number}");
-        self.push_written(written);
+    pub fn push_number(&mut self, number: i128) -> Result<(), AllocError> {
+        self.push(&[format!(in self.alloc; "{number}")?.as_bytes()])
     }
 
-    pub fn push_spots(&mut self, spots: &[u32]) {
+    pub fn push_spots(&mut self, spots: &[u32]) -> Result<(), AllocError> {
         for spot in spots {
-            self.push_number(i128::from(*spot));
+            self.push_number(i128::from(*spot))?;
         }
+        Ok(())
     }
 
     /// A mark behind the last word, which ends a part of the answer.
-    pub fn end_part(&mut self) {
-        self.append(b";");
+    pub fn end_part(&mut self) -> Result<(), AllocError> {
+        self.bytes.extend_from_slice(b";")
     }
 
-    pub fn into_bytes(self) -> Result<Vec<u8>, AllocError> {
-        if self.lacks_memory {
-            Err(AllocError)
-        } else {
-            Ok(self.bytes)
-        }
+    pub fn into_bytes(self) -> Vec<u8> {
+        self.bytes
     }
 }
